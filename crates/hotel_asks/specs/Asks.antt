@@ -3,7 +3,7 @@ use Rattle.std.specs.Prelude.{ℕ, Bool, true, false, List, [], ◌∷◌, Resul
 use Rattle.keycard_rules.specs.Results.{◌>>=◌}
 use Rattle.keycard_rules.specs.{declared.card.Link.Link, declared.note.Act.Act}
 use Rattle.keycard_rules.specs.declared.note.Act.TheVariants as act
-use Rattle.hotel_nights.specs.Moments.{note_from}
+use Rattle.hotel_nights.specs.Moments.{Moment, note_from}
 use Rattle.hotel_model.specs.declared.command.Command.{Command}
 use Rattle.hotel_model.specs.declared.command.Command.TheVariants as command
 use Rattle.hotel_asks.specs.{declared.asks.Ask.Ask, declared.values.Lock.Lock}
@@ -86,7 +86,7 @@ of_four Reserve kind arrive nights guest = do
 of_four _ kind arrive nights guest = Err Number
 
 -- The report of a lock's note: the note's count, what happened, and the day and second of it.
-abbrev pub report_of : Lock → ℕ → Act → ℕ × ℕ → Ask
+abbrev pub report_of : Lock → ℕ → Act → Moment → Ask
 report_of lock count what at = ask.Command (command.Reported (note_from lock.room lock.fit count what at))
 
 -- A verb with five values.

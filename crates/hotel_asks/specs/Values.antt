@@ -5,7 +5,7 @@ use Rattle.std.specs.List.{position_or_len}
 use Rattle.std.specs.Option.{ok_or}
 use Rattle.std.specs.Str.{is_utf8}
 use Rattle.keycard_rules.specs.Numerals.{number_up_to, read_code}
-use Rattle.hotel_nights.specs.{Days.read_day, Guests.is_guest, Kinds.read_kind, Moments.read_moment}
+use Rattle.hotel_nights.specs.{Days.read_day, Guests.is_guest, Kinds.read_kind, Moments.Moment, Moments.read_moment}
 use Rattle.hotel_asks.specs.{declared.values.ValueFault.ValueFault, declared.values.ValueFault.TheVariants.Value}
 use Rattle.hotel_asks.specs.{declared.values.AskFault.AskFault}
 use Rattle.hotel_asks.specs.{declared.values.AskFault.TheVariants.Values, declared.values.AskFault.TheVariants.Memory}
@@ -13,7 +13,7 @@ use Rattle.hotel_asks.specs.{declared.values.ValueName.ValueName, declared.value
 use Rattle.keycard_rules.specs.Results.{◌>>=◌}
 use Rattle.keycard_rules.specs.declared.numbers.TheConstants.{LAST_FIT, LAST_NUMBER, LAST_ROOM}
 use Rattle.hotel_asks.specs.declared.values.ValueName.TheVariants.{Kind, Nights, Guest, Room, Lock as LockName, Party}
-use Rattle.hotel_asks.specs.declared.values.ValueName.TheVariants.{Card, Count, Moment}
+use Rattle.hotel_asks.specs.declared.values.ValueName.TheVariants.{Card, Count, Moment as MomentName}
 
 -- A day, as the value of that name.
 abbrev pub day_in : ValueName → List ℕ → Result ℕ ValueFault
@@ -60,8 +60,8 @@ card_in text = ok_or (number_up_to LAST_NUMBER text) (Value Card)
 abbrev pub count_in : List ℕ → Result ℕ ValueFault
 count_in text = ok_or (number_up_to LAST_NUMBER text) (Value Count)
 
-abbrev pub moment_in : List ℕ → Result (ℕ × ℕ) ValueFault
-moment_in text = ok_or (read_moment text) (Value Moment)
+abbrev pub moment_in : List ℕ → Result Moment ValueFault
+moment_in text = ok_or (read_moment text) (Value MomentName)
 
 -- A value is wanted, and it is one whose reading copies a text.
 abbrev pub IsCopy : {A : Type 0} → (A → Bool) → Result A ValueFault → Type 0

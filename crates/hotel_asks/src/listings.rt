@@ -1,7 +1,8 @@
 //! The list that is asked for, written.
 
-ghost use Rattle.std.specs.Prelude.{◌≡◌, [], true, IsErrOf};
-ghost use Rattle.hotel_lists.specs.{Calls.NoneForgotten, Lines.LooksAt, Listings.ListEnds};
+ghost use Rattle.std.specs.Prelude.{[]};
+ghost use Rattle.hotel_lists.specs.Calls.{CountsWrites, OnErrOf};
+ghost use Rattle.hotel_lists.specs.{Lines.LooksAt, Listings.ListEnds};
 ghost use Rattle.hotel_asks.specs.Listings.{listing_on};
 
 use crate::lists::ListAsk;
@@ -24,8 +25,7 @@ pub fn write_list<W: Write, B: Walks>(
     ensures text { B.is_honest books.new → ListEnds [] (listing_on (B.rows books.old) list.now) (W.contents writer.old)
         (W.contents writer.new) result }
     ensures books { LooksAt B.Issued books.old books.new result }
-    ensures failed { IsErrOf result ListFault.Write → calls.new.write_failed ≡ true }
-    ensures calls { NoneForgotten calls.old calls.new }
+    ensures calls { CountsWrites calls.old calls.new (OnErrOf result ListFault.Write) }
 {
     match list {
         ListAsk::Arrivals(day) => write_arrivals(alloc, books, *day, writer, calls),

@@ -12,7 +12,7 @@ use Rattle.hotel_audit.specs.declared.audit_file.AuditFault.TheVariants as fault
 use Rattle.hotel_audit.specs.declared.imports.ImportFault.TheVariants.{File}
 use Rattle.keycard_rules.specs.declared.issued.LookFault.{LookFault}
 use Rattle.keycard_rules.specs.declared.issued.LookFault.TheVariants as look
-use Rattle.hotel_core.specs.Books.Happens.{Passes}
+use Rattle.hotel_core.specs.Books.Passes.{Passes}
 use Rattle.hotel_audit.specs.Import.{AreAnswered, EndsAfter, Imports, LeavesBehind, LineGoes, LineHappens}
 use Rattle.hotel_audit.specs.Import.{IsFrontOf, LinesLeadOn, NextFails, has_taken, replies_in, stopped}
 use Rattle.hotel_audit.proofs.LineAnswers.{lead-none, lead-same}

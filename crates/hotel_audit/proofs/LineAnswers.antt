@@ -1,9 +1,9 @@
 -- The lines of a file, one after the other.
 use Rattle.std.proofs.Common.{◌≡◌, ◌≢◌, ◌∙◌, List, [], ◌∷◌, ◌++◌, refl, ap, arith, length, Ok}
 use Rattle.std.specs.Prelude.{zip}
-use Rattle.hotel_core.proofs.{Names.Stream, Names.Note, Names.Rows, Names.Steps, OfCode.Happens.passes_push}
+use Rattle.hotel_core.proofs.{Names.Stream, Names.Note, Names.Rows, Names.Steps, OfCode.Passes.passes_push}
 use Rattle.hotel_core.proofs.{OfCode.Happens.zip-push}
-use Rattle.hotel_core.specs.Books.Happens.{Passes}
+use Rattle.hotel_core.specs.Books.Passes.{Passes}
 use Rattle.hotel_model.proofs.{Invariants.Assurance.assured, Lifted.Runs.runs_join}
 use Rattle.hotel_model.specs.declared.command.Command.TheVariants as command
 use Rattle.hotel_model.specs.{declared.reply.Reply.Reply, Leads.LeadsOn}

@@ -11,7 +11,8 @@ use Rattle.hotel_model.specs.declared.reply.Reply.TheVariants as reply
 use Rattle.hotel_model.specs.declared.reply.Refusal.TheVariants as refusal
 use Rattle.hotel_model.specs.Run.{Runs, is_failed}
 use Rattle.hotel_core.specs.Books.Failures.{refusal_of}
-use Rattle.hotel_core.specs.Books.Happens.{Happens, Passes, StepTold}
+use Rattle.hotel_core.specs.Books.Happens.{Happens, StepTold}
+use Rattle.hotel_core.specs.Books.Passes.{Passes}
 use Rattle.hotel_audit.specs.{declared.answer.LineAnswer.LineAnswer, declared.audit_file.AuditFault.AuditFault}
 use Rattle.hotel_audit.specs.{declared.imports.ImportFault.ImportFault}
 use Rattle.hotel_audit.specs.declared.answer.LineAnswer.TheVariants.{Taken, Seen, Unread, Refused}

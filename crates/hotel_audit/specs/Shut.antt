@@ -3,7 +3,7 @@ use Rattle.std.specs.Prelude.{List, ⊤}
 use Rattle.std.specs.List.{AllByRecursion}
 use Rattle.keycard_rules.specs.declared.issued.Issued.{Ghosts as IssuedOf}
 use Rattle.hotel_model.specs.Rows.{Rows}
-use Rattle.hotel_core.specs.{Books.Happens.Passes, Books.Shut.BeganShut}
+use Rattle.hotel_core.specs.{Books.Passes.Passes, Books.Shut.BeganShut}
 use Rattle.hotel_audit.specs.{declared.answer.LineAnswer.LineAnswer, declared.line.Line.Line, Import.LineHappens}
 use Rattle.hotel_audit.specs.declared.line.Line.TheVariants.{Note, Unread}
 

@@ -1,8 +1,6 @@
 //! The answers to an audit file, written to any writer.
 
-ghost use Rattle.std.specs.Prelude.{◌≡◌, true, OnOk, OnErr};
-ghost use Rattle.std.specs.Io.KnownBytes.{Appends};
-ghost use Rattle.hotel_lists.specs.{Bytes.AppendsFront, Calls.NoneForgotten};
+ghost use Rattle.hotel_lists.specs.Bytes.{Writes};
 ghost use Rattle.hotel_audit.specs.Answers.{answers_text};
 
 use crate::answer::LineAnswer;
@@ -17,11 +15,8 @@ pub fn write_answers<W: Write>(
     answers: &[LineAnswer],
     calls: &mut IoCalls,
 ) -> Result<(), WriteFailed>
-    ensures ok { OnOk result (Appends (W.contents writer.old) (W.contents writer.new) (answers_text 1 answers.now)) }
-    ensures err { OnErr result (AppendsFront (W.contents writer.old) (W.contents writer.new)
-        (answers_text 1 answers.now)) }
-    ensures failed { OnErr result (calls.new.write_failed ≡ true) }
-    ensures calls { NoneForgotten calls.old calls.new }
+    ensures writes { Writes (W.contents writer.old) (W.contents writer.new) (answers_text 1 answers.now)
+        calls.old calls.new result }
 {
     for (index, answer) in answers.iter().enumerate() {
         let text = answer_text(index + 1, answer);

@@ -1,7 +1,8 @@
 -- The names that the proofs of this crate cite most, and those of the model among them, passed on from one place.
 -- Declares nothing.
 pub use Rattle.hotel_core.specs.Books.Failures.{AreCounted, failure_in, failures_in, times, refusal_of}
-pub use Rattle.hotel_core.specs.Books.Walks.{Hands, StopsAt, Takes, TakesFront, failure_of}
+pub use Rattle.hotel_core.specs.Books.Passes.{Passes}
+pub use Rattle.hotel_core.specs.Books.Walks.{Hands, StopsAt, TakesFront, failure_of}
 pub use Rattle.hotel_core.specs.KindRooms.{is_there, rooms_in}
 pub use Rattle.hotel_core.specs.Memory.{HaveCardNumbers, HaveCounts, HaveRoomNumbers, LaterPlacesFree, PlacesAgree}
 pub use Rattle.hotel_core.specs.Memory.{RoomsKnown, CountsNightsOf, TablesAgree}

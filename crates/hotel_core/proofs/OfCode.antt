@@ -6,6 +6,7 @@ pub mod Parts
 pub mod DrawParts
 pub mod FailuresCounted
 pub mod Happened
+pub mod Passes
 pub mod Happens
 pub mod ShutBooks
 pub mod RepliesAnswered

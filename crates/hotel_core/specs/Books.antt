@@ -1,6 +1,7 @@
 -- What books promise.
 pub mod Reads
 pub mod Failures
+pub mod Passes
 pub mod Walks
 pub mod Happens
 pub mod Shut

@@ -6,7 +6,8 @@ use Rattle.keycard_rules.specs.{Note.Note, Numbers.IsNumberUpTo}
 use Rattle.keycard_rules.specs.declared.numbers.TheConstants.{LAST_NUMBER, LAST_ROOM}
 use Rattle.hotel_nights.specs.declared.stay.Stay.{Stay}
 use Rattle.hotel_model.specs.{declared.rows.RoomRow.RoomRow, declared.rows.CodeRow.CodeRow, Words.pair_cmp}
-use Rattle.hotel_model.specs.{Rows.Rows, Rows.column_at, Rows.rooms_of_kind, Refinement.Lookups.first_code_at}
+use Rattle.hotel_model.specs.Rows.{Rows, PlaceKey, InsideKey, NoteKey, column_at, rooms_of_kind}
+use Rattle.hotel_model.specs.{Refinement.Lookups.first_code_at}
 use Rattle.hotel_core.specs.{NightIndex.CountsNights, KindRooms.rooms_in}
 
 -- the rows, and how many calls found no memory
@@ -15,7 +16,7 @@ pub record Listed : Type 0 where
   pub failures : ℕ
 
 -- The table of places answers as a search through the codes does.
-abbrev pub PlacesAgree : List (ℕ × CodeRow) → List ((ℕ × ℕ) × ℕ) → Type 0
+abbrev pub PlacesAgree : List (ℕ × CodeRow) → List (PlaceKey × ℕ) → Type 0
 PlacesAgree codes places =
     (room place : ℕ) → lookup (is_at (pair_cmp (room, place))) places ≡ first_code_at codes room place
 
@@ -44,12 +45,12 @@ pub record TablesAgree (kinds : List (List ℕ × ℕ)) (rooms : List (ℕ × Ro
 abbrev pub CountsNightsOf : List ((List ℕ × ℕ) × List ℕ) → List (ℕ × Stay) → Type 0
 CountsNightsOf blocks stays = CountsNights blocks (values_of stays)
 
--- Each pair's second number is a card's.
-abbrev pub HaveCardNumbers : List (ℕ × ℕ) → Type 0
+-- Each key's second number is a card's.
+abbrev pub HaveCardNumbers : List InsideKey → Type 0
 HaveCardNumbers [] = Unit {0}
 HaveCardNumbers (e ∷ es) = IsNumberUpTo LAST_NUMBER e.1 × HaveCardNumbers es
 
 -- Each note is kept under a number of 32 bits.
-abbrev pub HaveCounts : List ((ℕ × ℕ) × Note) → Type 0
+abbrev pub HaveCounts : List (NoteKey × Note) → Type 0
 HaveCounts [] = Unit {0}
 HaveCounts (e ∷ es) = (e.0.1 < 2 ^ 32) × HaveCounts es

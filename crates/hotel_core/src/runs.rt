@@ -1,7 +1,8 @@
 //! Commands one after the other, over any books.
 ghost use Rattle.std.specs.Prelude.{◌≡◌, true, IfOk, IfErr, length, zip};
 ghost use Rattle.keycard_rules.specs.Rise.{NoFewer};
-ghost use Rattle.hotel_core.specs.Books.Happens.{CommandHappens, Passes};
+ghost use Rattle.hotel_core.specs.Books.Happens.{CommandHappens};
+ghost use Rattle.hotel_core.specs.Books.Passes.{Passes};
 ghost use Rattle.hotel_core.specs.{Books.Failures.AreCounted, Books.Failures.failures_in};
 ghost use Rattle.hotel_model.specs.{Leads.Leads, Leads.LeadsOn, Run.Runs, Run.any_answered, Run.last_answered};
 

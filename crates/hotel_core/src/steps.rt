@@ -1,11 +1,11 @@
 //! One command, over any books.
 ghost use Rattle.std.specs.Prelude.{◌≡◌, true, false};
 ghost use Rattle.rand_core.specs.Stream.{Stream};
-ghost use Rattle.keycard_rules.specs.{Draw.words, Rise.NoFewer};
+ghost use Rattle.keycard_rules.specs.{Rise.NoFewer};
 ghost use Rattle.hotel_core.specs.{Books.Failures.AreCounted, Books.Failures.failure_in};
 ghost use Rattle.hotel_model.specs.{Leads.Leads, Leads.LeadsOn, NoteReplies.IsNoteReply, Run.Steps, Run.is_failed};
-ghost use Rattle.hotel_model.specs.{Ranges.IsCommand, Ranges.IsReply, Refinement.OnRows.outcome_on};
-ghost use Rattle.hotel_core.specs.{Refinement.Finds.reply_of, Refinement.StepOnRows.StepsAs};
+ghost use Rattle.hotel_model.specs.{Ranges.IsCommand, Ranges.IsReply};
+ghost use Rattle.hotel_core.specs.{Refinement.Finds.reply_of, Refinement.StepOnRows.CarriesOut};
 ghost use Rattle.hotel_model.specs.Refinement.Fits.{takes_none};
 ghost use Rattle.hotel_model.specs.declared.command.Command.TheVariants as command;
 
@@ -37,8 +37,8 @@ fn carry_out<B: Books, R: Rng>(
     command: &Command,
 ) -> Result<Reply, Refusal>
     requires { IsCommand command.now }
-    ensures steps { StepsAs B.Issued B.Books.own (λ rows. outcome_on rows (words 64 (R.stream source.old)) command.now)
-        books.old books.new (R.stream source.old) (R.stream source.new) (reply_of result) }
+    ensures steps { CarriesOut B.Issued B.Books.own command.now books.old books.new
+        (R.stream source.old) (R.stream source.new) (reply_of result) }
     ensures sure { B.never_fails → takes_none command.now ≡ true → is_failed (reply_of result) ≡ false }
 {
     match command {

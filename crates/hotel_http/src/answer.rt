@@ -1,8 +1,7 @@
 //! The bytes of answers, from buffers of fixed size.
 
-ghost use Rattle.std.specs.Prelude.{◌≡◌, ◌≤◌, true, ◌++◌, None, length, OnOk, OnErr};
-ghost use Rattle.std.specs.Io.KnownBytes.{Appends};
-ghost use Rattle.hotel_lists.specs.{Bytes.AppendsFront, Calls.NoneForgotten};
+ghost use Rattle.std.specs.Prelude.{◌≡◌, ◌≤◌, ◌++◌, None, length};
+ghost use Rattle.hotel_lists.specs.Bytes.{Writes};
 ghost use Rattle.hotel_http.specs.declared.answer.Media.TheVariants.{Plain};
 ghost use Rattle.hotel_http.specs.Answer as spec;
 ghost use Rattle.hotel_http.specs.Answer.{media_type, allow_field, status_line, head_text, answer_text};
@@ -85,12 +84,8 @@ pub fn write_short<W: Write>(
     calls: &mut IoCalls,
 ) -> Result<(), WriteFailed>
     requires { length body.now ≤ 64 }
-    ensures ok { OnOk result (Appends (W.contents writer.old) (W.contents writer.new)
-        (answer_text status Plain allow body.now)) }
-    ensures err { OnErr result (AppendsFront (W.contents writer.old) (W.contents writer.new)
-        (answer_text status Plain allow body.now)) }
-    ensures failed { OnErr result (calls.new.write_failed ≡ true) }
-    ensures calls { NoneForgotten calls.old calls.new }
+    ensures writes { Writes (W.contents writer.old) (W.contents writer.new) (answer_text status Plain allow body.now)
+        calls.old calls.new result }
 {
     let mut text = head_text(status, Media::Plain, allow, body.len() as u128);
     text.push(body);
@@ -143,10 +138,8 @@ pub fn write_rejection<W: Write>(
     why: Rejection,
     calls: &mut IoCalls,
 ) -> Result<(), WriteFailed>
-    ensures ok { OnOk result (Appends (W.contents writer.old) (W.contents writer.new) (rejection_answer why)) }
-    ensures err { OnErr result (AppendsFront (W.contents writer.old) (W.contents writer.new) (rejection_answer why)) }
-    ensures failed { OnErr result (calls.new.write_failed ≡ true) }
-    ensures calls { NoneForgotten calls.old calls.new }
+    ensures writes { Writes (W.contents writer.old) (W.contents writer.new) (rejection_answer why)
+        calls.old calls.new result }
 {
     write_short(
         writer,
@@ -174,10 +167,8 @@ pub fn write_reply<W: Write>(
     reply: &Reply,
     calls: &mut IoCalls,
 ) -> Result<(), WriteFailed>
-    ensures ok { OnOk result (Appends (W.contents writer.old) (W.contents writer.new) (reply_answer reply.now)) }
-    ensures err { OnErr result (AppendsFront (W.contents writer.old) (W.contents writer.new) (reply_answer reply.now)) }
-    ensures failed { OnErr result (calls.new.write_failed ≡ true) }
-    ensures calls { NoneForgotten calls.old calls.new }
+    ensures writes { Writes (W.contents writer.old) (W.contents writer.new) (reply_answer reply.now)
+        calls.old calls.new result }
 {
     let text = reply_text(reply);
     write_short(writer, reply_status(reply), None, text.as_bytes(), calls)
@@ -190,10 +181,8 @@ pub fn write_csv<W: Write>(
     list: &[u8],
     calls: &mut IoCalls,
 ) -> Result<(), WriteFailed>
-    ensures ok { OnOk result (Appends (W.contents writer.old) (W.contents writer.new) (list_answer list.now)) }
-    ensures err { OnErr result (AppendsFront (W.contents writer.old) (W.contents writer.new) (list_answer list.now)) }
-    ensures failed { OnErr result (calls.new.write_failed ≡ true) }
-    ensures calls { NoneForgotten calls.old calls.new }
+    ensures writes { Writes (W.contents writer.old) (W.contents writer.new) (list_answer list.now)
+        calls.old calls.new result }
 {
     let head = head_text(Status::Success, Media::Csv, None, list.len() as u128);
     write_parts(writer, &[head.as_bytes(), list], calls)

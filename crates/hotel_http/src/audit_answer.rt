@@ -1,8 +1,7 @@
 //! The answer to an audit file, from buffers of fixed size.
 
-ghost use Rattle.std.specs.Prelude.{◌≡◌, ◌≤◌, true, length, OnOk, OnErr};
-ghost use Rattle.std.specs.Io.KnownBytes.{Appends};
-ghost use Rattle.hotel_lists.specs.{Bytes.AppendsFront, Calls.NoneForgotten};
+ghost use Rattle.std.specs.Prelude.{◌≡◌, ◌≤◌, length};
+ghost use Rattle.hotel_lists.specs.Bytes.{Writes};
 ghost use Rattle.hotel_audit.specs.{Answers.answers_text};
 ghost use Rattle.hotel_http.specs.AuditAnswer.{lines_answer, fault_status, fault_body, fault_answer};
 
@@ -32,11 +31,8 @@ pub fn write_audit<W: Write>(
     answers: &[LineAnswer],
     calls: &mut IoCalls,
 ) -> Result<(), WriteFailed>
-    ensures ok { OnOk result (Appends (W.contents writer.old) (W.contents writer.new) (lines_answer answers.now)) }
-    ensures err { OnErr result (AppendsFront (W.contents writer.old) (W.contents writer.new)
-        (lines_answer answers.now)) }
-    ensures failed { OnErr result (calls.new.write_failed ≡ true) }
-    ensures calls { NoneForgotten calls.old calls.new }
+    ensures writes { Writes (W.contents writer.old) (W.contents writer.new) (lines_answer answers.now)
+        calls.old calls.new result }
 {
     let head = head_text(Status::Success, Media::Plain, None, answers_size(answers));
     write_bytes(writer, head.as_bytes(), calls)?;
@@ -82,10 +78,8 @@ pub fn write_fault<W: Write>(
     why: &ImportFault,
     calls: &mut IoCalls,
 ) -> Result<(), WriteFailed>
-    ensures ok { OnOk result (Appends (W.contents writer.old) (W.contents writer.new) (fault_answer why.now)) }
-    ensures err { OnErr result (AppendsFront (W.contents writer.old) (W.contents writer.new) (fault_answer why.now)) }
-    ensures failed { OnErr result (calls.new.write_failed ≡ true) }
-    ensures calls { NoneForgotten calls.old calls.new }
+    ensures writes { Writes (W.contents writer.old) (W.contents writer.new) (fault_answer why.now)
+        calls.old calls.new result }
 {
     let body = fault_body(why);
     write_short(writer, fault_status(why), None, body.as_bytes(), calls)

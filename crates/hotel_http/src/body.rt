@@ -1,9 +1,9 @@
 //! The body of a request, and the interim answer before it.
 
-ghost use Rattle.std.specs.Prelude.{◌≡◌, ◌++◌, true, IfOk, OnOk, OnErr, IfSome, IsErrOf};
-ghost use Rattle.std.specs.Io.KnownBytes.{Appends, Keeps};
-ghost use Rattle.hotel_lists.specs.{Bytes.AppendsFront, Calls.NoneForgotten, declared.bytes.ReadFault.TheVariants.Read};
-ghost use Rattle.hotel_http.specs.Body.{HoldsBody, ReadsBody, interim_text, interim_where};
+ghost use Rattle.std.specs.Prelude.{◌≡◌, ◌++◌, true, IfOk, OnOk, OnErr, IfSome};
+ghost use Rattle.hotel_lists.specs.Calls.{CountsReads, OnErrOf};
+ghost use Rattle.hotel_lists.specs.{Bytes.Writes, declared.bytes.ReadFault.TheVariants.Read};
+ghost use Rattle.hotel_http.specs.Body.{HoldsBody, ReadsBody, interim_where};
 
 use hotel_lists::{IoCalls, ReadFault, WriteFailed, read_more, write_bytes};
 use std::alloc::Global;
@@ -15,11 +15,9 @@ pub fn write_interim<W: Write>(
     awaited: bool,
     calls: &mut IoCalls,
 ) -> Result<(), WriteFailed>
-    ensures ok { OnOk result (Appends (W.contents writer.old) (W.contents writer.new) (interim_where awaited)) }
-    ensures err { OnErr result (AppendsFront (W.contents writer.old) (W.contents writer.new) interim_text) }
+    ensures writes { Writes (W.contents writer.old) (W.contents writer.new) (interim_where awaited)
+        calls.old calls.new result }
     ensures awaited { OnErr result (awaited ≡ true) }
-    ensures failed { OnErr result (calls.new.write_failed ≡ true) }
-    ensures calls { NoneForgotten calls.old calls.new }
 {
     if !awaited {
         return Ok(());
@@ -37,8 +35,7 @@ fn fill_body<R: Read>(
     ensures holds { OnOk result (IfSome (R.remaining reader.old)
         (λ left. HoldsBody (body.old.items ++ left) size body.new.items)) }
     ensures wanted { ReadsBody body.old.items size (R.remaining reader.old) (R.remaining reader.new) }
-    ensures failed { IsErrOf result Read → calls.new.read_failed ≡ true }
-    ensures calls { NoneForgotten calls.old calls.new }
+    ensures calls { CountsReads calls.old calls.new (OnErrOf result Read) }
 {
     while body.len() < size {
         if read_more(reader, body, calls)? == 0 {
@@ -60,8 +57,7 @@ pub fn read_body<R: Read>(
     ensures holds { IfOk result (λ body. IfSome (R.remaining reader.old)
         (λ left. HoldsBody (begun.now ++ left) size body.items)) }
     ensures wanted { ReadsBody begun.now size (R.remaining reader.old) (R.remaining reader.new) }
-    ensures failed { IsErrOf result Read → calls.new.read_failed ≡ true }
-    ensures calls { NoneForgotten calls.old calls.new }
+    ensures calls { CountsReads calls.old calls.new (OnErrOf result Read) }
 {
     let mut body = Vec::from_slice(alloc, begun)?;
     fill_body(reader, &mut body, size, calls)?;

@@ -1,10 +1,11 @@
 //! The head of a request.
 
-ghost use Rattle.std.specs.Prelude.{◌≡◌, ◌≢◌, ◌<◌, ◌≤◌, ℕ, List, [], ◌++◌, take, length, IfOk, OnOk, IfSome, IsErrOf};
+ghost use Rattle.std.specs.Prelude.{◌≡◌, ◌≢◌, ◌<◌, ◌≤◌, ℕ, List, [], ◌++◌, take, length, IfOk, OnOk, IfSome};
 ghost use Rattle.std.specs.Prelude.{true};
 ghost use Rattle.std.specs.Io.KnownBytes.{Consumes};
 ghost use Rattle.hotel_http.specs.Reads.{ReadsWhile};
-ghost use Rattle.hotel_lists.specs.{Calls.NoneForgotten, declared.bytes.ReadFault.TheVariants.Read};
+ghost use Rattle.hotel_lists.specs.Calls.{CountsReads, OnErrOf};
+ghost use Rattle.hotel_lists.specs.{declared.bytes.ReadFault.TheVariants.Read};
 ghost use Rattle.httparse.specs.{Grammar.HasNoRequest, declared.spans.HeaderSpan.HeaderSpan};
 ghost use Rattle.hotel_http.specs.Head.{IsParsed, IsJudged, IsUnended, LiesWithin, IsOpen, WantsHead};
 
@@ -115,8 +116,7 @@ pub fn read_head<R: Read>(
         (λ input. IsJudged input (take HEAD_BYTES bytes.new.items) headers.new judged)) }
     ensures within { IfOk result (LiesWithin (take HEAD_BYTES bytes.new.items) headers.new) }
     ensures done { IfOk result (λ judged. ¬ (IsOpen judged)) }
-    ensures failed { IsErrOf result Read → calls.new.read_failed ≡ true }
-    ensures calls { NoneForgotten calls.old calls.new }
+    ensures calls { CountsReads calls.old calls.new (OnErrOf result Read) }
 {
     'pieces: loop {
         let got = read_more(reader, bytes, calls)?;

@@ -1,10 +1,9 @@
 //! What a request asks for: its head, then its body, each checked in turn.
 
-ghost use Rattle.std.specs.Prelude.{◌≡◌, ◌≢◌, ◌++◌, ◌≤◌, true, List, ℕ, length, take, drop, IfOk, OnOk, OnErr, IfSome};
-ghost use Rattle.std.specs.Prelude.{IsErrOf, IsUtf8};
+ghost use Rattle.std.specs.Prelude.{◌≡◌, ◌≢◌, ◌++◌, ◌≤◌, List, ℕ, length, take, drop, IfOk, IfSome, IsUtf8};
 ghost use Rattle.std.specs.Io.KnownBytes.{Appends, Keeps};
 ghost use Rattle.httparse.specs.{Grammar.RequestHead, Spans.IsRequestWithin, Spans.IsRequestAt, Spans.span_bytes};
-ghost use Rattle.hotel_lists.specs.Calls.{NoneForgotten};
+ghost use Rattle.hotel_lists.specs.Calls.{CountsReads, CountsWrites, OnErrOf};
 ghost use Rattle.hotel_http.specs.Reads.{ReadsWhile};
 ghost use Rattle.hotel_http.specs.{Body.ReadsBody, Plan.plan_in, Request.request_fault_of, Request.IsMeant};
 ghost use Rattle.hotel_http.specs.{Request.EndsBody, Request.wanted_of, Request.EndsHead, Request.EndsRequest};
@@ -121,9 +120,8 @@ fn read_planned<R: Read, W: Write>(
     ensures ends { EndsBody plan path.now begun.now (R.remaining reader.old) (W.contents writer.old)
         (W.contents writer.new) result }
     ensures wanted { ReadsBody begun.now plan.size (R.remaining reader.old) (R.remaining reader.new) }
-    ensures read_failed { IsErrOf result Read → calls.new.read_failed ≡ true }
-    ensures write_failed { IsErrOf result Write → calls.new.write_failed ≡ true }
-    ensures calls { NoneForgotten calls.old calls.new }
+    ensures reads_counted { CountsReads calls.old calls.new (OnErrOf result Read) }
+    ensures writes_counted { CountsWrites calls.old calls.new (OnErrOf result Write) }
 {
     write_interim(writer, plan.awaited, calls)?;
     let body = read_body(alloc, reader, begun, plan.size, calls)?;
@@ -155,9 +153,8 @@ fn read_behind_head<R: Read, W: Write>(
         (W.contents writer.old) (W.contents writer.new) result }
     ensures wanted { (head : RequestHead) → IsRequestAt (take HEAD_BYTES bytes.now) headers.now spans.now head
         → ReadsBehind head spans.now.len bytes.now (R.remaining reader.old) (R.remaining reader.new) }
-    ensures read_failed { IsErrOf result Read → calls.new.read_failed ≡ true }
-    ensures write_failed { IsErrOf result Write → calls.new.write_failed ≡ true }
-    ensures calls { NoneForgotten calls.old calls.new }
+    ensures reads_counted { CountsReads calls.old calls.new (OnErrOf result Read) }
+    ensures writes_counted { CountsWrites calls.old calls.new (OnErrOf result Write) }
 {
     let front = head_part(bytes);
     match plan_head(routes, front, headers, spans) {
@@ -181,9 +178,8 @@ pub fn read_request<R: Read, W: Write>(
 ) -> Result<Result<Request, Rejection>, RequestFault>
     ensures ends { EndsRequest (R.remaining reader.old) (W.contents writer.old) (W.contents writer.new) result }
     ensures wanted { ReadsWhile WantsMore (R.remaining reader.old) (R.remaining reader.new) }
-    ensures read_failed { IsErrOf result Read → calls.new.read_failed ≡ true }
-    ensures write_failed { IsErrOf result Write → calls.new.write_failed ≡ true }
-    ensures calls { NoneForgotten calls.old calls.new }
+    ensures reads_counted { CountsReads calls.old calls.new (OnErrOf result Read) }
+    ensures writes_counted { CountsWrites calls.old calls.new (OnErrOf result Write) }
 {
     let mut bytes = Vec::new(alloc);
     let mut headers = [EMPTY_HEADER_SPAN; HEAD_FIELDS];

@@ -1,11 +1,11 @@
 //! One request, one answer.
 
-ghost use Rattle.std.specs.Prelude.{◌≡◌, [], true, Ok, Err, Option, IsErrOf, OnErr};
+ghost use Rattle.std.specs.Prelude.{◌≡◌, [], true, Option, OnErr};
 ghost use Rattle.std.specs.Io.KnownBytes.{Appends};
 ghost use Rattle.rand_core.specs.Stream.{Stream};
 ghost use Rattle.keycard_rules.specs.Rise.{NoFewer};
 ghost use Rattle.hotel_core.specs.{Books.Failures.AreCounted, Books.Happens.Happens};
-ghost use Rattle.hotel_lists.specs.Calls.{NoneForgotten};
+ghost use Rattle.hotel_lists.specs.Calls.{CountsReads, CountsWrites, OnErrOf};
 ghost use Rattle.hotel_asks.specs.Listings.{listing_on};
 ghost use Rattle.hotel_http.specs.Reads.{ReadsWhile};
 ghost use Rattle.hotel_http.specs.Request.{WantsMore};
@@ -104,8 +104,7 @@ fn answer_rejection<W: Write>(
     calls: &mut IoCalls,
 ) -> Result<Served, Cut>
     ensures ends { EndsAs (rejected why) [] (W.contents writer.old) (W.contents writer.new) result }
-    ensures failed { OnErr result (calls.new.write_failed ≡ true) }
-    ensures calls { NoneForgotten calls.old calls.new }
+    ensures calls { CountsWrites calls.old calls.new (OnErr result) }
 {
     let written = write_rejection(writer, why, calls);
     ended(written, rejection_status(why), false)
@@ -120,8 +119,7 @@ fn is_accepted(reply: &Reply) -> bool
 
 fn answer_reply<W: Write>(reply: &Reply, writer: &mut W, calls: &mut IoCalls) -> Result<Served, Cut>
     ensures ends { EndsAs (replied reply.now) [] (W.contents writer.old) (W.contents writer.new) result }
-    ensures failed { OnErr result (calls.new.write_failed ≡ true) }
-    ensures calls { NoneForgotten calls.old calls.new }
+    ensures calls { CountsWrites calls.old calls.new (OnErr result) }
 {
     let written = write_reply(writer, reply, calls);
     ended(written, reply_status(reply), is_accepted(reply))
@@ -138,8 +136,7 @@ fn answer_command<W: Write, B: Walks, R: Rng>(
     ensures went { Happens B.Issued B.rows books.old (Answered (AskComes (ask.Command command.now))
         (R.stream source.old) (R.stream source.new) []
         (W.contents writer.old) (W.contents writer.new) result) books.new }
-    ensures failed { OnErr result (calls.new.write_failed ≡ true) }
-    ensures calls { NoneForgotten calls.old calls.new }
+    ensures calls { CountsWrites calls.old calls.new (OnErr result) }
 {
     let reply = step(books, source, command);
     answer_reply(&reply, writer, calls)
@@ -182,8 +179,7 @@ fn answer_list<W: Write, B: Walks>(
 ) -> Result<Served, Cut>
     ensures went { (s : Stream) → Happens B.Issued B.rows books.old (Answered (AskComes (ask.List list.now)) s s []
         (W.contents writer.old) (W.contents writer.new) result) books.new }
-    ensures failed { OnErr result (calls.new.write_failed ≡ true) }
-    ensures calls { NoneForgotten calls.old calls.new }
+    ensures calls { CountsWrites calls.old calls.new (OnErr result) }
 {
     match list_text(alloc, list, books) {
         Ok(text) => {
@@ -214,8 +210,7 @@ fn answer_audit<W: Write, B: Walks>(
 ) -> Result<Served, Cut>
     ensures went { (s : Stream) → Happens B.Issued B.rows books.old (Answered (FileComes file.now) s s []
         (W.contents writer.old) (W.contents writer.new) result) books.new }
-    ensures failed { OnErr result (calls.new.write_failed ≡ true) }
-    ensures calls { NoneForgotten calls.old calls.new }
+    ensures calls { CountsWrites calls.old calls.new (OnErr result) }
 {
     match import(alloc, books, file) {
         Ok(answers) => {
@@ -242,8 +237,7 @@ fn answer_ask<W: Write, B: Walks, R: Rng>(
     ensures went { Happens B.Issued B.rows books.old (Answered (AskComes asked.now) (R.stream source.old)
         (R.stream source.new) []
         (W.contents writer.old) (W.contents writer.new) result) books.new }
-    ensures failed { OnErr result (calls.new.write_failed ≡ true) }
-    ensures calls { NoneForgotten calls.old calls.new }
+    ensures calls { CountsWrites calls.old calls.new (OnErr result) }
 {
     match asked {
         Ask::Command(command) => answer_command(command, writer, books, source, calls),
@@ -263,8 +257,7 @@ fn answer_request<W: Write, B: Walks, R: Rng>(
     ensures went { Happens B.Issued B.rows books.old (Answered (TaskComes request.now.task request.now.body.items)
         (R.stream source.old) (R.stream source.new) []
         (W.contents writer.old) (W.contents writer.new) result) books.new }
-    ensures failed { OnErr result (calls.new.write_failed ≡ true) }
-    ensures calls { NoneForgotten calls.old calls.new }
+    ensures calls { CountsWrites calls.old calls.new (OnErr result) }
 {
     match &request.task {
         Task::Asks(asked) => answer_ask(alloc, asked, writer, books, source, calls),
@@ -292,9 +285,8 @@ pub fn serve_by<I: Read, W: Write, B: Walks, R: Rng>(
     ensures was_honest { B.is_honest books.new → B.is_honest books.old }
     ensures counted { NoFewer (B.failures books.old) (B.failures books.new) }
     ensures wanted { ReadsWhile WantsMore (I.remaining reader.old) (I.remaining reader.new) }
-    ensures read_failed { IsErrOf result Read → calls.new.read_failed ≡ true }
-    ensures write_failed { IfUnwritten result (calls.new.write_failed ≡ true) }
-    ensures calls { NoneForgotten calls.old calls.new }
+    ensures reads_counted { CountsReads calls.old calls.new (OnErrOf result Read) }
+    ensures writes_counted { CountsWrites calls.old calls.new (IfUnwritten result) }
 {
     match read_request(alloc, routes, reader, writer, calls)? {
         Ok(request) => Ok(answer_request(alloc, &request, writer, books, source, calls)?),

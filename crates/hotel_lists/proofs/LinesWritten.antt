@@ -2,7 +2,7 @@
 use Rattle.std.proofs.Common.{ℕ, ◌≡◌, Bool, true, false, List, [], ◌∷◌, ◌++◌, Option, Result, Ok, Err, Some, None, map}
 use Rattle.std.proofs.Common.{append_assoc, append-nil, length-append, ap, refl, sym, ◌∙◌, subst, arith, inl, inr}
 use Rattle.std.proofs.Common.{flat_map}
-use Rattle.hotel_core.proofs.Names.{Takes, Hands}
+use Rattle.hotel_core.proofs.Names.{Passes, Hands}
 use Rattle.hotel_core.specs.Books.Walks.{failure_of}
 use Rattle.std.specs.List.{concat}
 use Rattle.std.proofs.lemmas.List.{map-append, take-append-le}
@@ -152,17 +152,17 @@ module _ {W R : Type 0} (contents : W → Option (List ℕ)) (line : R → List 
         none,
       )
 
-  took_same : (rows : List R) (a b : Lines W) → Takes Wrote rows a b → SameEnds a b
+  took_same : (rows : List R) (a b : Lines W) → Passes Wrote a rows b → SameEnds a b
   took_same [] a b t = subst (λ (s : Lines W). SameEnds a s) (sym t) (same_sink a)
   took_same (row ∷ rows) a b t = then_same a t.0 b t.1.0 (took_same rows t.0 b t.2)
 
-  took : (w : Option (List ℕ)) (header : List ℕ) (before rows : List R) (a b : Lines W) → Stands w header before a → Takes Wrote rows a b → Stands w header (before ++ rows) b
+  took : (w : Option (List ℕ)) (header : List ℕ) (before rows : List R) (a b : Lines W) → Stands w header before a → Passes Wrote a rows b → Stands w header (before ++ rows) b
   took w header before [] a b s t = subst (λ (c : Lines W). Stands w header (before ++ []) c) (sym t) (subst (λ rs. Stands w header rs a) (sym (append-nil before)) s)
   took w header before (row ∷ rows) a b s t =
       subst (λ rs. Stands w header rs b) (append_assoc before (row ∷ []) rows) (took w header (before ++ row ∷ []) rows t.0 b (step w header before row a t.0 s t.1.1) t.2)
 
   -- after the header, and rows that the sink took
-  from_header : (w : Option (List ℕ)) (header : List ℕ) (rows : List R) (a b : Lines W) → Appends w (contents a.writer.now) header → a.gathered.now ≡ [] → Takes Wrote rows a b → Stands w header rows b
+  from_header : (w : Option (List ℕ)) (header : List ℕ) (rows : List R) (a b : Lines W) → Appends w (contents a.writer.now) header → a.gathered.now ≡ [] → Passes Wrote a rows b → Stands w header rows b
   from_header w header rows a b first none t = took w header [] rows a b ([], [], refl, subst (Appends w (contents a.writer.now)) (sym (append-nil header)) first, none) t
 
   -- the sink's writer and calls are the same ones at the end of the walk

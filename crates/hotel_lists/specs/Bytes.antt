@@ -1,8 +1,9 @@
 -- What a loop of reads or writes did to known bytes.
-use Rattle.std.specs.Prelude.{◌≡◌, ℕ, ◌≤◌, ◌++◌, List, length, take, Option}
+use Rattle.std.specs.Prelude.{◌≡◌, ℕ, ◌≤◌, ◌++◌, List, length, take, Option, Result, OnOk, OnErr}
 use Rattle.std.specs.Borrow.{Bor}
 use Rattle.std.specs.List.{flat_map}
 use Rattle.std.specs.Io.KnownBytes.{Appends, Consumes}
+use Rattle.hotel_lists.specs.Calls.{Calls, CountsWrites}
 use Rattle.hotel_lists.specs.{declared.bytes.ReadFault.ReadFault, declared.bytes.WholeFault.WholeFault}
 use Rattle.hotel_lists.specs.declared.bytes.ReadFault.TheVariants as more
 use Rattle.hotel_lists.specs.declared.bytes.WholeFault.TheVariants as whole
@@ -10,6 +11,13 @@ use Rattle.hotel_lists.specs.declared.bytes.WholeFault.TheVariants as whole
 -- A writer took a front of the bytes: all of them, some or none.
 abbrev pub AppendsFront : Option (List ℕ) → Option (List ℕ) → List ℕ → Type 0
 AppendsFront old new bytes = (n : ℕ) × (n ≤ length bytes) × Appends old new (take n bytes)
+
+-- A text was written: all of it, or a front of it until a write failed.
+pub record Writes {A E : Type 0} (old new : Option (List ℕ)) (text : List ℕ) (before after : Calls)
+    (result : Result A E) : Type 0 where
+  pub ok : OnOk result (Appends old new text)
+  pub err : OnErr result (AppendsFront old new text)
+  pub calls : CountsWrites before after (OnErr result)
 
 -- A reader lost a number of bytes at its front, not more than `most`.
 abbrev pub ConsumesAtMost : ℕ → Option (List ℕ) → Option (List ℕ) → Type 0

@@ -1,9 +1,9 @@
 //! Loops over one reader or one writer.
 
-ghost use Rattle.std.specs.Prelude.{◌≡◌, true, IfSome, IsErrOf, ◌<◌, ◌≤◌, length, IfOk, OnOk, OnErr};
-ghost use Rattle.std.specs.Io.KnownBytes.{Appends, Consumes, IsAtEnd, Keeps};
-ghost use Rattle.hotel_lists.specs.{Calls.NoneForgotten, Bytes.AppendsFront, Bytes.joined, Bytes.ReadsOnto};
-ghost use Rattle.hotel_lists.specs.{Bytes.ConsumesAtMost, Bytes.whole_fault};
+ghost use Rattle.std.specs.Prelude.{◌≡◌, IfSome, IsErrOf, ◌<◌, ◌≤◌, length, IfOk, OnOk, OnErr};
+ghost use Rattle.std.specs.Io.KnownBytes.{IsAtEnd};
+ghost use Rattle.hotel_lists.specs.Calls.{CountsReads, OnErrOf};
+ghost use Rattle.hotel_lists.specs.Bytes.{Writes, joined, ReadsOnto, ConsumesAtMost, whole_fault};
 ghost use Rattle.hotel_lists.specs.declared.bytes.ReadFault.TheVariants.{Read, Memory};
 
 use crate::calls::{IoCalls, ReadFailed, WriteFailed, read_some, write_some};
@@ -17,10 +17,7 @@ pub fn write_bytes<W: Write>(
     bytes: &[u8],
     calls: &mut IoCalls,
 ) -> Result<(), WriteFailed>
-    ensures ok { OnOk result (Appends (W.contents writer.old) (W.contents writer.new) bytes.now) }
-    ensures err { OnErr result (AppendsFront (W.contents writer.old) (W.contents writer.new) bytes.now) }
-    ensures failed { OnErr result (calls.new.write_failed ≡ true) }
-    ensures calls { NoneForgotten calls.old calls.new }
+    ensures writes { Writes (W.contents writer.old) (W.contents writer.new) bytes.now calls.old calls.new result }
 {
     let mut done = 0;
     while done < bytes.len() {
@@ -37,10 +34,8 @@ pub fn write_parts<W: Write>(
     parts: &[&[u8]],
     calls: &mut IoCalls,
 ) -> Result<(), WriteFailed>
-    ensures ok { OnOk result (Appends (W.contents writer.old) (W.contents writer.new) (joined parts.now)) }
-    ensures err { OnErr result (AppendsFront (W.contents writer.old) (W.contents writer.new) (joined parts.now)) }
-    ensures failed { OnErr result (calls.new.write_failed ≡ true) }
-    ensures calls { NoneForgotten calls.old calls.new }
+    ensures writes { Writes (W.contents writer.old) (W.contents writer.new) (joined parts.now)
+        calls.old calls.new result }
 {
     for part in parts {
         write_bytes(writer, part, calls)?;
@@ -87,8 +82,7 @@ pub fn read_more<R: Read>(
     ensures end { IfOk result (λ n. n ≡ 0 → IsAtEnd (R.remaining reader.new)) }
     ensures lost { OnErr result (ConsumesAtMost 4096 (R.remaining reader.old) (R.remaining reader.new)) }
     ensures err { OnErr result (bytes.new.items ≡ bytes.old.items) }
-    ensures failed { IsErrOf result Read → calls.new.read_failed ≡ true }
-    ensures calls { NoneForgotten calls.old calls.new }
+    ensures calls { CountsReads calls.old calls.new (OnErrOf result Read) }
 {
     let mut chunk = [0; CHUNK];
     let got = read_some(reader, &mut chunk, calls)?;
@@ -129,8 +123,7 @@ pub fn read_whole<R: Read>(
     ensures end { OnOk result (IsAtEnd (R.remaining reader.new)) }
     ensures large { IsErrOf result WholeFault.TooLarge → IfSome (R.remaining reader.old)
         (λ input. limit < length input) }
-    ensures failed { IsErrOf result WholeFault.Read → calls.new.read_failed ≡ true }
-    ensures calls { NoneForgotten calls.old calls.new }
+    ensures calls { CountsReads calls.old calls.new (OnErrOf result WholeFault.Read) }
 {
     let mut bytes = Vec::new(alloc);
     while bytes.len() <= limit {

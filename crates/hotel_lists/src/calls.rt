@@ -2,7 +2,7 @@
 
 ghost use Rattle.std.specs.Prelude.{◌≡◌, ◌+◌, ◌↔◌, ◌<◌, ◌≤◌, ℕ, true, false, IsTrue, length, take, IfOk, OnErr};
 ghost use Rattle.std.specs.Io.KnownBytes.{Appends, Consumes, IsAtEnd, Keeps};
-ghost use Rattle.hotel_lists.specs.Calls.{Calls, NoneForgotten};
+ghost use Rattle.hotel_lists.specs.Calls.{Calls, NoneForgotten, CountsReads, CountsWrites};
 
 use std::io::{ErrorKind, Read, Write};
 use std::marker::Model;
@@ -89,8 +89,7 @@ pub(crate) fn read_some<R: Read>(
     ensures ok { IfOk result (λ n. Consumes (R.remaining reader.old) (R.remaining reader.new) (take n room.new)) }
     ensures end { IfOk result (λ n. n ≡ 0 → 0 < length room.new → IsAtEnd (R.remaining reader.new)) }
     ensures err { OnErr result (Keeps (R.remaining reader.old) (R.remaining reader.new)) }
-    ensures failed { OnErr result (calls.new.read_failed ≡ true) }
-    ensures calls { NoneForgotten calls.old calls.new }
+    ensures calls { CountsReads calls.old calls.new (OnErr result) }
 {
     loop {
         match reader.read(room) {
@@ -115,8 +114,7 @@ pub(crate) fn write_some<W: Write>(
     ensures bound { IfOk result (λ n. n ≤ length bytes.now) }
     ensures ok { IfOk result (λ n. Appends (W.contents writer.old) (W.contents writer.new) (take n bytes.now)) }
     ensures err { OnErr result (Keeps (W.contents writer.old) (W.contents writer.new)) }
-    ensures failed { OnErr result (calls.new.write_failed ≡ true) }
-    ensures calls { NoneForgotten calls.old calls.new }
+    ensures calls { CountsWrites calls.old calls.new (OnErr result) }
 {
     loop {
         match writer.write(bytes) {

@@ -1,10 +1,10 @@
 //! The five lists as text, within a call whose reads and writes are counted. The writes of a list are added to them.
-ghost use Rattle.std.specs.Prelude.{◌≡◌, true, [], Some, is_some, Err};
+ghost use Rattle.std.specs.Prelude.{◌≡◌, [], Some, is_some, Err};
 ghost use Rattle.hotel_model.specs.Refinement.Lookups.{room_at};
 ghost use Rattle.hotel_model.specs.Refinement.ListsOnRows.{arrivals_on, in_house_on, chain_on, left_behind_on};
 ghost use Rattle.hotel_model.specs.Rows.{notes_at};
-ghost use Rattle.hotel_lists.specs.{Calls.NoneForgotten, declared.fault.ListFault.TheVariants.NoRoom};
-ghost use Rattle.hotel_lists.specs.{declared.fault.ListFault.TheVariants.Write};
+ghost use Rattle.hotel_lists.specs.Calls.{CountsWrites, OnErrOf};
+ghost use Rattle.hotel_lists.specs.declared.fault.ListFault.TheVariants.{NoRoom, Write};
 ghost use Rattle.hotel_lists.specs.Listings.{ListEnds, listing, of_room};
 ghost use Rattle.hotel_lists.specs.Lines.{LooksAt, FindsRoom, arrivals_header, in_house_header, chain_header};
 ghost use Rattle.hotel_lists.specs.Lines.{left_behind_header, audit_header, arrival_line, house_line, chain_line};
@@ -61,8 +61,7 @@ fn write_rows<B: Walks, L: Listing<B>, W: Write>(
         (W.contents writer.new) result }
     ensures no_room { result ≡ Err NoRoom → ⊥ }
     ensures books { LooksAt B.Issued books.old books.new result }
-    ensures failed { result ≡ Err Write → calls.new.write_failed ≡ true }
-    ensures calls { NoneForgotten calls.old calls.new }
+    ensures calls { CountsWrites calls.old calls.new (OnErrOf result Write) }
 {
     write_bytes(writer, header, calls)?;
     let mut gathered = Gathered::none(alloc);
@@ -86,8 +85,7 @@ fn write_room_rows<B: Walks, L: Listing<B>, W: Write>(
         (listing header.now L.Row.line (L.rows list.now (B.rows books.old)))) (W.contents writer.old)
         (W.contents writer.new) result }
     ensures books { LooksAt B.Issued books.old books.new result }
-    ensures failed { result ≡ Err Write → calls.new.write_failed ≡ true }
-    ensures calls { NoneForgotten calls.old calls.new }
+    ensures calls { CountsWrites calls.old calls.new (OnErrOf result Write) }
 {
     find_room(books, room)?;
     write_rows(alloc, books, list, header, writer, calls)
@@ -106,8 +104,7 @@ pub fn write_arrivals<B: Walks, W: Write>(
         (W.contents writer.new) result }
     ensures no_room { result ≡ Err NoRoom → ⊥ }
     ensures books { LooksAt B.Issued books.old books.new result }
-    ensures failed { result ≡ Err Write → calls.new.write_failed ≡ true }
-    ensures calls { NoneForgotten calls.old calls.new }
+    ensures calls { CountsWrites calls.old calls.new (OnErrOf result Write) }
 {
     write_rows(alloc, books, &Arrivals(day), ARRIVALS, writer, calls)
 }
@@ -124,8 +121,7 @@ pub fn write_in_house<B: Walks, W: Write>(
         (W.contents writer.new) result }
     ensures no_room { result ≡ Err NoRoom → ⊥ }
     ensures books { LooksAt B.Issued books.old books.new result }
-    ensures failed { result ≡ Err Write → calls.new.write_failed ≡ true }
-    ensures calls { NoneForgotten calls.old calls.new }
+    ensures calls { CountsWrites calls.old calls.new (OnErrOf result Write) }
 {
     write_rows(alloc, books, &InHouse, HOUSE, writer, calls)
 }
@@ -142,8 +138,7 @@ pub fn write_chain_of<B: Walks, W: Write>(
         (listing chain_header chain_line (chain_on (B.rows books.old) room))) (W.contents writer.old)
         (W.contents writer.new) result }
     ensures books { LooksAt B.Issued books.old books.new result }
-    ensures failed { result ≡ Err Write → calls.new.write_failed ≡ true }
-    ensures calls { NoneForgotten calls.old calls.new }
+    ensures calls { CountsWrites calls.old calls.new (OnErrOf result Write) }
 {
     write_room_rows(alloc, books, room, &ChainOf(room), CHAIN, writer, calls)
 }
@@ -160,8 +155,7 @@ pub fn write_left_behind<B: Walks, W: Write>(
         (W.contents writer.new) result }
     ensures no_room { result ≡ Err NoRoom → ⊥ }
     ensures books { LooksAt B.Issued books.old books.new result }
-    ensures failed { result ≡ Err Write → calls.new.write_failed ≡ true }
-    ensures calls { NoneForgotten calls.old calls.new }
+    ensures calls { CountsWrites calls.old calls.new (OnErrOf result Write) }
 {
     write_rows(alloc, books, &LeftBehind, BEHIND, writer, calls)
 }
@@ -178,8 +172,7 @@ pub fn write_audit_of<B: Walks, W: Write>(
         (listing audit_header note_line (notes_at (B.rows books.old).notes room))) (W.contents writer.old)
         (W.contents writer.new) result }
     ensures books { LooksAt B.Issued books.old books.new result }
-    ensures failed { result ≡ Err Write → calls.new.write_failed ≡ true }
-    ensures calls { NoneForgotten calls.old calls.new }
+    ensures calls { CountsWrites calls.old calls.new (OnErrOf result Write) }
 {
     write_room_rows(alloc, books, room, &AuditOf(room), AUDIT, writer, calls)
 }

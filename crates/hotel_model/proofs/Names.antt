@@ -1,6 +1,6 @@
 -- The names that the proofs of this crate cite most, passed on from one place. Declares nothing.
 pub use Rattle.hotel_model.specs.Refinement.Change.{before_in, codes_of, freed_by, made, moved, notes_in, room_changed}
-pub use Rattle.hotel_model.specs.Refinement.Change.{without_party}
+pub use Rattle.hotel_model.specs.Refinement.Change.{new_row, without_party}
 pub use Rattle.hotel_model.specs.Refinement.Fits.{HasItsRows}
 pub use Rattle.hotel_model.specs.Refinement.Lookups.{card_at, code_at, code_place, codes_in, first_code_at}
 pub use Rattle.hotel_model.specs.Refinement.Lookups.{first_full_on, inside_at, note_at, note_numbered, number_after}
@@ -13,9 +13,9 @@ pub use Rattle.hotel_model.specs.Cases.{is_kind, is_of_kind, is_party, is_room, 
 pub use Rattle.hotel_model.specs.Cases.{next_party, no_link, opens, own_room, parties_used_up, room_of, stay_is, today}
 pub use Rattle.hotel_model.specs.Stays.{day, first_full, in_state, is_booked_state, kinds, nights, now_is}
 pub use Rattle.hotel_model.specs.Stays.{room_of_state, rooms, rooms_of, stays}
-pub use Rattle.hotel_model.specs.Event.{Begun, Cancelled, Issue, CheckOut, Entered, Event, Install, Kind, Left, Moment}
+pub use Rattle.hotel_model.specs.Event.{Begun, Cancelled, Issue, CheckOut, Entered, Event, Install, Kind, Left}
 pub use Rattle.hotel_model.specs.Event.{NextDay, Recoded, Refitted, Reserved, Spare, note_of}
-pub use Rattle.hotel_nights.specs.Moments.{moment_of}
+pub use Rattle.hotel_nights.specs.Moments.{Moment, moment_of, note_from}
 pub use Rattle.hotel_model.specs.Guests.{are_none, inside, insiders, registered, secured, those_elsewhere}
 pub use Rattle.hotel_model.specs.Guests.{those_in}
 pub use Rattle.hotel_model.specs.Headline.{Assured, Headline, LedgerHolds, NewestOpens, NoCodeTwice, OpensOwnRoom}

@@ -3,11 +3,7 @@ use Rattle.std.specs.Prelude.{ℕ, List, Option, Some, None}
 use Rattle.keycard_rules.specs.declared.card.Link.{Link}
 use Rattle.keycard_rules.specs.Note.{Note}
 use Rattle.keycard_rules.specs.declared.note.Act.TheVariants as act
-use Rattle.hotel_nights.specs.Moments.{note_from}
-
--- a day, and a second of it
-abbrev pub Moment : Type 0
-Moment = ℕ × ℕ
+use Rattle.hotel_nights.specs.Moments.{Moment, note_from}
 
 -- What happened.
 pub data Event : Type 0 where

@@ -4,7 +4,7 @@ use Rattle.std.specs.BTreeMap.{is_at}
 use Rattle.std.specs.BTreeSet.{insert_key}
 use Rattle.std.specs.Set.{remove_key}
 use Rattle.hotel_model.specs.Words.{when, other_than, said_of, pair_cmp}
-use Rattle.hotel_model.specs.Rows.{at_number, room_is}
+use Rattle.hotel_model.specs.Rows.{InsideKey, at_number, room_is}
 use Rattle.hotel_model.specs.Event.{Install, Issue, CheckOut, Refitted, Entered, Left}
 use Rattle.hotel_model.specs.History.{History, start, ◌▷◌}
 use Rattle.hotel_model.specs.Issued.{current}
@@ -17,11 +17,11 @@ registered (h ▷ CheckOut party) r = other_than party (registered h r)
 registered (h ▷ _) r = registered h r
 
 -- the pairs of other rooms than this one
-abbrev pub those_elsewhere : ℕ → List (ℕ × ℕ) → List (ℕ × ℕ)
-those_elsewhere room pairs = filter (λ (e : ℕ × ℕ). not (e.0 == room)) pairs
+abbrev pub those_elsewhere : ℕ → List InsideKey → List InsideKey
+those_elsewhere room pairs = filter (λ (e : InsideKey). not (e.0 == room)) pairs
 
 -- The cards that are inside: they entered a room, and since then didn't leave it and it wasn't refitted.
-abbrev pub insiders : History → List (ℕ × ℕ)
+abbrev pub insiders : History → List InsideKey
 insiders (start t) = t.inside
 insiders (h ▷ Refitted room fit code) = those_elsewhere room (insiders h)
 insiders (h ▷ Entered room fit count number link at) = insert_key pair_cmp (insiders h) (room, number)
@@ -29,7 +29,7 @@ insiders (h ▷ Left room fit count number link at) = remove_key (is_at (pair_cm
 insiders (h ▷ _) = insiders h
 
 -- the cards of these pairs that are at a room
-abbrev pub those_in : List (ℕ × ℕ) → ℕ → List ℕ
+abbrev pub those_in : List InsideKey → ℕ → List ℕ
 those_in [] r = []
 those_in (e ∷ es) r = when (e.0 == r) (λ numbers. e.1 ∷ numbers) (those_in es r)
 

@@ -5,7 +5,7 @@ use Rattle.keycard_rules.specs.declared.note.Act.{Act}
 use Rattle.keycard_rules.specs.declared.note.Act.TheVariants as act
 use Rattle.keycard_rules.specs.Note.{Note}
 use Rattle.hotel_model.specs.Words.{when, and_last, pair_cmp}
-use Rattle.hotel_model.specs.Rows.{notes_at}
+use Rattle.hotel_model.specs.Rows.{NoteKey, notes_at}
 use Rattle.hotel_model.specs.Event.{note_of}
 use Rattle.hotel_model.specs.History.{History, start, ◌▷◌}
 use Rattle.hotel_model.specs.Cards.{same_link}
@@ -25,12 +25,12 @@ abbrev pub notes_of : History → ℕ → ℕ → List Note
 notes_of h r fit = filter (λ note. note.fit == fit) (notes h r)
 
 -- all notes by room and number, and the event's one under the number after those that its room has
-abbrev pub and_note : History → Option Note → List ((ℕ × ℕ) × Note) → List ((ℕ × ℕ) × Note)
+abbrev pub and_note : History → Option Note → List (NoteKey × Note) → List (NoteKey × Note)
 and_note h (Some note) taken = insert_entry pair_cmp taken (note.room, length (notes h note.room) + 1) note
 and_note h None taken = taken
 
 -- All notes that were taken, by room and number: those of a room are numbered over all its fits.
-abbrev pub all_notes : History → List ((ℕ × ℕ) × Note)
+abbrev pub all_notes : History → List (NoteKey × Note)
 all_notes (start t) = t.notes
 all_notes (h ▷ event) = and_note h (note_of event) (all_notes h)
 

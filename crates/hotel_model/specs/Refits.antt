@@ -4,7 +4,7 @@ use Rattle.std.specs.BTreeMap.{insert_entry}
 use Rattle.keycard_rules.specs.declared.numbers.TheConstants.{LAST_FIT}
 use Rattle.hotel_model.specs.declared.rows.FitRow.{FitRow}
 use Rattle.hotel_model.specs.Words.{when, pair_cmp}
-use Rattle.hotel_model.specs.Rows.{column_at}
+use Rattle.hotel_model.specs.Rows.{FitKey, column_at}
 use Rattle.hotel_model.specs.Event.{Install, Refitted}
 use Rattle.hotel_model.specs.History.{History, start, ◌▷◌}
 use Rattle.hotel_model.specs.Issued.{issued}
@@ -28,7 +28,7 @@ abbrev pub fit_row : ℕ → ℕ → ℕ → ℕ → FitRow
 fit_row room number place notes = record { room = room; fit = number; place = place; before = notes }
 
 -- All fits, by room and number.
-abbrev pub fits : History → List ((ℕ × ℕ) × FitRow)
+abbrev pub fits : History → List (FitKey × FitRow)
 fits (start t) = t.fits
 fits (h ▷ Install room kind code) = insert_entry pair_cmp (fits h) (room, 1) (fit_row room 1 0 0)
 fits (h ▷ Refitted room number code) =

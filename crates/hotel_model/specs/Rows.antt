@@ -14,6 +14,26 @@ use Rattle.hotel_model.specs.declared.rows.CodeRow.{CodeRow}
 use Rattle.hotel_model.specs.declared.rows.FitRow.{FitRow}
 use Rattle.hotel_model.specs.Words.{when, said_of, pair_cmp}
 
+-- ---- keys of two numbers
+
+-- a code's place: the room, and the place among the room's codes
+abbrev pub PlaceKey : Type 0
+PlaceKey = ℕ × ℕ
+
+-- a card that is inside: the room, and the card's number
+abbrev pub InsideKey : Type 0
+InsideKey = ℕ × ℕ
+
+-- a note: the room, and the number among all notes of the room
+abbrev pub NoteKey : Type 0
+NoteKey = ℕ × ℕ
+
+-- a fit: the room, and the fit's number
+abbrev pub FitKey : Type 0
+FitKey = ℕ × ℕ
+
+-- ---- rows
+
 -- The nine lists.
 pub record Rows : Type 0 where
   -- the business day, once it is set
@@ -29,11 +49,11 @@ pub record Rows : Type 0 where
   -- the cards, by number
   pub cards : List (ℕ × Card)
   -- the cards that are inside a room, by room and card
-  pub inside : List (ℕ × ℕ)
+  pub inside : List InsideKey
   -- the notes that were taken, by room and number: those of a room are numbered over all its fits
-  pub notes : List ((ℕ × ℕ) × Note)
+  pub notes : List (NoteKey × Note)
   -- the fits of the rooms, by room and fit
-  pub fits : List ((ℕ × ℕ) × FitRow)
+  pub fits : List (FitKey × FitRow)
 
 -- the rows of an empty desk
 abbrev pub no_rows : Rows
@@ -91,7 +111,7 @@ or_else (Some link) before = Some link
 or_else None before = before
 
 -- the fits of a room, in the order of their numbers
-abbrev pub fits_at : List ((ℕ × ℕ) × FitRow) → ℕ → List FitRow
+abbrev pub fits_at : List (FitKey × FitRow) → ℕ → List FitRow
 fits_at [] room = []
 fits_at (e ∷ es) room = when (e.0.0 == room) (λ fits. e.1 ∷ fits) (fits_at es room)
 
@@ -121,6 +141,6 @@ link_of_last_card (e ∷ es) party =
     or_else (link_of_last_card es party) (if e.1.party == party then Some e.1.link else None)
 
 -- the notes of a room, in the order of their numbers
-abbrev pub notes_at : List ((ℕ × ℕ) × Note) → ℕ → List Note
+abbrev pub notes_at : List (NoteKey × Note) → ℕ → List Note
 notes_at [] room = []
 notes_at (e ∷ es) room = when (e.0.0 == room) (λ notes. e.1 ∷ notes) (notes_at es room)

@@ -6,12 +6,12 @@ use Rattle.keycard_rules.specs.declared.numbers.TheConstants.{LAST_FIT, LAST_NUM
 use Rattle.hotel_model.specs.declared.rows.RoomRow.{RoomRow}
 use Rattle.hotel_model.specs.declared.rows.FitRow.{FitRow}
 use Rattle.hotel_model.specs.Words.{said_of}
-use Rattle.hotel_model.specs.Rows.{Rows, at_number, fits_at, last_fit}
+use Rattle.hotel_model.specs.Rows.{Rows, FitKey, at_number, fits_at, last_fit}
 use Rattle.hotel_model.specs.SoundRooms.{are_in_order, count_up, each_room}
 
 -- each fit's room is there
 abbrev pub fit_rooms_there : Rows → Bool
-fit_rooms_there rows = list_all (λ (e : (ℕ × ℕ) × FitRow). is_some (at_number rows.rooms e.1.room)) rows.fits
+fit_rooms_there rows = list_all (λ (e : FitKey × FitRow). is_some (at_number rows.rooms e.1.room)) rows.fits
 
 -- the rule holds of the fits of each room, and its row
 abbrev pub each_fitted : Rows → (List FitRow → RoomRow → Bool) → Bool
@@ -19,7 +19,7 @@ each_fitted rows rule = each_room rows (λ row. rule (fits_at rows.fits row.room
 
 -- each row is of its key; the numbers of each room's fits are 1 to n, n from 1 to the last fit
 abbrev pub fit_numbers : Rows → Bool
-fit_numbers rows = list_all (λ (e : (ℕ × ℕ) × FitRow). (e.1.room == e.0.0) && (e.1.fit == e.0.1)) rows.fits
+fit_numbers rows = list_all (λ (e : FitKey × FitRow). (e.1.room == e.0.0) && (e.1.fit == e.0.1)) rows.fits
     && each_fitted rows (λ fits row. count_up 1 (map (λ (f : FitRow). f.fit) fits) && nat_le 1 (length fits)
     && nat_le (length fits) LAST_FIT)
 

@@ -12,7 +12,7 @@ use Rattle.hotel_model.specs.declared.rows.CodeRow.{CodeRow}
 use Rattle.hotel_model.specs.declared.rows.RoomRow.{RoomRow}
 use Rattle.hotel_model.specs.declared.rows.FitRow.{FitRow}
 use Rattle.hotel_model.specs.Words.{when, said_of}
-use Rattle.hotel_model.specs.Rows.{Rows, at_number, room_is, fit_at, fits_at, last_fit}
+use Rattle.hotel_model.specs.Rows.{Rows, InsideKey, NoteKey, at_number, room_is, fit_at, fits_at, last_fit}
 use Rattle.hotel_model.specs.Cards.{same_link}
 use Rattle.hotel_model.specs.SoundRooms.{count_up, each_room, is_day}
 use Rattle.hotel_model.specs.SoundCards.{code_is, stands_at, is_newest}
@@ -41,7 +41,7 @@ fits_inside rows room row card =
 -- what is inside is a card that fits its room
 abbrev pub insides_fit : Rows → Bool
 insides_fit rows =
-    list_all (λ (e : ℕ × ℕ). room_is rows e.0 (λ row. card_is rows e.1 (fits_inside rows e.0 row))) rows.inside
+    list_all (λ (e : InsideKey). room_is rows e.0 (λ row. card_is rows e.1 (fits_inside rows e.0 row))) rows.inside
 
 -- ---- note
 
@@ -60,7 +60,7 @@ act_fits rows room (act.Left number link) = has_link_at rows room number link
 act_fits rows room (act.Recoded from to) = code_is rows from (λ first. code_is rows to (comes_later room first))
 
 -- the note is of its room, which is there, what it says fits the room, and its time is one
-abbrev pub note_fits : Rows → (ℕ × ℕ) × Note → Bool
+abbrev pub note_fits : Rows → NoteKey × Note → Bool
 note_fits rows e =
     (e.1.room == e.0.0) && is_some (at_number rows.rooms e.0.0) && act_fits rows e.0.0 e.1.act && is_day e.1.day
     && nat_le e.1.second LAST_SECOND
@@ -70,7 +70,7 @@ abbrev pub notes_fit : Rows → Bool
 notes_fit rows = list_all (note_fits rows) rows.notes
 
 -- the numbers of a room's notes
-abbrev pub numbers_at : List ((ℕ × ℕ) × Note) → ℕ → List ℕ
+abbrev pub numbers_at : List (NoteKey × Note) → ℕ → List ℕ
 numbers_at [] room = []
 numbers_at (e ∷ es) room = when (e.0.0 == room) (λ numbers. e.0.1 ∷ numbers) (numbers_at es room)
 
@@ -84,7 +84,7 @@ abbrev pub fit_is : Rows → ℕ → ℕ → (FitRow → Bool) → Bool
 fit_is rows room number test = said_of (fit_at rows room number) false test
 
 -- the number of a note is that of those before its fit and its count, and it was taken before the next fit
-abbrev pub is_of_fit : Rows → (ℕ × ℕ) × Note → Bool
+abbrev pub is_of_fit : Rows → NoteKey × Note → Bool
 is_of_fit rows e = nat_le 1 e.1.count && fit_is rows e.0.0 e.1.fit (λ f. e.0.1 == f.before + e.1.count)
     && said_of (fit_at rows e.0.0 (e.1.fit + 1)) true (λ next. nat_le e.0.1 next.before)
 

@@ -5,17 +5,21 @@ use Rattle.keycard_rules.specs.{Numerals.numeral, Numerals.fixed_text, Note.Note
 use Rattle.keycard_rules.specs.declared.note.TheConstants.{LAST_SECOND}
 use Rattle.hotel_nights.specs.Days.{read_day, day_text, ◌>>=◌}
 
+-- a day, and a second of it
+abbrev pub Moment : Type 0
+Moment = ℕ × ℕ
+
 -- the moment of a note
-abbrev pub moment_of : Note → ℕ × ℕ
+abbrev pub moment_of : Note → Moment
 moment_of note = (note.day, note.second)
 
 -- the note of a room's lock, by its count and what it says at a moment
-abbrev pub note_from : ℕ → ℕ → ℕ → Act → ℕ × ℕ → Note
+abbrev pub note_from : ℕ → ℕ → ℕ → Act → Moment → Note
 note_from room fit count act at =
     record { room = room; fit = fit; count = count; act = act; day = at.0; second = at.1 }
 
 -- that second of the day, unless a day has fewer
-abbrev pub moment_within : ℕ → ℕ → Option (ℕ × ℕ)
+abbrev pub moment_within : ℕ → ℕ → Option Moment
 moment_within day second = if nat_le second LAST_SECOND then Some (day, second) else None
 
 -- the second of the day that `HH:MM:SS` writes: eight bytes, colons (byte 58), hours to 23, minutes and seconds to 59
@@ -30,7 +34,7 @@ read_time text =
 
 -- the moment that `YYYY-MM-DDTHH:MM:SS` writes: 19 bytes, with `T` (byte 84) or a space (byte 32) between a day and a
 -- time
-abbrev pub read_moment : List ℕ → Option (ℕ × ℕ)
+abbrev pub read_moment : List ℕ → Option Moment
 read_moment text =
     if (length text == 19) && ((slice_index text 10 == 84) || (slice_index text 10 == 32)) then (do
       d ← read_day (slice_range text 0 10)
@@ -43,5 +47,5 @@ abbrev pub time_text : ℕ → List ℕ
 time_text s = fixed_text 10 2 (s / 3600) ++ (58 ∷ (fixed_text 10 2 (s / 60 % 60) ++ (58 ∷ fixed_text 10 2 (s % 60))))
 
 -- the text of a moment: its day, `T` and its time
-abbrev pub moment_text : ℕ × ℕ → List ℕ
+abbrev pub moment_text : Moment → List ℕ
 moment_text m = day_text m.0 ++ (84 ∷ time_text m.1)

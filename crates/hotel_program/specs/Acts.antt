@@ -5,7 +5,8 @@ use Rattle.std.specs.Fmt.{decimal}
 use Rattle.std.specs.Io.KnownBytes.{Appends}
 use Rattle.rand_core.specs.Stream.{Stream}
 use Rattle.keycard_rules.specs.declared.issued.Issued.{Ghosts as IssuedOf}
-use Rattle.hotel_core.specs.Books.Happens.{Happens, Passes}
+use Rattle.hotel_core.specs.Books.Happens.{Happens}
+use Rattle.hotel_core.specs.Books.Passes.{Passes}
 use Rattle.hotel_model.specs.Rows.{Rows}
 use Rattle.hotel_model.specs.declared.command.Command.{Command}
 use Rattle.hotel_model.specs.declared.reply.Reply.{Reply}

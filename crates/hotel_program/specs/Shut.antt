@@ -5,7 +5,7 @@ use Rattle.std.specs.Io.KnownBytes.{Appends}
 use Rattle.rand_core.specs.Stream.{Stream}
 use Rattle.keycard_rules.specs.declared.issued.Issued.{Ghosts as IssuedOf}
 use Rattle.hotel_model.specs.{declared.reply.Refusal.Refusal, History.History, Rows.Rows}
-use Rattle.hotel_core.specs.{Books.Happens.Passes, Books.Happens.has_answer, Books.Shut.BeganShut}
+use Rattle.hotel_core.specs.{Books.Passes.Passes, Books.Happens.has_answer, Books.Shut.BeganShut}
 use Rattle.hotel_http.specs.declared.serve.ServeFault.TheVariants.{Write}
 use Rattle.hotel_program.specs.Script.WholeScript.{LineHappens, answers_to}
 use Rattle.hotel_program.specs.Connections.{ConnectionCame, ConnectionEnd, ConnectionHappens}

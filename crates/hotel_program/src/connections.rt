@@ -1,7 +1,8 @@
 //! Connections that are answered one after the other.
 
 ghost use Rattle.std.specs.Prelude.{◌≡◌, ◌∷◌, [], List, Result, Some, length};
-ghost use Rattle.hotel_core.specs.Books.Happens.{Happens, Passes};
+ghost use Rattle.hotel_core.specs.Books.Happens.{Happens};
+ghost use Rattle.hotel_core.specs.Books.Passes.{Passes};
 ghost use Rattle.hotel_lists.specs.Calls.{NoneForgotten};
 ghost use Rattle.hotel_http.specs.declared.serve.Served.{Served};
 ghost use Rattle.hotel_http.specs.declared.serve.ServeFault.{ServeFault};

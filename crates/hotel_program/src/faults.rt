@@ -1,9 +1,8 @@
 //! Faults of the program and of its calls: what is said of each, where it is said, and its exit status.
 
-ghost use Rattle.std.specs.Prelude.{◌≡◌, ◌≤◌, length, true, OnOk, OnErr};
-ghost use Rattle.std.specs.Io.KnownBytes.{Appends};
+ghost use Rattle.std.specs.Prelude.{◌≡◌, ◌≤◌, length};
 ghost use Rattle.hotel_lists.specs.Calls.{NoneForgotten};
-ghost use Rattle.hotel_lists.specs.Bytes.{AppendsFront};
+ghost use Rattle.hotel_lists.specs.Bytes.{Writes};
 ghost use Rattle.hotel_program.specs.Faults.{table_text, fault_text, fault_status, end_status, Tells};
 
 use crate::statuses::{BROKEN, FAILED, USAGE};
@@ -124,10 +123,8 @@ fn write_fault<W: Write>(
     fault: &Fault,
     calls: &mut IoCalls,
 ) -> Result<(), WriteFailed>
-    ensures ok { OnOk result (Appends (W.contents writer.old) (W.contents writer.new) (fault_text fault.now)) }
-    ensures err { OnErr result (AppendsFront (W.contents writer.old) (W.contents writer.new) (fault_text fault.now)) }
-    ensures failed { OnErr result (calls.new.write_failed ≡ true) }
-    ensures calls { NoneForgotten calls.old calls.new }
+    ensures writes { Writes (W.contents writer.old) (W.contents writer.new) (fault_text fault.now)
+        calls.old calls.new result }
 {
     write_bytes(writer, fault_text(fault).as_bytes(), calls)
 }

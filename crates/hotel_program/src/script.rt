@@ -1,7 +1,7 @@
 //! Scripts: lines of commands and lists, each answered before the next.
 
-ghost use Rattle.std.specs.Prelude.{◌≡◌, ℕ, true, List, ◌≤◌, ◌<◌, length, take, IfSome, IfOk, IsErrOf, OnOk, OnErr};
-ghost use Rattle.hotel_lists.specs.Calls.{NoneForgotten};
+ghost use Rattle.std.specs.Prelude.{◌≡◌, ℕ, List, ◌≤◌, ◌<◌, length, take, IfSome, IfOk, IsErrOf, OnOk, OnErr};
+ghost use Rattle.hotel_lists.specs.Calls.{CountsWrites};
 ghost use Rattle.hotel_program.specs.declared.script.ScriptFault.TheVariants.{TooLarge};
 ghost use Rattle.hotel_program.specs.Script.Lines.{answered_lines};
 ghost use Rattle.hotel_program.specs.Script.WholeScript.{IfCut, IfUnbegun, IsInput, NothingBegun, fault_of};
@@ -79,8 +79,7 @@ fn answer_lines<W: Write, B: Walks, R: Rng>(
         × LinesCut B.Issued B.rows R.stream W.contents (books.old, source.old, writer.old)
         (take done (answered_lines script.now)) (books.new, source.new, writer.new)) }
     ensures sure { IfUnbegun result ⊥ }
-    ensures failed { OnErr result (calls.new.write_failed ≡ true) }
-    ensures calls { NoneForgotten calls.old calls.new }
+    ensures calls { CountsWrites calls.old calls.new (OnErr result) }
 {
     let mut rest = script;
     let mut done = 0;

@@ -1,9 +1,7 @@
 //! Connections on a port of the loopback address.
 
-ghost use Rattle.std.specs.Prelude.{◌≡◌, ◌≢◌, ◌++◌, codes, true, OnOk, OnErr};
-ghost use Rattle.std.specs.Io.KnownBytes.{Appends};
-ghost use Rattle.hotel_lists.specs.Bytes.{AppendsFront};
-ghost use Rattle.hotel_lists.specs.Calls.{NoneForgotten};
+ghost use Rattle.std.specs.Prelude.{◌≢◌, ◌++◌, codes};
+ghost use Rattle.hotel_lists.specs.Bytes.{Writes};
 ghost use Rattle.hotel_program.specs.Acts.{ServeEnds, listening_text};
 
 use crate::connections::serve_connections;
@@ -22,12 +20,8 @@ fn write_named<W: Write>(
     name: &[u8],
     calls: &mut IoCalls,
 ) -> Result<(), WriteFailed>
-    ensures ok { OnOk result (Appends (W.contents writer.old) (W.contents writer.new)
-        (text.now ++ name.now ++ codes "\n")) }
-    ensures err { OnErr result (AppendsFront (W.contents writer.old) (W.contents writer.new)
-        (text.now ++ name.now ++ codes "\n")) }
-    ensures failed { OnErr result (calls.new.write_failed ≡ true) }
-    ensures calls { NoneForgotten calls.old calls.new }
+    ensures writes { Writes (W.contents writer.old) (W.contents writer.new) (text.now ++ name.now ++ codes "\n")
+        calls.old calls.new result }
 {
     let parts = [text, name, b"\n".as_slice()];
     write_parts(writer, &parts, calls)
@@ -39,10 +33,8 @@ fn write_listening<W: Write>(
     port: u16,
     calls: &mut IoCalls,
 ) -> Result<(), WriteFailed>
-    ensures ok { OnOk result (Appends (W.contents writer.old) (W.contents writer.new) (listening_text port)) }
-    ensures err { OnErr result (AppendsFront (W.contents writer.old) (W.contents writer.new) (listening_text port)) }
-    ensures failed { OnErr result (calls.new.write_failed ≡ true) }
-    ensures calls { NoneForgotten calls.old calls.new }
+    ensures writes { Writes (W.contents writer.old) (W.contents writer.new) (listening_text port)
+        calls.old calls.new result }
 {
     let mut buffer = itoa::Buffer::new();
     let number = buffer.format(port).as_bytes();

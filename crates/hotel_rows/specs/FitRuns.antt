@@ -7,7 +7,7 @@ use Rattle.std.specs.BTreeMap.{is_at}
 use Rattle.keycard_rules.specs.declared.numbers.TheConstants.{LAST_FIT, LAST_NUMBER}
 use Rattle.hotel_model.specs.declared.rows.FitRow.{FitRow}
 use Rattle.hotel_model.specs.Words.{said_of, pair_cmp}
-use Rattle.hotel_model.specs.Rows.{at_number, fits_at}
+use Rattle.hotel_model.specs.Rows.{PlaceKey, at_number, fits_at}
 use Rattle.hotel_rows.specs.declared.damage.fit_runs.FitRun.{FitRun}
 use Rattle.hotel_rows.specs.declared.damage.fit_runs.RoomFits.{RoomFits}
 use Rattle.hotel_rows.specs.declared.stored.PlainFit.{PlainFit}
@@ -61,15 +61,15 @@ abbrev pub FitRunsOf : List (ℕ × FitRun) → List PlainFit → Type 0
 FitRunsOf runs plain_rows = (room : ℕ) → at_number runs room ≡ fit_run_of (fits_at (map fit_entry plain_rows) room)
 
 -- the room of a fit, and the place of the code that it begins with
-abbrev pub begin_key : PlainFit → ℕ × ℕ
+abbrev pub begin_key : PlainFit → PlaceKey
 begin_key plain = (number_of plain.room, number_of plain.place)
 
 -- a fit of the room begins with the code at this place
-abbrev pub begins_in : List ((ℕ × ℕ) × ℕ) → ℕ → ℕ → Bool
+abbrev pub begins_in : List (PlaceKey × ℕ) → ℕ → ℕ → Bool
 begins_in begins room place = is_some (lookup (is_at (pair_cmp (room, place))) begins)
 
 -- the map has the rooms and places of the codes that fits begin with
-abbrev pub BeginsOf : List ((ℕ × ℕ) × ℕ) → List PlainFit → Type 0
+abbrev pub BeginsOf : List (PlaceKey × ℕ) → List PlainFit → Type 0
 BeginsOf begins plain_rows =
     (room place : ℕ) → begins_in begins room place
     ≡ list_any (λ (f : FitRow). f.place == place) (fits_at (map fit_entry plain_rows) room)

@@ -4,15 +4,8 @@ use Rattle.keycard_rules.specs.Note.{Note}
 use Rattle.hotel_model.specs.declared.rows.RoomRow.{RoomRow}
 use Rattle.hotel_model.specs.declared.rows.FitRow.{FitRow}
 use Rattle.hotel_model.specs.Words.{said_of}
-use Rattle.hotel_model.specs.Rows.{Rows, fits_at, last_fit}
+use Rattle.hotel_model.specs.Rows.{Rows, NoteKey, FitKey, fits_at, last_fit}
 use Rattle.hotel_model.specs.Refits.{fit_row}
-
--- a room, with the number of one of its fits, and with that of one of its notes among all of them
-abbrev pub FitKey : Type 0
-FitKey = ℕ × ℕ
-
-abbrev pub NoteKey : Type 0
-NoteKey = ℕ × ℕ
 
 -- the fits of rooms
 abbrev pub FitEntries : Type 0

@@ -4,7 +4,7 @@ use Rattle.std.specs.Prelude.{suc, if◌then◌else◌}
 use Rattle.std.specs.Ordering.{nat_cmp}
 use Rattle.keycard_rules.specs.declared.numbers.TheConstants.{LAST_NUMBER}
 use Rattle.hotel_model.specs.SoundRooms.{are_in_order, count_up}
-use Rattle.hotel_model.specs.Rows.{at_number}
+use Rattle.hotel_model.specs.Rows.{NoteKey, FitKey, at_number}
 use Rattle.hotel_rows.specs.declared.stored.PlainRoom.{PlainRoom}
 use Rattle.hotel_rows.specs.declared.stored.PlainStay.{PlainStay}
 use Rattle.hotel_rows.specs.declared.stored.PlainCode.{PlainCode}
@@ -12,7 +12,6 @@ use Rattle.hotel_rows.specs.declared.stored.PlainCard.{PlainCard}
 use Rattle.hotel_rows.specs.declared.stored.PlainNote.{PlainNote}
 use Rattle.hotel_rows.specs.declared.stored.PlainFit.{PlainFit}
 use Rattle.hotel_rows.specs.Stored.{number_of}
-use Rattle.hotel_rows.specs.Joined.{FitKey, NoteKey}
 
 abbrev pub room_key : PlainRoom → ℕ
 room_key plain = number_of plain.room
@@ -31,6 +30,10 @@ note_key plain = (number_of plain.room, number_of plain.n)
 
 abbrev pub fit_key : PlainFit → FitKey
 fit_key plain = (number_of plain.room, number_of plain.fit)
+
+-- the codes of a link: the old one, and the new one
+abbrev pub LinkKey : Type 0
+LinkKey = ℕ × ℕ
 
 -- the code that a card brought
 abbrev pub new_code_of : PlainCard → ℕ

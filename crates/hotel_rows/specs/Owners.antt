@@ -6,6 +6,7 @@ use Rattle.keycard_rules.specs.declared.card.Link.{Link}
 use Rattle.hotel_model.specs.Words.{pair_cmp, is_that}
 use Rattle.hotel_model.specs.Cards.{same_link}
 use Rattle.hotel_rows.specs.declared.stored.PlainCard.{PlainCard}
+use Rattle.hotel_rows.specs.Keys.{LinkKey}
 use Rattle.hotel_rows.specs.Stored.{number_of, link_row}
 
 -- the party of the first card of a link
@@ -14,7 +15,7 @@ owner_in [] link = None
 owner_in (c ∷ cs) link = if same_link (link_row c) link then Some (number_of c.party) else owner_in cs link
 
 -- the map has the party of each link
-abbrev pub OwnersOf : List ((ℕ × ℕ) × ℕ) → List PlainCard → Type 0
+abbrev pub OwnersOf : List (LinkKey × ℕ) → List PlainCard → Type 0
 OwnersOf owners plain_rows = (old new : ℕ) → lookup (is_at (pair_cmp (old, new))) owners ≡ owner_in plain_rows
     (record { old_code = old; new_code = new })
 

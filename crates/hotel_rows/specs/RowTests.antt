@@ -15,7 +15,7 @@ use Rattle.hotel_nights.specs.Guests.{is_guest}
 use Rattle.hotel_model.specs.declared.rows.RoomRow.{RoomRow}
 use Rattle.hotel_model.specs.declared.rows.CodeRow.{CodeRow}
 use Rattle.hotel_model.specs.Words.{said_of}
-use Rattle.hotel_model.specs.Rows.{Rows, has_kind, at_number, fits_at, begins_fit, room_is}
+use Rattle.hotel_model.specs.Rows.{Rows, InsideKey, has_kind, at_number, fits_at, begins_fit, room_is}
 use Rattle.hotel_model.specs.Stays.{room_of_state}
 use Rattle.hotel_model.specs.SoundRooms.{is_home_of, is_day}
 use Rattle.hotel_model.specs.SoundStays.{has_party}
@@ -162,7 +162,7 @@ links_hold s =
 
 -- ---- inside
 
-abbrev pub inside_fits : Rows → ℕ × ℕ → Bool
+abbrev pub inside_fits : Rows → InsideKey → Bool
 inside_fits rows e = room_is rows e.0 (λ row. card_is rows e.1 (fits_inside rows e.0 row))
 
 -- ---- note

@@ -13,7 +13,7 @@ use Rattle.hotel_model.specs.declared.rows.CodeRow.{CodeRow}
 use Rattle.hotel_model.specs.declared.rows.RoomRow.{RoomRow}
 use Rattle.hotel_model.specs.declared.rows.FitRow.{FitRow}
 use Rattle.hotel_model.specs.Words.{said_of}
-use Rattle.hotel_model.specs.Rows.{Rows}
+use Rattle.hotel_model.specs.Rows.{Rows, InsideKey, NoteKey, FitKey}
 use Rattle.hotel_rows.specs.declared.stored.PlainKind.{PlainKind}
 use Rattle.hotel_rows.specs.declared.stored.PlainRoom.{PlainRoom}
 use Rattle.hotel_rows.specs.declared.stored.PlainStay.{PlainStay}
@@ -23,7 +23,7 @@ use Rattle.hotel_rows.specs.declared.stored.PlainInside.{PlainInside}
 use Rattle.hotel_rows.specs.declared.stored.PlainNote.{PlainNote}
 use Rattle.hotel_rows.specs.declared.stored.PlainFit.{PlainFit}
 use Rattle.hotel_rows.specs.declared.stored.Stored.{Stored}
-use Rattle.hotel_rows.specs.Joined.{with_fit, under_fit, FitKey, NoteKey, FitEntries}
+use Rattle.hotel_rows.specs.Joined.{with_fit, under_fit, FitEntries}
 
 -- A stored number; one below 0 is read as a number that no rule takes.
 abbrev pub number_of : ℤ → ℕ
@@ -121,7 +121,7 @@ code_entry plain = (number_of plain.code, code_row plain)
 abbrev pub card_entry : PlainCard → ℕ × Card
 card_entry plain = (number_of plain.number, card_row plain)
 
-abbrev pub inside_pair : PlainInside → ℕ × ℕ
+abbrev pub inside_pair : PlainInside → InsideKey
 inside_pair plain = (number_of plain.room, number_of plain.card)
 
 abbrev pub note_entry : PlainNote → NoteKey × Note

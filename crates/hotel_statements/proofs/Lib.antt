@@ -5,6 +5,7 @@ mod Keys
 mod Found
 mod Keeps
 mod Unread
+mod LookedInTurn
 mod Looked
 pub mod Since
 mod Writing

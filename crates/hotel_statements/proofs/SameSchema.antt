@@ -26,7 +26,7 @@ use Rattle.sqlite_schema.specs.declared.schema.Stamps.{Stamps}
 use Rattle.sqlite_schema.specs.declared.schema.Table.{Table}
 use Rattle.sqlite_schema.specs.declared.schema.Index.{Index}
 use Rattle.sqlite_schema.specs.declared.schema.Schema.{Schema}
-use Rattle.hotel_model.proofs.OfTables.Tests.{and_true, eq_from}
+use Rattle.hotel_model.proofs.OfTables.Tests.{and_true, eight_true, eq_from}
 use Rattle.hotel_statements.specs.Schema.{first_schema, desk_schema}
 use Rattle.hotel_statements.specs.SameSchema as spec
 
@@ -112,38 +112,26 @@ order_is a b e = λ i. record { digits = eq_from a.digits b.digits e i }
 
 column_is : (a b : Column) → spec.same_column a b ≡ true → a ≡ b
 column_is a b e =
-    let p7 = and_true _ _ e in
-    let p6 = and_true _ _ p7.0 in
-    let p5 = and_true _ _ p6.0 in
-    let p4 = and_true _ _ p5.0 in
-    let p3 = and_true _ _ p4.0 in
-    let p2 = and_true _ _ p3.0 in
-    let p1 = and_true _ _ p2.0 in
+    let p = eight_true _ _ _ _ _ _ _ _ e in
     λ i. record {
-      name = bytes_are a.name b.name p1.0 i;
-      kind = kind_is a.kind b.kind p1.1 i;
-      is_strict = flag_is a.is_strict b.is_strict p2.1 i;
-      not_null = flag_is a.not_null b.not_null p3.1 i;
-      default = (null_is a.default p4.1 ∙ sym (null_is b.default p5.1)) i;
-      collation = (binary_is a.collation p6.1 ∙ sym (binary_is b.collation p7.1)) i;
+      name = bytes_are a.name b.name p.0 i;
+      kind = kind_is a.kind b.kind p.1 i;
+      is_strict = flag_is a.is_strict b.is_strict p.2 i;
+      not_null = flag_is a.not_null b.not_null p.3 i;
+      default = (null_is a.default p.4 ∙ sym (null_is b.default p.5)) i;
+      collation = (binary_is a.collation p.6 ∙ sym (binary_is b.collation p.7)) i;
     }
 
 reference_is : (a b : Reference) → spec.same_reference a b ≡ true → a ≡ b
 reference_is a b e =
-    let p7 = and_true _ _ e in
-    let p6 = and_true _ _ p7.0 in
-    let p5 = and_true _ _ p6.0 in
-    let p4 = and_true _ _ p5.0 in
-    let p3 = and_true _ _ p4.0 in
-    let p2 = and_true _ _ p3.0 in
-    let p1 = and_true _ _ p2.0 in
+    let p = eight_true _ _ _ _ _ _ _ _ e in
     λ i. record {
-      columns = bytes_are a.columns b.columns p1.0 i;
-      parent = bytes_are a.parent b.parent p1.1 i;
-      parent_columns = all_is bytes_eq bytes_are a.parent_columns b.parent_columns p2.1 i;
-      on_delete = (action_is a.on_delete p3.1 ∙ sym (action_is b.on_delete p4.1)) i;
-      on_update = (action_is a.on_update p5.1 ∙ sym (action_is b.on_update p6.1)) i;
-      is_deferred = flag_is a.is_deferred b.is_deferred p7.1 i;
+      columns = bytes_are a.columns b.columns p.0 i;
+      parent = bytes_are a.parent b.parent p.1 i;
+      parent_columns = all_is bytes_eq bytes_are a.parent_columns b.parent_columns p.2 i;
+      on_delete = (action_is a.on_delete p.3 ∙ sym (action_is b.on_delete p.4)) i;
+      on_update = (action_is a.on_update p.5 ∙ sym (action_is b.on_update p.6)) i;
+      is_deferred = flag_is a.is_deferred b.is_deferred p.7 i;
     }
 
 table_is : (a b : Table) → spec.same_table a b ≡ true → a ≡ b

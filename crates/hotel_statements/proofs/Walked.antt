@@ -26,7 +26,8 @@ use Rattle.keycard_rules.specs.declared.issued.LookFault.{LookFault}
 use Rattle.keycard_rules.specs.declared.issued.LookFault.TheVariants as look
 use Rattle.hotel_core.specs.declared.books.walks.WalkFault.{WalkFault}
 use Rattle.hotel_core.specs.declared.books.walks.WalkFault.TheVariants as why
-use Rattle.hotel_core.specs.Books.Walks.{Takes, TakesFront, Hands, failure_of}
+use Rattle.hotel_core.specs.Books.Passes.{Passes}
+use Rattle.hotel_core.specs.Books.Walks.{TakesFront, Hands, failure_of}
 use Rattle.hotel_core.proofs.OfCode.Walking.{one_more, all_taken}
 use Rattle.hotel_statements.specs.Schema.{desk_schema}
 use Rattle.hotel_statements.specs.Books.{IsDesk, IsKept, IsBooks, KeepsRows}
@@ -113,7 +114,7 @@ pub record IsUnderWay {S A K : Type 0} (g : Ghosts S) (of : Row → A) (after : 
   pub unchanged : HasCleanDisk (state g now) → IsUnchanged (state g old) (state g now)
   pub taken : List A
   pub counted : length taken ≡ count
-  pub takes : Takes after taken sink end
+  pub takes : Passes after sink taken end
   pub given : IsKept (state g now) → (rows : List Row) × HasGiven g text params now rows × (taken ≡ map of rows)
 
 stays_after : {R : Type 0} (old new : State) (result : Result R Error) → OnOk result (IsUnchanged old new) → IfErr result (λ e. Fails old new ⊥ e ⊎ IsUnchanged old new) → Stays old new
@@ -285,8 +286,8 @@ module _ {S A K : Type 0} (g : Ghosts S) (of : Row → A) (IsReadable : Row → 
           go : (w : WalkFault) → HandsOne after after_stop value now end (Err w)
               → (handed : List A) × Hands after after_stop handed sink end (Err w) × (HasCleanDisk (state g new.conn.now) → handed ≡ rows)
           go why.Stopped stop = (so_far.taken ++ value ∷ rest.0, (so_far.taken, value, rest.0, refl, now, so_far.takes, stop), are)
-          go why.Memory same = (so_far.taken ++ value ∷ rest.0, (so_far.taken, value ∷ rest.0, refl, subst (Takes after so_far.taken sink) (sym same) so_far.takes), are)
-          go why.Store same = (so_far.taken ++ value ∷ rest.0, (so_far.taken, value ∷ rest.0, refl, subst (Takes after so_far.taken sink) (sym same) so_far.takes), are)
+          go why.Memory same = (so_far.taken ++ value ∷ rest.0, (so_far.taken, value ∷ rest.0, refl, subst (Passes after sink so_far.taken) (sym same) so_far.takes), are)
+          go why.Store same = (so_far.taken ++ value ∷ rest.0, (so_far.taken, value ∷ rest.0, refl, subst (Passes after sink so_far.taken) (sym same) so_far.takes), are)
 
     -- ---- no further row
 

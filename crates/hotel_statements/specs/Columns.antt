@@ -12,9 +12,9 @@ use Rattle.hotel_nights.specs.declared.stay.StayState.TheVariants.{Booked, InHou
 use Rattle.hotel_model.specs.declared.rows.RoomRow.{RoomRow}
 use Rattle.hotel_model.specs.declared.rows.CodeRow.{CodeRow}
 use Rattle.hotel_model.specs.declared.rows.FitRow.{FitRow}
+use Rattle.hotel_model.specs.Rows.{InsideKey, NoteKey, FitKey}
 use Rattle.hotel_model.specs.Stays.{room_of_state}
 use Rattle.hotel_rows.specs.Stored.{state_of, act_of}
-use Rattle.hotel_rows.specs.Joined.{FitKey, NoteKey}
 use Rattle.hotel_statements.specs.Values.{number_of, option_of, text_of, int, maybe_int}
 
 -- An integer key stands first in a stored row, and nothing in its own column; `.._columns` are the columns as they are
@@ -138,10 +138,10 @@ card_written e = int e.0 ∷ int e.1.party ∷ int e.1.link.old_code ∷ int e.1
 abbrev pub inside_columns : Row → Row
 inside_columns r = column r 1 ∷ column r 2 ∷ []
 
-abbrev pub inside_of : Row → ℕ × ℕ
+abbrev pub inside_of : Row → InsideKey
 inside_of v = (number_of (column v 0), number_of (column v 1))
 
-abbrev pub inside_written : ℕ × ℕ → Row
+abbrev pub inside_written : InsideKey → Row
 inside_written e = int e.0 ∷ int e.1 ∷ []
 
 -- ---- note

@@ -17,6 +17,7 @@ use Rattle.hotel_model.specs.declared.change.Change.TheVariants.{Begin, DayTo, K
 use Rattle.hotel_model.specs.declared.change.Change.TheVariants.{Issue, Spare, CheckedOut, Refit, Noted}
 use Rattle.hotel_model.specs.Stays.{room_of_state}
 use Rattle.hotel_model.specs.Refits.{fit_row}
+use Rattle.hotel_model.specs.Refinement.Change.{new_row}
 use Rattle.sqlite.specs.Order.{Row}
 use Rattle.sqlite.specs.State.{HasCleanDisk, ExecutesInside}
 use Rattle.sqlite.specs.Held as held
@@ -113,18 +114,7 @@ issues_card card room leaves codes =
 
 abbrev pub opens_room : ℕ → List ℕ → ℕ → List Statement
 opens_room room kind code =
-    adds_room (record {
-      room = room;
-      kind = kind;
-      lock_place = 0;
-      codes = 1;
-      secured = false;
-      party = None;
-      notes = 0;
-      fit = 1;
-      before = 0;
-    })
-    ∷ adds_code code (record { room = room; place = 0 }) ∷ adds_fit (fit_row room 1 0 0) ∷ []
+    adds_room (new_row room kind) ∷ adds_code code (record { room = room; place = 0 }) ∷ adds_fit (fit_row room 1 0 0) ∷ []
 
 abbrev pub ends_stay : ℕ → ℕ → List Statement
 ends_stay party room = sets_state party state.Done ∷ frees_room room ∷ []

@@ -14,8 +14,8 @@ use Rattle.sqlite_keyed.specs.Lists.{sort_by}
 use Rattle.keycard_rules.specs.Note.{Note}
 use Rattle.hotel_model.specs.declared.rows.RoomRow.{RoomRow}
 use Rattle.hotel_model.specs.Words.{pair_cmp, said_of}
-use Rattle.hotel_model.specs.Rows.{Rows, at_number}
-use Rattle.hotel_rows.specs.Joined.{with_fit, under_fit, joined, first_fits, NoteKey, FitEntries}
+use Rattle.hotel_model.specs.Rows.{Rows, NoteKey, at_number}
+use Rattle.hotel_rows.specs.Joined.{with_fit, under_fit, joined, first_fits, FitEntries}
 use Rattle.hotel_statements.specs.declared.version.Version.{Version}
 use Rattle.hotel_statements.specs.declared.version.Version.TheVariants.{First, Second}
 use Rattle.hotel_statements.specs.Trees.{meta_tree, kind_tree, room_tree, stay_tree, code_tree, card_tree, inside_tree}

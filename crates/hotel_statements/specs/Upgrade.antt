@@ -8,8 +8,9 @@ use Rattle.sqlite.specs.Effect.{IsDatabase}
 use Rattle.sqlite.specs.State.{State, HasCleanDisk, KeepsCommit, Survives}
 use Rattle.sqlite.specs.declared.error.Error.{Error}
 use Rattle.hotel_model.specs.declared.rows.FitRow.{FitRow}
+use Rattle.hotel_model.specs.Rows.{FitKey}
 use Rattle.hotel_model.specs.Refits.{fit_row}
-use Rattle.hotel_rows.specs.Joined.{FitKey, FitEntries}
+use Rattle.hotel_rows.specs.Joined.{FitEntries}
 use Rattle.hotel_statements.specs.declared.version.Version.TheVariants.{First}
 use Rattle.hotel_statements.specs.Trees.{fit_tree}
 use Rattle.hotel_statements.specs.Schema.{first_schema, desk_schema}

@@ -23,7 +23,7 @@ use Rattle.hotel_model.specs.declared.change.Change.TheVariants as change
 use Rattle.hotel_model.specs.Rows.{Rows, has_kind}
 use Rattle.hotel_model.specs.Stays.{in_state}
 use Rattle.hotel_model.specs.{Refinement.Lookups.stay_at, Rows.rooms_of_kind}
-use Rattle.hotel_model.specs.Refinement.Change.{made, freed_by}
+use Rattle.hotel_model.specs.Refinement.Change.{made, new_row, freed_by}
 use Rattle.hotel_model.specs.Refinement.Fits.{HasItsRows, Fits}
 use Rattle.hotel_core.specs.KindRooms.{is_there, rooms_in}
 use Rattle.hotel_core.specs.NightIndex.{counted, CountsNights}
@@ -37,7 +37,7 @@ use Rattle.hotel_core.proofs.OfNights.RoomsByKind.{few_rooms, known_changed, kno
 use Rattle.hotel_model.proofs.Starts.StartCodes.{orders}
 use Rattle.hotel_model.proofs.Starts.StartNumbers.{stays_fit_at_start}
 use Rattle.hotel_tables.specs.TableBooks.{IsCounted}
-use Rattle.hotel_tables.proofs.MayMake.{new_row, refitted}
+use Rattle.hotel_tables.proofs.MayMake.{refitted}
 use Rattle.hotel_tables.specs.Counted.{booked_by, ended_by, taken_by, CountsMore, CountsLess, KeepsRooms, HasItsKind}
 use Rattle.hotel_tables.specs.Counted.{CountsItsRoom}
 

@@ -1,3 +1,4 @@
+mod CountedCalls
 mod EmptyDesk
 mod OverBooks
 mod MadeDesk

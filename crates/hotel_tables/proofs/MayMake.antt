@@ -10,7 +10,7 @@ use Rattle.hotel_model.specs.declared.change.Change.TheVariants as change
 use Rattle.hotel_model.specs.declared.change.InsideMove.{InsideMove}
 use Rattle.hotel_model.specs.Rows.{notes_at}
 use Rattle.hotel_model.specs.Refits.{fit_row}
-use Rattle.hotel_model.specs.Refinement.Change.{room_changed, codes_of, notes_in, before_in}
+use Rattle.hotel_model.specs.Refinement.Change.{room_changed, new_row, codes_of, notes_in, before_in}
 use Rattle.hotel_model.specs.Refinement.Fits.{Fits}
 use Rattle.hotel_core.proofs.Names.{nat_tests, match_ordering, insert_entry, is_at, lookup, list_all, Note, Rows}
 use Rattle.hotel_core.proofs.Names.{said_of, when, pair_cmp, at_number, fit_at, fits_at, room_at, of_fit, note_at}
@@ -153,20 +153,6 @@ module _ (t : Rows) (s : IsSound t) (room : ℕ) (row : RoomRow) (there : at_num
       many r same = ap (λ z. length (notes_at t.notes z)) same ∙ notes_counted t s room row there
 
 -- ---- a new room, and a new lock
-
--- the row of a new room
-abbrev pub new_row : ℕ → List ℕ → RoomRow
-new_row room kind = record {
-  room = room;
-  kind = kind;
-  lock_place = 0;
-  codes = 1;
-  secured = false;
-  party = None;
-  notes = 0;
-  fit = 1;
-  before = 0;
-}
 
 new_room : (room : ℕ) (kind : List ℕ) (code : ℕ) (rows : Rows) → Fits (change.Room room kind code) rows
     → IsNewRoom room rows

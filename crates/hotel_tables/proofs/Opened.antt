@@ -35,7 +35,8 @@ use Rattle.hotel_model.specs.SoundRooms.{are_in_order}
 use Rattle.hotel_model.proofs.OfTables.Pairs.{pair_cmp_total}
 use Rattle.hotel_model.proofs.OfTables.RowTests.{both}
 use Rattle.hotel_model.proofs.OfTables.StayCounts.{count_first}
-use Rattle.hotel_model.proofs.OfTables.Tests.{and_true}
+use Rattle.hotel_model.proofs.OfTables.KeysInOrder.{ordered}
+use Rattle.hotel_model.proofs.OfTables.Tests.{and_true, eight_true}
 use Rattle.hotel_statements.specs.declared.plain_rows.PlainMeta.{PlainMeta}
 use Rattle.hotel_statements.specs.declared.plain_rows.NumberedInside.{NumberedInside}
 use Rattle.hotel_rows.specs.declared.stored.PlainKind.{PlainKind}
@@ -297,6 +298,33 @@ are_fits Second rooms (Some fits) db are here natural up =
 
 -- ---- the whole of the tables
 
+-- No number of any table is below 0.
+pub record AreNatural (s : Stored) : Type 0 where
+  pub day : may_be_natural s.day ≡ true
+  pub rooms : list_all room_natural s.rooms.items ≡ true
+  pub stays : list_all stay_natural s.stays.items ≡ true
+  pub codes : list_all code_natural s.codes.items ≡ true
+  pub cards : list_all card_natural s.cards.items ≡ true
+  pub inside : list_all inside_natural s.inside.items ≡ true
+  pub notes : list_all note_natural s.notes.items ≡ true
+  pub fits : fits_natural s.fits ≡ true
+
+pub naturals : (s : Stored) → all_natural s ≡ true → AreNatural s
+naturals s natural =
+    let n = eight_true (may_be_natural s.day) (list_all room_natural s.rooms.items)
+    (list_all stay_natural s.stays.items) (list_all code_natural s.codes.items) (list_all card_natural s.cards.items)
+    (list_all inside_natural s.inside.items) (list_all note_natural s.notes.items) (fits_natural s.fits) natural in
+    record {
+      day = n.0;
+      rooms = n.1;
+      stays = n.2;
+      codes = n.3;
+      cards = n.4;
+      inside = n.5;
+      notes = n.6;
+      fits = n.7;
+    }
+
 pub record AreDesk (version : Version) (s : Stored) (db : Trees) : Type 0 where
   pub tables : AreTablesOf version db
   pub rooms : bare_rooms_in db ≡ map room_entry s.rooms.items
@@ -305,20 +333,8 @@ pub record AreDesk (version : Version) (s : Stored) (db : Trees) : Type 0 where
 pub are_desk : {version : Version} (s : Stored) (db : Trees) → AreStored version s db → AreApartInside db
     → keys_in_order (rows_of s) ≡ true → columns_fit s ≡ true → all_natural s ≡ true → AreDesk version s db
 are_desk {version} s db a ids keys columns natural =
-    let k7 = and_true _ (are_in_order pair_cmp (keys_of (rows_of s).fits)) keys in
-    let k6 = and_true _ (are_in_order pair_cmp (keys_of (rows_of s).notes)) k7.0 in
-    let k5 = and_true _ (are_in_order pair_cmp (rows_of s).inside) k6.0 in
-    let k4 = and_true _ (are_in_order nat_cmp (keys_of (rows_of s).cards)) k5.0 in
-    let k3 = and_true _ (are_in_order nat_cmp (keys_of (rows_of s).stays)) k4.0 in
-    let k2 = and_true _ (are_in_order nat_cmp (keys_of (rows_of s).codes)) k3.0 in
-    let k1 = and_true (are_in_order (slice_cmp nat_cmp) (rows_of s).kinds) (are_in_order nat_cmp (keys_of (rows_of s).rooms)) k2.0 in
-    let n7 = and_true _ (fits_natural s.fits) natural in
-    let n6 = and_true _ (list_all note_natural s.notes.items) n7.0 in
-    let n5 = and_true _ (list_all inside_natural s.inside.items) n6.0 in
-    let n4 = and_true _ (list_all card_natural s.cards.items) n5.0 in
-    let n3 = and_true _ (list_all code_natural s.codes.items) n4.0 in
-    let n2 = and_true _ (list_all stay_natural s.stays.items) n3.0 in
-    let n1 = and_true (may_be_natural s.day) (list_all room_natural s.rooms.items) n2.0 in
+    let k = ordered (rows_of s) keys in
+    let n = naturals s natural in
     let f2 = and_true _ (list_all damage.note_columns s.notes.items) columns in
     let f1 = and_true (list_all damage.room_columns s.rooms.items) (list_all damage.stay_columns s.stays.items) f2.0 in
     let plain : PlainMeta = record { id = pos 1; version = s.version; day = s.day } in
@@ -328,33 +344,33 @@ are_desk {version} s db a ids keys columns natural =
     let entry : PlainMeta → ℕ × (ℕ × Option ℕ) = λ l. (number_of l.id, (number_of l.version, option_map number_of l.day)) in
     let meta =
     read_back (by_key nat_cmp) (key_total nat_cmp_total) meta_columns meta_of meta_written meta_shown entry
-    (plain ∷ []) (db meta_tree) meta_plain (meta_good plain refl a.version_is n1.0, tt) (tt, tt) in
+    (plain ∷ []) (db meta_tree) meta_plain (meta_good plain refl a.version_is n.day, tt) (tt, tt) in
     let kind = read_back (slice_cmp nat_cmp) nat_list_cmp_total kind_columns kind_of kind_written kind_shown kind_text
     s.kinds.items (db kind_tree) a.kinds (all_kinds s.kinds.items)
-    (tested_order (slice_cmp nat_cmp) nat_list_cmp_total (map kind_text s.kinds.items) k1.0) in
+    (tested_order (slice_cmp nat_cmp) nat_list_cmp_total (map kind_text s.kinds.items) k.kinds) in
     let room = read_back (by_key nat_cmp) (key_total nat_cmp_total) room_columns room_of room_written room_shown
     room_entry s.rooms.items (db room_tree) a.rooms
-    (each_two room_natural damage.room_columns _ room_good s.rooms.items n1.1 f1.0)
+    (each_two room_natural damage.room_columns _ room_good s.rooms.items n.rooms f1.0)
     (rising nat_cmp_total room_entry s.rooms.items
-    (ap (are_in_order nat_cmp) (sym (keys_with_fit (fits_of s) (map room_entry s.rooms.items))) ∙ k1.1)) in
+    (ap (are_in_order nat_cmp) (sym (keys_with_fit (fits_of s) (map room_entry s.rooms.items))) ∙ k.rooms)) in
     let stay = read_back (by_key nat_cmp) (key_total nat_cmp_total) stay_columns stay_of stay_written stay_shown
     stay_entry s.stays.items (db stay_tree) a.stays
-    (each_two stay_natural damage.stay_columns _ stay_good s.stays.items n2.1 f1.1) (rising nat_cmp_total stay_entry s.stays.items k3.1) in
+    (each_two stay_natural damage.stay_columns _ stay_good s.stays.items n.stays f1.1) (rising nat_cmp_total stay_entry s.stays.items k.stays) in
     let code = read_back (by_key nat_cmp) (key_total nat_cmp_total) code_columns code_of code_written code_shown
     code_entry s.codes.items (db code_tree) a.codes
-    (each code_natural _ code_good s.codes.items n3.1) (rising nat_cmp_total code_entry s.codes.items k2.1) in
+    (each code_natural _ code_good s.codes.items n.codes) (rising nat_cmp_total code_entry s.codes.items k.codes) in
     let card = read_back (by_key nat_cmp) (key_total nat_cmp_total) card_columns card_of card_written card_shown
     card_entry s.cards.items (db card_tree) a.cards
-    (each card_natural _ card_good s.cards.items n4.1) (rising nat_cmp_total card_entry s.cards.items k4.1) in
+    (each card_natural _ card_good s.cards.items n.cards) (rising nat_cmp_total card_entry s.cards.items k.cards) in
     let inside = read_back pair_cmp pair_cmp_total inside_columns inside_of inside_written inside_shown inside_pair
     s.inside.items (db inside_tree) a.inside
-    (each inside_natural _ inside_good s.inside.items n5.1) (tested_order pair_cmp pair_cmp_total (map inside_pair s.inside.items) k5.1) in
+    (each inside_natural _ inside_good s.inside.items n.inside) (tested_order pair_cmp pair_cmp_total (map inside_pair s.inside.items) k.inside) in
     let note = read_back (by_key pair_cmp) (key_total pair_cmp_total) note_columns note_of note_written note_shown
     note_entry s.notes.items (db note_tree) a.notes
-    (each_two note_natural damage.note_columns _ note_good s.notes.items n6.1 f2.1)
+    (each_two note_natural damage.note_columns _ note_good s.notes.items n.notes f2.1)
     (rising pair_cmp_total note_entry s.notes.items
-    (ap (are_in_order pair_cmp) (sym (keys_under_fit (fits_of s) (map note_entry s.notes.items))) ∙ k6.1)) in
-    let fit : AreFits version db (fits_of s) = are_fits version s.rooms.items s.fits db a.fits room.1 n7.1 k7.1 in
+    (ap (are_in_order pair_cmp) (sym (keys_under_fit (fits_of s) (map note_entry s.notes.items))) ∙ k.notes)) in
+    let fit : AreFits version db (fits_of s) = are_fits version s.rooms.items s.fits db a.fits room.1 n.fits k.fits in
     let said : number_of s.version ≡ number_of_version version = ap number_of a.version_is in
     let metas : metas_in db ≡ (1, (number_of_version version, option_map number_of s.day)) ∷ [] =
     meta.1 ∙ ap (λ n. (1, (n, option_map number_of s.day)) ∷ []) said in

@@ -70,7 +70,7 @@ use Rattle.hotel_tables.specs.Opening.{all_natural}
 use Rattle.hotel_tables.specs.Reopening.{ReadUndamaged}
 use Rattle.hotel_statements.proofs.Keyed.{key_total}
 use Rattle.hotel_statements.proofs.Perm.{every_shuffled}
-use Rattle.hotel_tables.proofs.Opened.{are_desk, entries_of}
+use Rattle.hotel_tables.proofs.Opened.{are_desk, naturals, entries_of}
 use Rattle.hotel_statements.proofs.Answers.{fused}
 use Rattle.hotel_rows.proofs.OfJoined.{keys_with_fit, keys_under_fit}
 use Rattle.hotel_rows.proofs.OfDamage.Undamaged.{undamaged_is_sound}
@@ -305,13 +305,7 @@ fit_keys_rise rooms (Some fits) natural up first =
 keys_rise : {version : Version} (s : Stored) (db : Trees) → AreStored version s db
     → all_natural s ≡ true → keys_in_order (rows_of s) ≡ true
 keys_rise s db a natural =
-    let n7 = and_true _ (fits_natural s.fits) natural in
-    let n6 = and_true _ (list_all note_natural s.notes.items) n7.0 in
-    let n5 = and_true _ (list_all inside_natural s.inside.items) n6.0 in
-    let n4 = and_true _ (list_all card_natural s.cards.items) n5.0 in
-    let n3 = and_true _ (list_all code_natural s.codes.items) n4.0 in
-    let n2 = and_true _ (list_all stay_natural s.stays.items) n3.0 in
-    let n1 = and_true (may_be_natural s.day) (list_all room_natural s.rooms.items) n2.0 in
+    let n = naturals s natural in
     let r7 = and_true _ (fits_rise s.fits) a.rise in
     let r6 = and_true _ (are_in_order note_order s.notes.items) r7.0 in
     let r5 = and_true _ (are_in_order inside_order s.inside.items) r6.0 in
@@ -320,21 +314,21 @@ keys_rise s db a natural =
     let r2 = and_true _ (are_in_order stay_order s.stays.items) r3.0 in
     let r1 = and_true (are_in_order kind_order s.kinds.items) (are_in_order room_order s.rooms.items) r2.0 in
     let kinds = rise_by kind_order (slice_cmp nat_cmp) kind_text kind_natural (λ x y h k. refl) s.kinds.items (all_kinds s.kinds.items) r1.0 in
-    let rooms = entries_rise room_order nat_cmp room_entry room_natural (λ x y h k. same_order x.room y.room (of_room x h) (of_room y k)) s.rooms.items n1.1 r1.1 in
-    let stays = entries_rise stay_order nat_cmp stay_entry stay_natural (λ x y h k. same_order x.party y.party (of_stay x h) (of_stay y k)) s.stays.items n2.1 r2.1 in
-    let codes = entries_rise code_order nat_cmp code_entry code_natural (λ x y h k. same_order x.code y.code (of_code x h) (of_code y k)) s.codes.items n3.1 r3.1 in
-    let cards = entries_rise card_order nat_cmp card_entry card_natural (λ x y h k. same_order x.number y.number (of_card x h) (of_card y k)) s.cards.items n4.1 r4.1 in
+    let rooms = entries_rise room_order nat_cmp room_entry room_natural (λ x y h k. same_order x.room y.room (of_room x h) (of_room y k)) s.rooms.items n.rooms r1.1 in
+    let stays = entries_rise stay_order nat_cmp stay_entry stay_natural (λ x y h k. same_order x.party y.party (of_stay x h) (of_stay y k)) s.stays.items n.stays r2.1 in
+    let codes = entries_rise code_order nat_cmp code_entry code_natural (λ x y h k. same_order x.code y.code (of_code x h) (of_code y k)) s.codes.items n.codes r3.1 in
+    let cards = entries_rise card_order nat_cmp card_entry card_natural (λ x y h k. same_order x.number y.number (of_card x h) (of_card y k)) s.cards.items n.cards r4.1 in
     let inside = rise_by inside_order pair_cmp inside_pair inside_natural
     (λ x y h k. let p = and_true (is_natural x.room) (is_natural x.card) h in let q = and_true (is_natural y.room) (is_natural y.card) k in same_pairs x.room x.card y.room y.card p.0 p.1 q.0 q.1)
-    s.inside.items n5.1 r5.1 in
+    s.inside.items n.inside r5.1 in
     let notes = entries_rise note_order pair_cmp note_entry note_natural
-    (λ x y h k. let p = of_note x h in let q = of_note y k in same_pairs x.room x.n y.room y.n p.0 p.1 q.0 q.1) s.notes.items n6.1 r6.1 in
+    (λ x y h k. let p = of_note x h in let q = of_note y k in same_pairs x.room x.n y.room y.n p.0 p.1 q.0 q.1) s.notes.items n.notes r6.1 in
     let began = rise_by room_order pair_cmp (λ (l : PlainRoom). (number_of l.room, 1)) room_natural
     (λ x y h k.
     then_equal (int_cmp x.room y.room)
     ∙ same_pairs x.room (pos 1) y.room (pos 1) (of_room x h) refl (of_room y k) refl)
-    s.rooms.items n1.1 r1.1 in
-    let fits = fit_keys_rise s.rooms.items s.fits n7.1 r7.1 began in
+    s.rooms.items n.rooms r1.1 in
+    let fits = fit_keys_rise s.rooms.items s.fits n.fits r7.1 began in
     let joined_rooms = ap (are_in_order nat_cmp) (keys_with_fit (fits_of s) (map room_entry s.rooms.items)) ∙ rooms in
     let joined_notes = ap (are_in_order pair_cmp) (keys_under_fit (fits_of s) (map note_entry s.notes.items)) ∙ notes in
     let first = both _ _ (both _ _ (both _ _ kinds joined_rooms) codes) stays in

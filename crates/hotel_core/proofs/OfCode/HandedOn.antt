@@ -1,7 +1,7 @@
 -- What a sink is handed on by another one that stands before it, up to a call that fails.
 use Rattle.std.proofs.Common.{◌≡◌, Bool, true, false, List, [], ◌∷◌, ◌++◌, Result, Ok, Err, ap, sym, ◌∙◌, subst, inl}
 use Rattle.std.proofs.Common.{inr, IsSome}
-use Rattle.hotel_core.proofs.Names.{false≢true, Takes, TakesFront, Hands, failure_of, EndsAs, StopsEither}
+use Rattle.hotel_core.proofs.Names.{false≢true, Passes, TakesFront, Hands, failure_of, EndsAs, StopsEither}
 use Rattle.std.proofs.lemmas.List.{append-nil}
 use Rattle.hotel_core.specs.{declared.books.walks.WalkFault.WalkFault, declared.stops.stopping_walks.Passing.Passing}
 use Rattle.hotel_core.specs.declared.books.walks.WalkFault.TheVariants as why
@@ -15,7 +15,7 @@ module _ {S R : Type 0} (after after_stop : S → R → S → Type 0) where
   abbrev pub PassedNot : Passing S → R → Passing S → Type 0
   PassedNot old row new = (new.sink.ghost_name ≡ old.sink.ghost_name) × StopsEither new.failed (new.sink.now ≡ old.sink.now) (after_stop old.sink.now row new.sink.now)
 
-  took : (rows : List R) (a b : Passing S) → Takes Passed rows a b → (b.sink.ghost_name ≡ a.sink.ghost_name) × Takes after rows a.sink.now b.sink.now
+  took : (rows : List R) (a b : Passing S) → Passes Passed a rows b → (b.sink.ghost_name ≡ a.sink.ghost_name) × Passes after a.sink.now rows b.sink.now
   took [] a b t = (ap (λ (p : Passing S). p.sink.ghost_name) t, ap (λ (p : Passing S). p.sink.now) t)
   took (row ∷ rows) a b t =
       let later = took rows t.0 b t.2 in
@@ -35,9 +35,9 @@ module _ {S R : Type 0} (after after_stop : S → R → S → Type 0) where
   failed_after rows x y (Err why.Memory) some front = front
   failed_after rows x y (Err why.Store) some front = front
 
-  stopped_at : (by_call : Bool) (rows taken : List R) (row : R) (rest : List R) (x last y : S) (end : Result (Unit {0}) WalkFault) → rows ≡ taken ++ row ∷ rest → Takes after taken x last
+  stopped_at : (by_call : Bool) (rows taken : List R) (row : R) (rest : List R) (x last y : S) (end : Result (Unit {0}) WalkFault) → rows ≡ taken ++ row ∷ rest → Passes after x taken last
       → StopsEither by_call (y ≡ last) (after_stop last row y) → EndsAs (Err why.Stopped) by_call end → Hands after after_stop rows x y end
-  stopped_at true rows taken row rest x last y end e front stop ends = failed_after rows x y end ends (taken, row ∷ rest, e, subst (Takes after taken x) (sym stop) front)
+  stopped_at true rows taken row rest x last y end e front stop ends = failed_after rows x y end ends (taken, row ∷ rest, e, subst (Passes after x taken) (sym stop) front)
   stopped_at false rows taken row rest x last y end e front stop ends = subst (Hands after after_stop rows x y) (sym ends) (taken, row, rest, e, last, front, stop)
 
   -- what the sink before took, the sink behind took as the walk's end says

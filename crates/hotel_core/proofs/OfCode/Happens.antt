@@ -1,5 +1,5 @@
 -- What went over books, made of its parts.
-use Rattle.std.proofs.Common.{◌≡◌, Bool, true, false, not, List, [], ◌∷◌, ◌++◌, length, zip, refl, ap, arith, subst}
+use Rattle.std.proofs.Common.{◌≡◌, Bool, true, false, not, List, [], ◌∷◌, ◌++◌, length, zip, refl, ap, arith}
 use Rattle.std.specs.Prelude.{⊤}
 use Rattle.std.proofs.lemmas.Bool.{not-true}
 use Rattle.hotel_core.proofs.Names.{false≢true, Stream, NoFewer, AreCounted, failure_in, is_failed, Steps, Command}
@@ -7,7 +7,7 @@ use Rattle.hotel_core.proofs.Names.{Reply, Refusal, Rows, History}
 use Rattle.hotel_model.proofs.Invariants.Assurance.{assured}
 use Rattle.hotel_core.proofs.{OfCode.FailuresCounted.none_counted, OfCode.FailuresCounted.counted_join}
 use Rattle.hotel_model.specs.Leads.{LeadsOn}
-use Rattle.hotel_core.specs.Books.Happens.{Happens, HappensBy, Passes, StepTold, Tells, has_answer, known_after}
+use Rattle.hotel_core.specs.Books.Happens.{Happens, HappensBy, StepTold, Tells, has_answer, known_after}
 use Rattle.keycard_rules.specs.declared.issued.Issued.{Ghosts as IssuedOf}
 
 -- what is known after answers follows from what was known before them
@@ -145,20 +145,6 @@ step_happens s s' command reply clean_honest was_clean was_honest counted step f
     (λ honest h reached stands.
     let p = step honest h reached stands in
     (p.0, p.1, p.2, (p.3, tells_once (not (is_failed reply)) failed (λ k. vouched honest (not-true (is_failed reply) k)) was_clean), p.4))
-
--- None was asked.
-pub passes_none : {S A : Type 0} (asks : S → A → S → Type 0) (old : S) → Passes asks old [] old
-passes_none asks old = refl
-
--- One was asked.
-pub passes_one : {S A : Type 0} (asks : S → A → S → Type 0) {old new : S} {item : A} → asks old item new → Passes asks old (item ∷ []) new
-passes_one asks {new = new} asked = (new, asked, refl)
-
--- One more was asked after these.
-pub passes_push : {S A : Type 0} (asks : S → A → S → Type 0) (old : S) {mid new : S} (items : List A) {item : A}
-    → Passes asks old items mid → asks mid item new → Passes asks old (items ++ item ∷ []) new
-passes_push asks old {new = new} [] {item = item} before asked = (new, subst (λ state. asks state item new) before asked, refl)
-passes_push asks old (first ∷ items) before asked = (before.0, before.1, passes_push asks before.0 items before.2 asked)
 
 -- two lists of one length beside each other, with one more at the end of each
 pub zip-push : {A B : Type 0} (xs : List A) (ys : List B) (x : A) (y : B) → length ys ≡ length xs → zip (xs ++ x ∷ []) (ys ++ y ∷ []) ≡ zip xs ys ++ (x, y) ∷ []

@@ -4,7 +4,8 @@ use Rattle.std.specs.List.{AllByRecursion}
 use Rattle.hotel_core.proofs.Names.{Command, History, LookFault, Refusal, Reply, Rows, Stream, is_failed, start}
 use Rattle.hotel_model.specs.Rows.{no_rows}
 use Rattle.hotel_model.proofs.SoundRows.NoRows.{none_sound}
-use Rattle.hotel_core.specs.Books.Happens.{CommandHappens, HappensBy, Passes, Tells, has_answer}
+use Rattle.hotel_core.specs.Books.Happens.{CommandHappens, HappensBy, Tells, has_answer}
+use Rattle.hotel_core.specs.Books.Passes.{Passes}
 use Rattle.hotel_core.specs.Books.Shut.{BeganShut, FindsNothing, ChangesNothing, RepliesNothing, RunsNothing}
 use Rattle.keycard_rules.specs.declared.issued.Issued.{Ghosts as IssuedOf}
 

@@ -1,7 +1,8 @@
 -- A walk part-way through the rows of a list: what the sink took, and the rows that are still to come.
 use Rattle.std.proofs.Common.{ℕ, suc, ◌≡◌, ◌<◌, ◌+◌, ◌-◌, ◌++◌, Bool, true, false, cond, Option, Some, None, List, []}
 use Rattle.std.proofs.Common.{◌∷◌, Result, Ok, Err, filter, append_assoc, refl, ap, sym, ◌∙◌, subst, arith, filter_map}
-use Rattle.hotel_core.proofs.Names.{range_with_len, cons_option, Takes, TakesFront, StopsAt, failure_of}
+use Rattle.hotel_core.proofs.Names.{range_with_len, cons_option, Passes, TakesFront, StopsAt, failure_of}
+use Rattle.hotel_core.proofs.OfCode.Passes.{passes_push}
 use Rattle.std.proofs.lemmas.List.{append-nil}
 use Rattle.keycard_rules.specs.declared.issued.LookFault.TheVariants as look
 use Rattle.hotel_core.specs.declared.books.walks.WalkFault.{WalkFault}
@@ -9,23 +10,19 @@ use Rattle.hotel_core.specs.declared.books.walks.WalkFault.TheVariants as why
 
 -- The sink took some of the rows, and the rest is to come.
 abbrev pub SoFar : {S R : Type 0} → (S → R → S → Type 0) → List R → List R → S → S → Type 0
-SoFar {R = R} after rows rest sink now = (taken : List R) × (rows ≡ taken ++ rest) × Takes after taken sink now
+SoFar {R = R} after rows rest sink now = (taken : List R) × (rows ≡ taken ++ rest) × Passes after sink taken now
 
 -- the walk begins
 pub begun : {S R : Type 0} (after : S → R → S → Type 0) (rows : List R) (sink : S) → SoFar after rows rows sink sink
 begun after rows sink = ([], refl, refl)
 
-taken_more : {S R : Type 0} (after : S → R → S → Type 0) (taken : List R) (row : R) (a b c : S) → Takes after taken a b → after b row c → Takes after (taken ++ row ∷ []) a c
-taken_more after [] row a b c t one = (c, subst (λ s. after s row c) t one, refl)
-taken_more after (x ∷ taken) row a b c t one = (t.0, t.1, taken_more after taken row t.0 b c t.2 one)
-
 -- the sink takes the next row
 pub one_more : {S R : Type 0} (after : S → R → S → Type 0) (rows : List R) (row : R) (rest : List R) (a b c : S) → SoFar after rows (row ∷ rest) a b → after b row c → SoFar after rows rest a c
-one_more after rows row rest a b c s one = (s.0 ++ row ∷ [], s.1 ∙ sym (append_assoc s.0 (row ∷ []) rest), taken_more after s.0 row a b c s.2 one)
+one_more after rows row rest a b c s one = (s.0 ++ row ∷ [], s.1 ∙ sym (append_assoc s.0 (row ∷ []) rest), passes_push after a s.0 s.2 one)
 
 -- the walk ends after all rows
-pub all_taken : {S R : Type 0} (after : S → R → S → Type 0) (rows : List R) (a b : S) → SoFar after rows [] a b → Takes after rows a b
-all_taken after rows a b s = subst (λ rs. Takes after rs a b) (sym (s.1 ∙ append-nil s.0)) s.2
+pub all_taken : {S R : Type 0} (after : S → R → S → Type 0) (rows : List R) (a b : S) → SoFar after rows [] a b → Passes after a rows b
+all_taken after rows a b s = subst (λ rs. Passes after a rs b) (sym (s.1 ∙ append-nil s.0)) s.2
 
 -- the sink stops at the next row
 pub stopped : {S R : Type 0} (after after_stop : S → R → S → Type 0) (rows : List R) (row : R) (rest : List R) (a b c : S) → SoFar after rows (row ∷ rest) a b → after_stop b row c → StopsAt after after_stop rows a c

@@ -57,11 +57,6 @@ abbrev pub StepTold : Stream → Command → Reply → Stream → (List Refusal 
     → Type 0
 StepTold s command reply s' told h h' = Steps h s command reply h' s' × told (failure_in reply) (answered_by reply)
 
--- There are states between: each of these was asked in its turn, in the state that the one before it left.
-abbrev pub Passes : {S A : Type 0} → (S → A → S → Type 0) → S → List A → S → Type 0
-Passes asks old [] new = new ≡ old
-Passes {S = S} asks old (asked ∷ later) new = (mid : S) × asks old asked mid × Passes asks mid later new
-
 -- A command was carried out with this reply, by books and a source of words.
 abbrev pub CommandHappens : {S R : Type 0} → IssuedOf S → (S → Rows) → (R → Stream) → S × R → Command × Reply → S × R
     → Type 0

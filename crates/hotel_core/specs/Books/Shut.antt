@@ -6,7 +6,8 @@ use Rattle.keycard_rules.specs.{declared.issued.LookFault.LookFault, declared.is
 use Rattle.hotel_model.specs.{declared.command.Command.Command, declared.reply.Reply.Reply, Rows.Rows}
 use Rattle.hotel_model.specs.Run.{is_failed}
 use Rattle.hotel_core.specs.Books.Reads.{LooksUp}
-use Rattle.hotel_core.specs.Books.Happens.{CommandHappens, Passes}
+use Rattle.hotel_core.specs.Books.Happens.{CommandHappens}
+use Rattle.hotel_core.specs.Books.Passes.{Passes}
 
 -- A call from the state old to new ended honest, and didn't begin clean.
 abbrev pub BeganShut : {S : Type 0} → IssuedOf S → S → S → Type 0

@@ -1,31 +1,27 @@
 -- What a walk over the rows of a list hands to a sink.
-use Rattle.std.specs.Prelude.{◌≡◌, Bool, false, List, [], ◌∷◌, ◌++◌, Result, Ok, Err, Option, Some, None, IfSome}
+use Rattle.std.specs.Prelude.{◌≡◌, Bool, false, List, ◌∷◌, ◌++◌, Result, Ok, Err, Option, Some, None, IfSome}
 use Rattle.keycard_rules.specs.{declared.issued.LookFault.LookFault, Rise.HasRisen, Rise.NoFewer}
 use Rattle.keycard_rules.specs.{declared.issued.Issued.Ghosts as IssuedOf}
 use Rattle.keycard_rules.specs.declared.issued.LookFault.TheVariants as look
+use Rattle.hotel_core.specs.Books.Passes.{Passes}
 use Rattle.hotel_core.specs.declared.books.walks.WalkFault.{WalkFault}
 use Rattle.hotel_core.specs.declared.books.walks.WalkFault.TheVariants as why
 
--- The sink took the rows one after the other, and went from one meaning to another along them.
-abbrev pub Takes : {S R : Type 0} → (S → R → S → Type 0) → List R → S → S → Type 0
-Takes after [] sink end = end ≡ sink
-Takes after (row ∷ rows) sink end = (next : _) × after sink row next × Takes after rows next end
-
--- The sink took a front of the rows.
+-- The sink took a front of the rows, one after the other, and went from one meaning to another along them.
 abbrev pub TakesFront : {S R : Type 0} → (S → R → S → Type 0) → List R → S → S → Type 0
 TakesFront {R = R} after rows sink end = (taken : List R) × (rest : List R) × (rows ≡ taken ++ rest)
-    × Takes after taken sink end
+    × Passes after sink taken end
 
 -- The sink took a front of the rows, and stopped at the row after them.
 abbrev pub StopsAt : {S R : Type 0} → (S → R → S → Type 0) → (S → R → S → Type 0) → List R → S → S → Type 0
 StopsAt {S = S} {R = R} after after_stop rows sink end = (taken : List R) × (row : R) × (rest : List R)
-    × (rows ≡ taken ++ row ∷ rest) × (last : S) × Takes after taken sink last × after_stop last row end
+    × (rows ≡ taken ++ row ∷ rest) × (last : S) × Passes after sink taken last × after_stop last row end
 
 -- What the sink took: all rows, or those before the one at which it stopped; or a front of them, where memory or the
 -- store failed.
 abbrev pub Hands : {S R : Type 0} → (S → R → S → Type 0) → (S → R → S → Type 0) → List R → S → S
     → Result (Unit {0}) WalkFault → Type 0
-Hands after after_stop rows sink end (Ok done) = Takes after rows sink end
+Hands after after_stop rows sink end (Ok done) = Passes after sink rows end
 Hands after after_stop rows sink end (Err why.Stopped) = StopsAt after after_stop rows sink end
 Hands after after_stop rows sink end (Err why.Memory) = TakesFront after rows sink end
 Hands after after_stop rows sink end (Err why.Store) = TakesFront after rows sink end

@@ -1,11 +1,9 @@
 //! Bookings.
 ghost use Rattle.std.specs.Prelude.{◌≡◌, ◌-◌, false, true, Option, Some};
-ghost use Rattle.rand_core.specs.Stream.{Stream};
-ghost use Rattle.keycard_rules.specs.Draw.{words};
-ghost use Rattle.hotel_model.specs.{Refinement.Lookups.first_full_on, Refinement.OnRows.outcome_on};
+ghost use Rattle.hotel_model.specs.{Refinement.Lookups.first_full_on};
 ghost use Rattle.hotel_core.specs.{Refinement.Finds.Finds, Refinement.Finds.AnyRows, Refinement.Finds.reply_of};
 ghost use Rattle.hotel_model.specs.{Ranges.IsCommand, declared.reply.Refusal.TheVariants.Store};
-ghost use Rattle.hotel_core.specs.Refinement.StepOnRows.{StepsAs};
+ghost use Rattle.hotel_core.specs.Refinement.StepOnRows.{CarriesOutWithoutWords};
 ghost use Rattle.hotel_model.specs.declared.command.Command.TheVariants as command;
 
 use crate::books::Books;
@@ -32,9 +30,7 @@ fn first_full<B: Books>(
 
 /// Gives up a booking.
 pub(crate) fn cancel<B: Books>(books: &mut B, party: PartyNo) -> Result<Reply, Refusal>
-    ensures { (source : Stream) → StepsAs B.Issued B.Books.own
-        (λ rows. outcome_on rows (words 64 source) (command.Cancel party)) books.old books.new source source
-        (reply_of result) }
+    ensures { CarriesOutWithoutWords B.Issued B.Books.own (command.Cancel party) books.old books.new (reply_of result) }
 {
     today(books)?;
     let stay = stay_there(books, party)?;
@@ -61,9 +57,8 @@ pub(crate) fn reserve<B: Books>(
     nights: Nights,
 ) -> Result<Reply, Refusal>
     requires { IsCommand (command.Reserve guest.now kind.now arrive nights) }
-    ensures { (source : Stream) → StepsAs B.Issued B.Books.own
-        (λ rows. outcome_on rows (words 64 source) (command.Reserve guest.now kind.now arrive nights))
-        books.old books.new source source (reply_of result) }
+    ensures { CarriesOutWithoutWords B.Issued B.Books.own (command.Reserve guest.now kind.now arrive nights)
+        books.old books.new (reply_of result) }
 {
     let today = today(books)?;
     if !is_kind(books, kind)? {

@@ -1,9 +1,7 @@
 //! The business day.
 ghost use Rattle.std.specs.Prelude.{◌≡◌, false};
-ghost use Rattle.rand_core.specs.Stream.{Stream};
-ghost use Rattle.keycard_rules.specs.Draw.{words};
-ghost use Rattle.hotel_core.specs.{Refinement.Finds.reply_of, Refinement.StepOnRows.StepsAs};
-ghost use Rattle.hotel_model.specs.{Run.is_failed, Refinement.OnRows.outcome_on, Ranges.IsCommand};
+ghost use Rattle.hotel_core.specs.{Refinement.Finds.reply_of, Refinement.StepOnRows.CarriesOutWithoutWords};
+ghost use Rattle.hotel_model.specs.{Run.is_failed, Ranges.IsCommand};
 ghost use Rattle.hotel_model.specs.declared.command.Command.TheVariants as command;
 
 use crate::books::Books;
@@ -15,8 +13,7 @@ use hotel_nights::Day;
 /// Sets the first business day.
 pub(crate) fn begin<B: Books>(books: &mut B, day: Day) -> Result<Reply, Refusal>
     requires { IsCommand (command.Begin day) }
-    ensures steps { (source : Stream) → StepsAs B.Issued B.Books.own
-        (λ rows. outcome_on rows (words 64 source) (command.Begin day)) books.old books.new source source
+    ensures steps { CarriesOutWithoutWords B.Issued B.Books.own (command.Begin day) books.old books.new
         (reply_of result) }
     ensures sure { B.never_fails → is_failed (reply_of result) ≡ false }
 {
@@ -28,9 +25,7 @@ pub(crate) fn begin<B: Books>(books: &mut B, day: Day) -> Result<Reply, Refusal>
 
 /// Moves the business day on by one.
 pub(crate) fn next_day<B: Books>(books: &mut B) -> Result<Reply, Refusal>
-    ensures steps { (source : Stream) → StepsAs B.Issued B.Books.own
-        (λ rows. outcome_on rows (words 64 source) command.NextDay) books.old books.new source source
-        (reply_of result) }
+    ensures steps { CarriesOutWithoutWords B.Issued B.Books.own command.NextDay books.old books.new (reply_of result) }
     ensures sure { B.never_fails → is_failed (reply_of result) ≡ false }
 {
     let day = today(books)?;

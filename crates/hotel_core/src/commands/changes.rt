@@ -1,10 +1,9 @@
 //! The end of a command: its change is made.
 ghost use Rattle.std.specs.Prelude.{◌≡◌, false};
-ghost use Rattle.rand_core.specs.Stream.{Stream};
 ghost use Rattle.hotel_model.specs.{Refinement.Answered.IsAnswered, Refinement.Fits.takes_memory, Outcome.accepted};
 ghost use Rattle.hotel_model.specs.{Run.is_failed};
 ghost use Rattle.hotel_core.specs.Refinement.Finds.{reply_of};
-ghost use Rattle.hotel_core.specs.Refinement.StepOnRows.{StepsAs};
+ghost use Rattle.hotel_core.specs.Refinement.StepOnRows.{StepsWithoutWords};
 
 use crate::books::Books;
 use crate::commands::look_ups::refusal_of;
@@ -15,8 +14,8 @@ use hotel_model::{Change, Refusal, Reply};
 pub(crate) fn make<B: Books>(books: &mut B, change: Change, reply: Reply) -> Result<Reply, Refusal>
     requires answered { B.is_clean books.old → IsAnswered (B.rows books.old) change reply }
     requires is_answer { is_failed reply ≡ false }
-    ensures steps { (source : Stream) → StepsAs B.Issued B.Books.own
-        (λ _. accepted reply change) books.old books.new source source (reply_of result) }
+    ensures steps { StepsWithoutWords B.Issued B.Books.own (λ _. accepted reply change) books.old books.new
+        (reply_of result) }
     ensures sure { B.never_fails → takes_memory change ≡ false → is_failed (reply_of result) ≡ false }
 {
     books.known_sound();

@@ -1,6 +1,5 @@
 //! Cards that open a door from outside.
 ghost use Rattle.std.specs.Prelude.{◌≡◌, ◌+◌, true, false, is_some, Some};
-ghost use Rattle.rand_core.specs.Stream.{Stream};
 ghost use Rattle.keycard_rules.specs.Lock.{turn};
 ghost use Rattle.keycard_rules.specs.declared.note.Act.TheVariants as act;
 ghost use Rattle.hotel_model.specs.{Refinement.Answered.IsOutcome, Refinement.Lookups.inside_at};
@@ -9,7 +8,7 @@ ghost use Rattle.hotel_model.specs.{Guests.are_none, declared.reply.Refusal.TheV
 ghost use Rattle.hotel_model.specs.{Refinement.NotesOnRows.IsUntaken, Refinement.OnRows.opened_on};
 ghost use Rattle.hotel_model.specs.{Refinement.NotesOnRows.secured_by, Refinement.ChangeOf.comes};
 ghost use Rattle.hotel_model.specs.{Refinement.OnRows.told_on, Refinement.OnRows.has_link_on, Words.is_one_of};
-ghost use Rattle.hotel_core.specs.Refinement.StepOnRows.{StepsAs};
+ghost use Rattle.hotel_core.specs.Refinement.StepOnRows.{StepsWithoutWords};
 
 use crate::books::Books;
 use crate::commands::changes::make;
@@ -69,8 +68,8 @@ fn open<B: Books>(
         × (has_link_on (B.rows books.old) number link.now ≡ true) }
     requires outcome { B.is_clean books.old → IsOutcome (B.rows books.old)
         (opened_on (B.rows books.old) note.now number link.now) }
-    ensures { (source : Stream) → StepsAs B.Issued B.Books.own
-        (λ rows. opened_on rows note.now number link.now) books.old books.new source source (reply_of result) }
+    ensures { StepsWithoutWords B.Issued B.Books.own (λ rows. opened_on rows note.now number link.now)
+        books.old books.new (reply_of result) }
 {
     let lock_place = issued_place(books, link.new_code)?.place;
     let secured = secured_after(books, note.room(), row, lock_place)?;
@@ -100,9 +99,8 @@ pub(crate) fn enter<B: Books>(
     requires untaken { B.is_clean books.old → IsUntaken note.now row.now (B.rows books.old) }
     requires outcome { B.is_clean books.old → IsOutcome (B.rows books.old)
         (told_on (B.rows books.old) note.now (act.Entered number link.now)) }
-    ensures { (source : Stream) → StepsAs B.Issued B.Books.own
-        (λ rows. told_on rows note.now (act.Entered number link.now)) books.old books.new source source
-        (reply_of result) }
+    ensures { StepsWithoutWords B.Issued B.Books.own (λ rows. told_on rows note.now (act.Entered number link.now))
+        books.old books.new (reply_of result) }
 {
     let card = card_there(books, number)?;
     if !same_link(&card.link, link) {

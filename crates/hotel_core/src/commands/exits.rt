@@ -1,10 +1,9 @@
 //! Cards that were shown on the way out.
 ghost use Rattle.std.specs.Prelude.{◌≡◌, false};
-ghost use Rattle.rand_core.specs.Stream.{Stream};
 ghost use Rattle.keycard_rules.specs.declared.note.Act.TheVariants as act;
 ghost use Rattle.hotel_model.specs.{Refinement.Answered.IsOutcome, Refinement.NotesOnRows.IsUntaken};
 ghost use Rattle.hotel_model.specs.{Refinement.OnRows.told_on};
-ghost use Rattle.hotel_core.specs.{Refinement.Finds.reply_of, Refinement.StepOnRows.StepsAs};
+ghost use Rattle.hotel_core.specs.{Refinement.Finds.reply_of, Refinement.StepOnRows.StepsWithoutWords};
 
 use crate::books::Books;
 use crate::commands::changes::make;
@@ -24,8 +23,8 @@ pub(crate) fn leave<B: Books>(
     requires untaken { B.is_clean books.old → IsUntaken note.now row.now (B.rows books.old) }
     requires outcome { B.is_clean books.old → IsOutcome (B.rows books.old)
         (told_on (B.rows books.old) note.now (act.Left number link.now)) }
-    ensures { (source : Stream) → StepsAs B.Issued B.Books.own
-        (λ rows. told_on rows note.now (act.Left number link.now)) books.old books.new source source (reply_of result) }
+    ensures { StepsWithoutWords B.Issued B.Books.own (λ rows. told_on rows note.now (act.Left number link.now))
+        books.old books.new (reply_of result) }
 {
     let card = card_there(books, number)?;
     if !same_link(&card.link, link) {

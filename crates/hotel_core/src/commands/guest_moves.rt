@@ -1,12 +1,9 @@
 //! Parties that come, move and leave.
 ghost use Rattle.std.specs.Prelude.{◌≡◌, false, Option, Some, None, bytes_eq};
-ghost use Rattle.rand_core.specs.Stream.{Stream};
-ghost use Rattle.keycard_rules.specs.Draw.{words};
 ghost use Rattle.hotel_model.specs.{Stays.is_booked_state, Stays.room_of_state};
 ghost use Rattle.hotel_core.specs.{Refinement.Finds.reply_of, Refinement.Finds.IsChecked};
-ghost use Rattle.hotel_core.specs.{Refinement.StepOnRows.StepsAs};
+ghost use Rattle.hotel_core.specs.Refinement.StepOnRows.{CarriesOut, CarriesOutWithoutWords};
 ghost use Rattle.hotel_model.specs.{Refinement.CardsOnRows.bars_to_check_in, Refinement.CardsOnRows.bars_to_transfer};
-ghost use Rattle.hotel_model.specs.{Refinement.OnRows.outcome_on};
 ghost use Rattle.hotel_model.specs.declared.command.Command.TheVariants as command;
 
 use crate::books::Books;
@@ -81,9 +78,8 @@ pub(crate) fn check_in<B: Books, R: Rng>(
     party: PartyNo,
     room: RoomNo,
 ) -> Result<Reply, Refusal>
-    ensures { StepsAs B.Issued B.Books.own (λ rows. outcome_on rows (words 64 (R.stream source.old))
-        (command.CheckIn party room)) books.old books.new (R.stream source.old) (R.stream source.new)
-        (reply_of result) }
+    ensures { CarriesOut B.Issued B.Books.own (command.CheckIn party room) books.old books.new
+        (R.stream source.old) (R.stream source.new) (reply_of result) }
 {
     let day = today(books)?;
     let row = room_there(books, room)?;
@@ -99,9 +95,8 @@ pub(crate) fn transfer<B: Books, R: Rng>(
     party: PartyNo,
     room: RoomNo,
 ) -> Result<Reply, Refusal>
-    ensures { StepsAs B.Issued B.Books.own (λ rows. outcome_on rows (words 64 (R.stream source.old))
-        (command.Transfer party room)) books.old books.new (R.stream source.old) (R.stream source.new)
-        (reply_of result) }
+    ensures { CarriesOut B.Issued B.Books.own (command.Transfer party room) books.old books.new
+        (R.stream source.old) (R.stream source.new) (reply_of result) }
 {
     today(books)?;
     let row = room_there(books, room)?;
@@ -115,9 +110,7 @@ pub(crate) fn transfer<B: Books, R: Rng>(
 
 /// Gives a party in house one more card of its last link.
 pub(crate) fn spare<B: Books>(books: &mut B, party: PartyNo) -> Result<Reply, Refusal>
-    ensures { (source : Stream) → StepsAs B.Issued B.Books.own
-        (λ rows. outcome_on rows (words 64 source) (command.Spare party)) books.old books.new source source
-        (reply_of result) }
+    ensures { CarriesOutWithoutWords B.Issued B.Books.own (command.Spare party) books.old books.new (reply_of result) }
 {
     today(books)?;
     let stay = stay_there(books, party)?;
@@ -140,8 +133,8 @@ pub(crate) fn reissue<B: Books, R: Rng>(
     source: &mut R,
     party: PartyNo,
 ) -> Result<Reply, Refusal>
-    ensures { StepsAs B.Issued B.Books.own (λ rows. outcome_on rows (words 64 (R.stream source.old))
-        (command.Reissue party)) books.old books.new (R.stream source.old) (R.stream source.new) (reply_of result) }
+    ensures { CarriesOut B.Issued B.Books.own (command.Reissue party) books.old books.new
+        (R.stream source.old) (R.stream source.new) (reply_of result) }
 {
     today(books)?;
     let stay = stay_there(books, party)?;
@@ -154,8 +147,7 @@ pub(crate) fn reissue<B: Books, R: Rng>(
 
 /// Ends the stay of a party in house.
 pub(crate) fn check_out<B: Books>(books: &mut B, party: PartyNo) -> Result<Reply, Refusal>
-    ensures { (source : Stream) → StepsAs B.Issued B.Books.own
-        (λ rows. outcome_on rows (words 64 source) (command.CheckOut party)) books.old books.new source source
+    ensures { CarriesOutWithoutWords B.Issued B.Books.own (command.CheckOut party) books.old books.new
         (reply_of result) }
 {
     today(books)?;

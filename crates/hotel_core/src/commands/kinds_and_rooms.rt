@@ -1,9 +1,8 @@
 //! The kinds and the rooms.
 ghost use Rattle.std.specs.Prelude.{false};
-ghost use Rattle.rand_core.specs.Stream.{Stream};
-ghost use Rattle.keycard_rules.specs.Draw.{words};
-ghost use Rattle.hotel_core.specs.{Refinement.Finds.reply_of, Refinement.StepOnRows.StepsAs};
-ghost use Rattle.hotel_model.specs.{Refinement.OnRows.outcome_on, Ranges.IsCommand};
+ghost use Rattle.hotel_core.specs.Refinement.Finds.{reply_of};
+ghost use Rattle.hotel_core.specs.Refinement.StepOnRows.{CarriesOut, CarriesOutWithoutWords};
+ghost use Rattle.hotel_model.specs.{Ranges.IsCommand};
 ghost use Rattle.hotel_model.specs.declared.command.Command.TheVariants as command;
 
 use crate::books::Books;
@@ -18,8 +17,7 @@ use rand_core::Rng;
 /// Adds a kind.
 pub(crate) fn add_kind<B: Books>(books: &mut B, kind: &KindCode) -> Result<Reply, Refusal>
     requires { IsCommand (command.AddKind kind.now) }
-    ensures { (source : Stream) → StepsAs B.Issued B.Books.own
-        (λ rows. outcome_on rows (words 64 source) (command.AddKind kind.now)) books.old books.new source source
+    ensures { CarriesOutWithoutWords B.Issued B.Books.own (command.AddKind kind.now) books.old books.new
         (reply_of result) }
 {
     today(books)?;
@@ -37,9 +35,8 @@ pub(crate) fn add_room<B: Books, R: Rng>(
     kind: &KindCode,
 ) -> Result<Reply, Refusal>
     requires { IsCommand (command.AddRoom room kind.now) }
-    ensures { StepsAs B.Issued B.Books.own (λ rows. outcome_on rows (words 64 (R.stream source.old))
-        (command.AddRoom room kind.now)) books.old books.new (R.stream source.old) (R.stream source.new)
-        (reply_of result) }
+    ensures { CarriesOut B.Issued B.Books.own (command.AddRoom room kind.now) books.old books.new
+        (R.stream source.old) (R.stream source.new) (reply_of result) }
 {
     today(books)?;
     if !is_kind(books, kind)? {

@@ -1,11 +1,10 @@
 //! Notes of locks.
 ghost use Rattle.std.specs.Prelude.{◌≡◌, false, None, nat_le};
-ghost use Rattle.rand_core.specs.Stream.{Stream};
-ghost use Rattle.keycard_rules.specs.Draw.{words};
 ghost use Rattle.hotel_model.specs.{Refinement.Answered.IsOutcome, Refinement.NotesOnRows.IsUntaken, Ranges.IsCommand};
-ghost use Rattle.hotel_model.specs.{Cards.same_link, Notes.same_act, Notes.same_note, Refinement.OnRows.outcome_on};
+ghost use Rattle.hotel_model.specs.{Cards.same_link, Notes.same_act, Notes.same_note};
 ghost use Rattle.hotel_model.specs.{Refinement.OnRows.reported_on};
-ghost use Rattle.hotel_core.specs.{Refinement.StepOnRows.StepsAs, Refinement.Finds.reply_of};
+ghost use Rattle.hotel_core.specs.Refinement.Finds.{reply_of};
+ghost use Rattle.hotel_core.specs.Refinement.StepOnRows.{StepsWithoutWords, CarriesOutWithoutWords};
 ghost use Rattle.hotel_model.specs.declared.command.Command.TheVariants as command;
 
 use crate::books::Books;
@@ -36,8 +35,8 @@ fn take_new<B: Books>(books: &mut B, note: &LockNote, row: &RoomRow) -> Result<R
     requires untaken { B.is_clean books.old → IsUntaken note.now row.now (B.rows books.old) }
     requires outcome { B.is_clean books.old → IsOutcome (B.rows books.old)
         (reported_on (B.rows books.old) note.now None) }
-    ensures { (source : Stream) → StepsAs B.Issued B.Books.own
-        (λ rows. reported_on rows note.now None) books.old books.new source source (reply_of result) }
+    ensures { StepsWithoutWords B.Issued B.Books.own (λ rows. reported_on rows note.now None) books.old books.new
+        (reply_of result) }
 {
     if !is_present(note, row) {
         return Err(Refusal::OldFit);
@@ -62,8 +61,7 @@ fn take_new<B: Books>(books: &mut B, note: &LockNote, row: &RoomRow) -> Result<R
 /// Takes a note of a lock.
 pub(crate) fn take_note<B: Books>(books: &mut B, note: &LockNote) -> Result<Reply, Refusal>
     requires { IsCommand (command.Reported note.now) }
-    ensures { (source : Stream) → StepsAs B.Issued B.Books.own
-        (λ rows. outcome_on rows (words 64 source) (command.Reported note.now)) books.old books.new source source
+    ensures { CarriesOutWithoutWords B.Issued B.Books.own (command.Reported note.now) books.old books.new
         (reply_of result) }
 {
     today(books)?;

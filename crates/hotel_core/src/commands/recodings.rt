@@ -1,10 +1,9 @@
 //! Locks that staff recoded.
 ghost use Rattle.std.specs.Prelude.{◌≡◌, ◌==◌, ◌&&◌, nat_lt, false};
-ghost use Rattle.rand_core.specs.Stream.{Stream};
 ghost use Rattle.keycard_rules.specs.declared.note.Act.TheVariants as act;
 ghost use Rattle.hotel_model.specs.{Refinement.Answered.IsOutcome, Refinement.NotesOnRows.IsUntaken};
 ghost use Rattle.hotel_model.specs.{Refinement.OnRows.told_on};
-ghost use Rattle.hotel_core.specs.{Refinement.Finds.reply_of, Refinement.StepOnRows.StepsAs};
+ghost use Rattle.hotel_core.specs.{Refinement.Finds.reply_of, Refinement.StepOnRows.StepsWithoutWords};
 
 use crate::books::Books;
 use crate::commands::changes::make;
@@ -31,8 +30,8 @@ pub(crate) fn recode<B: Books>(
     requires untaken { B.is_clean books.old → IsUntaken note.now row.now (B.rows books.old) }
     requires outcome { B.is_clean books.old → IsOutcome (B.rows books.old)
         (told_on (B.rows books.old) note.now (act.Recoded from to)) }
-    ensures { (source : Stream) → StepsAs B.Issued B.Books.own
-        (λ rows. told_on rows note.now (act.Recoded from to)) books.old books.new source source (reply_of result) }
+    ensures { StepsWithoutWords B.Issued B.Books.own (λ rows. told_on rows note.now (act.Recoded from to))
+        books.old books.new (reply_of result) }
 {
     let room = note.room();
     let held = code_in(books, room, row.lock_place)?;

@@ -1,7 +1,6 @@
 //! Locks that are replaced.
-ghost use Rattle.keycard_rules.specs.Draw.{words};
-ghost use Rattle.hotel_core.specs.{Refinement.Finds.reply_of, Refinement.StepOnRows.StepsAs};
-ghost use Rattle.hotel_model.specs.{Refinement.OnRows.outcome_on, Ranges.IsCommand};
+ghost use Rattle.hotel_core.specs.{Refinement.Finds.reply_of, Refinement.StepOnRows.CarriesOut};
+ghost use Rattle.hotel_model.specs.{Ranges.IsCommand};
 ghost use Rattle.hotel_model.specs.declared.command.Command.TheVariants as command;
 
 use crate::books::Books;
@@ -19,8 +18,8 @@ pub(crate) fn refit<B: Books, R: Rng>(
     room: RoomNo,
 ) -> Result<Reply, Refusal>
     requires { IsCommand (command.Refit room) }
-    ensures { StepsAs B.Issued B.Books.own (λ rows. outcome_on rows (words 64 (R.stream source.old))
-        (command.Refit room)) books.old books.new (R.stream source.old) (R.stream source.new) (reply_of result) }
+    ensures { CarriesOut B.Issued B.Books.own (command.Refit room) books.old books.new
+        (R.stream source.old) (R.stream source.new) (reply_of result) }
 {
     today(books)?;
     let row = room_there(books, room)?;

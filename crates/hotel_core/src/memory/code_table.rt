@@ -12,11 +12,14 @@ use std::alloc::Global;
 use std::collections::BTreeMap;
 use std::marker::Model;
 
+/// A code's room, and its place among the room's codes.
+type PlaceKey = (RoomNo, u32);
+
 /// The codes with their places, and the same by room and place.
 #[derive(Drop)]
 pub(crate) struct CodeTable {
     codes: BTreeMap<Code, CodeRow>,
-    places: BTreeMap<(RoomNo, u32), Code>,
+    places: BTreeMap<PlaceKey, Code>,
 }
 
 impl Model for CodeTable {

@@ -1,5 +1,5 @@
 //! The cards inside rooms, found by room.
-ghost use Rattle.std.specs.Prelude.{◌≡◌, ℕ, [], not, IfOk, OnOk, OnErr};
+ghost use Rattle.std.specs.Prelude.{◌≡◌, [], not, IfOk, OnOk, OnErr};
 ghost use Rattle.hotel_model.specs.{Words.is_one_of, Guests.those_in, Guests.are_none, Guests.those_elsewhere};
 ghost use Rattle.hotel_model.specs.{Refinement.Change.moved};
 
@@ -9,17 +9,21 @@ use std::alloc::{AllocError, Global};
 use std::collections::BTreeSet;
 use std::marker::Model;
 
+/// The room and the card of one that is inside.
+type InsideKey = (RoomNo, CardNo);
+
 /// The rooms and cards, by room and then by card.
 #[derive(Drop)]
 pub(crate) struct InsideTable {
-    pairs: BTreeSet<(RoomNo, CardNo)>,
+    pairs: BTreeSet<InsideKey>,
 }
 
 impl Model for InsideTable {
-    ghost use Rattle.std.specs.Prelude.{ℕ, List};
+    ghost use Rattle.std.specs.Prelude.{List};
+    ghost use Rattle.hotel_model.specs.Rows.{InsideKey};
     ghost use Rattle.hotel_core.specs.Memory.{HaveCardNumbers};
 
-    ghost Value = { List (ℕ × ℕ) };
+    ghost Value = { List InsideKey };
 
     ghost view = { λ t. t.pairs.keys };
 

@@ -11,18 +11,22 @@ use std::alloc::Global;
 use std::collections::BTreeMap;
 use std::marker::Model;
 
+/// A note's room, and its number among all notes of the room.
+type NoteKey = (RoomNo, u32);
+
 /// The notes by room and then by number.
 #[derive(Drop)]
 pub(crate) struct NoteTable {
-    notes: BTreeMap<(RoomNo, u32), LockNote>,
+    notes: BTreeMap<NoteKey, LockNote>,
 }
 
 impl Model for NoteTable {
-    ghost use Rattle.std.specs.Prelude.{ℕ, List};
+    ghost use Rattle.std.specs.Prelude.{List};
     ghost use Rattle.keycard_rules.specs.Note.{Note};
+    ghost use Rattle.hotel_model.specs.Rows.{NoteKey};
     ghost use Rattle.hotel_core.specs.Memory.{HaveCounts};
 
-    ghost Value = { List ((ℕ × ℕ) × Note) };
+    ghost Value = { List (NoteKey × Note) };
 
     ghost view = { λ t. t.notes.entries };
 

@@ -23,6 +23,9 @@ use std::alloc::{AllocError, Global};
 use std::collections::BTreeMap;
 use std::marker::Model;
 
+/// A fit's room, and its number.
+type FitKey = (RoomNo, FitNo);
+
 /// The nine tables.
 #[derive(Drop)]
 pub(crate) struct Tables {
@@ -35,7 +38,7 @@ pub(crate) struct Tables {
     pub(crate) cards: CardTable,
     pub(crate) inside: InsideTable,
     pub(crate) notes: NoteTable,
-    pub(crate) fits: BTreeMap<(RoomNo, FitNo), FitRow>,
+    pub(crate) fits: BTreeMap<FitKey, FitRow>,
 }
 
 impl Model for Tables {

@@ -6,7 +6,7 @@ use Rattle.hotel_model.proofs.Names.{list_any, Note, FitRow, fit_row, fits, fits
 use Rattle.hotel_model.proofs.Names.{notes_before, notes, when, and_last, before, last_fit_place, said_of}
 use Rattle.hotel_model.proofs.Names.{first_is_first, notes_before_each, rise_by_few, Event, Install, Refitted, Entered}
 use Rattle.hotel_model.proofs.Names.{Left, Recoded, History, start, ◌▷◌, rooms, issued, held, passed, awaited, turns}
-use Rattle.hotel_model.proofs.Names.{is_room, rows_of, Reached}
+use Rattle.hotel_model.proofs.Names.{is_room, rows_of, Reached, note_from}
 use Rattle.keycard_rules.specs.declared.note.Act.TheVariants as act
 use Rattle.hotel_model.proofs.{OfTables.Tests.eq_from, OfTables.Tests.either_way, OfTables.Tests.and_true}
 use Rattle.hotel_model.proofs.{OfTables.Tests.le_from, OfTables.Tests.or_second, OfTables.TableKeys.key_inserted}
@@ -105,19 +105,19 @@ fits_of (h ▷ Entered room fit count number link at) ok r there =
     let event : Event = Entered room fit count number link at in
     let n = may_follow h event ok in
     noted_by (room == r) (fits_at (fits h) r) (present_fit h r) (notes_before h r) (length (passed h r)) (length (passed (h ▷ event) r)) (notes h r)
-    (record { room = room; fit = fit; count = count; act = act.Entered number link; day = at.0; second = at.1 }) (fits_of h ok.0 r there) (passed_grow h event r)
+    (note_from room fit count (act.Entered number link) at) (fits_of h ok.0 r there) (passed_grow h event r)
     (λ t. few_of h ok.0 room fit count r (eq_from room r t) (next_number h ok.0 room fit count n.0 n.5) (last_in_range h event ok).0.1)
 fits_of (h ▷ Left room fit count number link at) ok r there =
     let event : Event = Left room fit count number link at in
     let n = may_follow h event ok in
     noted_by (room == r) (fits_at (fits h) r) (present_fit h r) (notes_before h r) (length (passed h r)) (length (passed (h ▷ event) r)) (notes h r)
-    (record { room = room; fit = fit; count = count; act = act.Left number link; day = at.0; second = at.1 }) (fits_of h ok.0 r there) (passed_grow h event r)
+    (note_from room fit count (act.Left number link) at) (fits_of h ok.0 r there) (passed_grow h event r)
     (λ t. few_of h ok.0 room fit count r (eq_from room r t) (next_number h ok.0 room fit count n.0 n.5) (last_in_range h event ok).0.1)
 fits_of (h ▷ Recoded room fit count from to at) ok r there =
     let event : Event = Recoded room fit count from to at in
     let n = may_follow h event ok in
     noted_by (room == r) (fits_at (fits h) r) (present_fit h r) (notes_before h r) (length (passed h r)) (length (passed (h ▷ event) r)) (notes h r)
-    (record { room = room; fit = fit; count = count; act = act.Recoded from to; day = at.0; second = at.1 }) (fits_of h ok.0 r there) (passed_grow h event r)
+    (note_from room fit count (act.Recoded from to) at) (fits_of h ok.0 r there) (passed_grow h event r)
     (λ t. few_of h ok.0 room fit count r (eq_from room r t) (next_number h ok.0 room fit count n.0 n.4) (last_in_range h event ok).0.1)
 fits_of (h ▷ _) ok r there = fits_of h ok.0 r there
 

@@ -3,7 +3,7 @@ use Rattle.std.proofs.Common.{ℕ, ◌≡◌, ◌+◌, Bool, true, false, cond, 
 use Rattle.std.proofs.Common.{◌∙◌, subst, arith, length-append, ◌==◌, nat_le}
 use Rattle.hotel_model.proofs.Names.{nat_tests, list_all, Note, when, and_last, present_fit, notes_before, notes}
 use Rattle.hotel_model.proofs.Names.{notes_of, Install, Refitted, Entered, Left, Recoded, History, start, ◌▷◌, is_room}
-use Rattle.hotel_model.proofs.Names.{Reached}
+use Rattle.hotel_model.proofs.Names.{Reached, note_from}
 use Rattle.keycard_rules.specs.declared.note.Act.TheVariants as act
 use Rattle.hotel_model.proofs.{OfTables.Tests.eq_from, OfTables.Tests.eq_self, OfTables.Tests.and_true}
 use Rattle.hotel_model.proofs.{OfTables.Tests.le_self, OfTables.RowTests.both, OfTables.RowTests.all_weaker}
@@ -93,13 +93,13 @@ notes_for (h ▷ Install room kind code) ok r =
     (λ t. let none = ap (is_room h) (sym (eq_from room r t)) ∙ (may_follow h (Install room kind code) ok).1 in (nothing_before h ok.0 r none, nothing_noted h ok.0 r none))
 notes_for (h ▷ Refitted room fit code) ok r = refitted_by (room == r) h room fit r (eq_from room r) (may_follow h (Refitted room fit code) ok).2 (notes_for h ok.0 r)
 notes_for (h ▷ Entered room fit count number link at) ok r =
-    noted_by (room == r) (present_fit h r) (notes_before h r) (notes h r) (record { room = room; fit = fit; count = count; act = act.Entered number link; day = at.0; second = at.1 })
+    noted_by (room == r) (present_fit h r) (notes_before h r) (notes h r) (note_from room fit count (act.Entered number link) at)
     (notes_for h ok.0 r) (λ t. (may_follow h (Entered room fit count number link at) ok).5 ∙ ap (present_fit h) (eq_from room r t))
 notes_for (h ▷ Left room fit count number link at) ok r =
-    noted_by (room == r) (present_fit h r) (notes_before h r) (notes h r) (record { room = room; fit = fit; count = count; act = act.Left number link; day = at.0; second = at.1 })
+    noted_by (room == r) (present_fit h r) (notes_before h r) (notes h r) (note_from room fit count (act.Left number link) at)
     (notes_for h ok.0 r) (λ t. (may_follow h (Left room fit count number link at) ok).5 ∙ ap (present_fit h) (eq_from room r t))
 notes_for (h ▷ Recoded room fit count from to at) ok r =
-    noted_by (room == r) (present_fit h r) (notes_before h r) (notes h r) (record { room = room; fit = fit; count = count; act = act.Recoded from to; day = at.0; second = at.1 })
+    noted_by (room == r) (present_fit h r) (notes_before h r) (notes h r) (note_from room fit count (act.Recoded from to) at)
     (notes_for h ok.0 r) (λ t. (may_follow h (Recoded room fit count from to at) ok).4 ∙ ap (present_fit h) (eq_from room r t))
 notes_for (h ▷ _) ok r = notes_for h ok.0 r
 

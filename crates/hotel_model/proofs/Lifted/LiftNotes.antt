@@ -6,8 +6,8 @@ use Rattle.hotel_model.proofs.Names.{HeldDiffers, NotAwaited, Conflict, Gap, Old
 use Rattle.hotel_model.proofs.Names.{History, ◌▷◌, current, cards, held, awaited, inside, secured, are_none, Copy}
 use Rattle.hotel_model.proofs.Names.{Conflicting, Next, After, notes, notes_of, notes_before, present_fit, same_note}
 use Rattle.hotel_model.proofs.Names.{rows_of, is_room, is_card, has_link, opens, card_at, note_at, inside_at, needs}
-use Rattle.hotel_model.proofs.Names.{accepted, said, refused, told, reported, moment_of, comes, told_on, untaken_on}
-use Rattle.hotel_model.proofs.Names.{reported_on, held_on, said_code_at, place_on, lock_place_of, secured_on}
+use Rattle.hotel_model.proofs.Names.{accepted, said, refused, told, reported, Moment, moment_of, comes, told_on}
+use Rattle.hotel_model.proofs.Names.{untaken_on, reported_on, held_on, said_code_at, place_on, lock_place_of, secured_on}
 use Rattle.hotel_model.proofs.Names.{secured_after_on, is_awaited_on, has_link_on, Reached, Lifts, as_change}
 use Rattle.keycard_rules.specs.declared.note.Act.TheVariants as act
 use Rattle.hotel_model.specs.{declared.change.InsideMove.InsideMove, declared.change.InsideMove.TheVariants.Same}
@@ -37,7 +37,7 @@ secured_by false true s = refl
 secured_by false false s = refl
 
 -- whether the room is secured after an entry
-secured_entered : (h : History) (room fit count number : ℕ) (link : Link) (at : event.Moment) → CodesFound h → is_room h room ≡ true → is_card h number ≡ true → has_link h number link ≡ true → opens h room link ≡ true
+secured_entered : (h : History) (room fit count number : ℕ) (link : Link) (at : Moment) → CodesFound h → is_room h room ≡ true → is_card h number ≡ true → has_link h number link ≡ true → opens h room link ≡ true
     → secured_after_on (rows_of h) room link ≡ secured (h ▷ event.Entered room fit count number link at) room
 secured_entered h room fit count number link at found r k l o =
     let none : Bool = are_none (inside h room) in

@@ -1,8 +1,38 @@
 -- Keys in order: what stays in order, and that a key that is there isn't added again.
 use Rattle.std.proofs.Common.{◌≡◌, Bool, true, false, cond, List, [], ◌∷◌, filter, refl, ap, sym, ◌∙◌, ◌&&◌, ◌||◌}
-use Rattle.std.proofs.Common.{is_eq, is_lt, Ordering, Less, Equal, Greater}
+use Rattle.std.proofs.Common.{is_eq, is_lt, nat_cmp, Ordering, Less, Equal, Greater}
 use Rattle.hotel_model.proofs.Names.{match_ordering, ordering_reverse, list_any, IsTotalOrder, insert_entry, is_at}
-use Rattle.hotel_model.proofs.Names.{remove_key, insert_key, keys_of, are_in_order}
+use Rattle.hotel_model.proofs.Names.{remove_key, insert_key, keys_of, are_in_order, keys_in_order, Rows, slice_cmp}
+use Rattle.hotel_model.proofs.Names.{pair_cmp}
+use Rattle.hotel_model.proofs.OfTables.Tests.{eight_true}
+
+-- The keys of each table are in order.
+pub record AreOrdered (rows : Rows) : Type 0 where
+  pub kinds : are_in_order (slice_cmp nat_cmp) rows.kinds ≡ true
+  pub rooms : are_in_order nat_cmp (keys_of rows.rooms) ≡ true
+  pub codes : are_in_order nat_cmp (keys_of rows.codes) ≡ true
+  pub stays : are_in_order nat_cmp (keys_of rows.stays) ≡ true
+  pub cards : are_in_order nat_cmp (keys_of rows.cards) ≡ true
+  pub inside : are_in_order pair_cmp rows.inside ≡ true
+  pub notes : are_in_order pair_cmp (keys_of rows.notes) ≡ true
+  pub fits : are_in_order pair_cmp (keys_of rows.fits) ≡ true
+
+pub ordered : (rows : Rows) → keys_in_order rows ≡ true → AreOrdered rows
+ordered rows t =
+    let a = eight_true (are_in_order (slice_cmp nat_cmp) rows.kinds) (are_in_order nat_cmp (keys_of rows.rooms))
+    (are_in_order nat_cmp (keys_of rows.codes)) (are_in_order nat_cmp (keys_of rows.stays))
+    (are_in_order nat_cmp (keys_of rows.cards)) (are_in_order pair_cmp rows.inside)
+    (are_in_order pair_cmp (keys_of rows.notes)) (are_in_order pair_cmp (keys_of rows.fits)) t in
+    record {
+      kinds = a.0;
+      rooms = a.1;
+      codes = a.2;
+      stays = a.3;
+      cards = a.4;
+      inside = a.5;
+      notes = a.6;
+      fits = a.7;
+    }
 
 -- each of these comes after the key
 abbrev pub AllAfter : {K : Type 0} → (K → K → Ordering) → K → List K → Type 0

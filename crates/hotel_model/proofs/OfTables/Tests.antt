@@ -84,6 +84,18 @@ pub and_true : (a b : Bool) → (a && b) ≡ true → (a ≡ true) × (b ≡ tru
 and_true true b e = (refl, e)
 and_true false b e = not_both false e refl
 
+-- eight tests pass, and so does each of them
+pub eight_true : (a b c d e f g k : Bool) → (a && b && c && d && e && f && g && k) ≡ true → (a ≡ true) × (b ≡ true) × (c ≡ true) × (d ≡ true) × (e ≡ true) × (f ≡ true) × (g ≡ true) × (k ≡ true)
+eight_true a b c d e f g k t =
+    let o = and_true (a && b && c && d && e && f && g) k t in
+    let p = and_true (a && b && c && d && e && f) g o.0 in
+    let q = and_true (a && b && c && d && e) f p.0 in
+    let u = and_true (a && b && c && d) e q.0 in
+    let v = and_true (a && b && c) d u.0 in
+    let w = and_true (a && b) c v.0 in
+    let x = and_true a b w.0 in
+    (x.0, x.1, w.1, v.1, u.1, q.1, p.1, o.1)
+
 -- what follows of an answer's fact
 pub when_ok : {T E : Type 0} (r : Result T E) (P Q : Type 0) → (P → Q) → OnOk r P → OnOk r Q
 when_ok (Ok t) P Q f p = f p

@@ -1,9 +1,9 @@
 -- The rows after a room was added, and the row of a room to which a party came.
-use Rattle.std.proofs.Common.{ℕ, ◌≡◌, ◌+◌, Bool, true, false, Option, Some, None, List, [], ◌∷◌, refl, ap, ◌∙◌, length}
+use Rattle.std.proofs.Common.{ℕ, ◌≡◌, ◌+◌, Bool, true, false, Option, Some, List, [], ◌∷◌, refl, ap, ◌∙◌, length}
 use Rattle.std.proofs.Common.{◌==◌, nat_cmp, Ordering, Less, Equal, Greater}
 use Rattle.hotel_model.proofs.Names.{match_ordering, insert_entry, exact_unsigned, RoomRow, when, and_last, said_of}
 use Rattle.hotel_model.proofs.Names.{Install, History, ◌▷◌, issued, all_issued, secured, present_fit, fits, fit_row}
-use Rattle.hotel_model.proofs.Names.{pair_cmp, rooms, room_row, rows_of, is_room, Reached, codes_of}
+use Rattle.hotel_model.proofs.Names.{pair_cmp, rooms, room_row, rows_of, is_room, Reached, codes_of, new_row}
 use Rattle.hotel_model.proofs.{Facts.Follow.FollowsBy, Facts.Follow.ApartFrom, OfTables.Numbered.true_is_not_false}
 use Rattle.hotel_model.proofs.RowsAfter.RowsRooms.{eq_flip, rows_by, others}
 use Rattle.hotel_model.proofs.OfTables.RoomNumbers.{apart_from, room_there}
@@ -39,7 +39,7 @@ row_is room kind place place' codes codes' s s' p p' n n' f f' o o' a b c d e g 
 
 -- the row of a room that was just added
 added_row : (h : History) (room code : ℕ) (kind : List ℕ) → Reached h → is_room h room ≡ false
-    → room_row (h ▷ Install room kind code) room kind ≡ record { room = room; kind = kind; lock_place = 0; codes = 1; secured = false; party = None; notes = 0; fit = 1; before = 0 }
+    → room_row (h ▷ Install room kind code) room kind ≡ new_row room kind
 added_row h room code kind ok none =
     row_is room kind _ _ _ _ _ _ _ _ _ _ _ _ _ _
     (ap (λ (xs : List ℕ). length xs) (nothing_passed h ok room none))
@@ -60,7 +60,7 @@ install_follows h room code kind ok none =
     (rooms h) (apart_from room (rooms h) none)
     ∙ ap (λ row. insert_entry nat_cmp (rows_of h).rooms room row) (added_row h room code kind ok none))
     ∙ ap (λ (xs : List ℕ). record (rows_of h) {
-      rooms = insert_entry nat_cmp (rows_of h).rooms room (record { room = room; kind = kind; lock_place = 0; codes = 1; secured = false; party = None; notes = 0; fit = 1; before = 0 });
+      rooms = insert_entry nat_cmp (rows_of h).rooms room (new_row room kind);
       codes = insert_entry nat_cmp (all_issued h) code (record { room = room; place = length xs });
       fits = insert_entry pair_cmp (fits h) (room, 1) (fit_row room 1 0 0);
     }) (nothing_issued h ok room none)

@@ -4,6 +4,7 @@ use Rattle.hotel_model.proofs.Names.{Link, Note, RoomRow, when, and_last, before
 use Rattle.hotel_model.proofs.Names.{said_of, before_in, History, ◌▷◌, current, passed, turns, awaited, inside, secured}
 use Rattle.hotel_model.proofs.Names.{are_none, notes, rooms, room_row, rows_of, is_room, is_one_of, insiders, moved}
 use Rattle.hotel_model.proofs.Names.{comes, insert_entry, pair_cmp, all_notes, notes_before, Reached, room_changed}
+use Rattle.hotel_model.proofs.Names.{note_from}
 use Rattle.keycard_rules.specs.declared.note.Act.TheVariants as act
 use Rattle.hotel_model.proofs.{Facts.Follow.FollowsBy, RowsAfter.RowsRooms.one_changed, RowsAfter.RowsRooms.length_more}
 use Rattle.hotel_model.proofs.{OfTables.RoomNumbers.rooms_once, OfTables.RoomNumbers.room_there, Facts.Follow.RoomsOnce}
@@ -25,7 +26,7 @@ number_said h room count e n = sym n ∙ ap (λ z. z + count) (sym (before_said 
 pub left_follows : (h : History) (room fit count number : ℕ) (link : Link) (at : Moment) → RoomsOnce (rooms h) → is_room h room ≡ true → notes_before h room + count ≡ length (notes h room) + 1 → FollowsBy h (Left room fit count number link at)
 left_follows h room fit count number link at once there n =
     let h' : History = h ▷ Left room fit count number link at in
-    let note : Note = record { room = room; fit = fit; count = count; act = act.Left number link; day = at.0; second = at.1 } in
+    let note : Note = note_from room fit count (act.Left number link) at in
     ap (λ rs. record (rows_of h') { rooms = rs })
     (one_changed (room_row h') (room_row h) (noted_row (length (passed h' room)) (secured h' room) count) room
     (λ r k t. ap (λ b. record (room_row h r k) { notes = length (when b (and_last note) (notes h r)) }) t)
@@ -37,7 +38,7 @@ left_follows h room fit count number link at once there n =
 pub entered_follows : (h : History) (room fit count number : ℕ) (link : Link) (at : Moment) → Reached h → is_room h room ≡ true → notes_before h room + count ≡ length (notes h room) + 1 → FollowsBy h (Entered room fit count number link at)
 entered_follows h room fit count number link at ok there n =
     let h' : History = h ▷ Entered room fit count number link at in
-    let note : Note = record { room = room; fit = fit; count = count; act = act.Entered number link; day = at.0; second = at.1 } in
+    let note : Note = note_from room fit count (act.Entered number link) at in
     let c : RoomRow → RoomRow = noted_row (length (passed h' room)) (secured h' room) count in
     ap (λ rs. record (rows_of h') { rooms = rs })
     (one_changed (room_row h') (room_row h) c room
@@ -55,7 +56,7 @@ entered_follows h room fit count number link at ok there n =
 pub recoded_follows : (h : History) (room fit count from to : ℕ) (at : Moment) → Reached h → is_room h room ≡ true → notes_before h room + count ≡ length (notes h room) + 1 → FollowsBy h (Recoded room fit count from to at)
 recoded_follows h room fit count from to at ok there n =
     let h' : History = h ▷ Recoded room fit count from to at in
-    let note : Note = record { room = room; fit = fit; count = count; act = act.Recoded from to; day = at.0; second = at.1 } in
+    let note : Note = note_from room fit count (act.Recoded from to) at in
     let c : RoomRow → RoomRow = noted_row (length (passed h' room)) (secured h' room) count in
     ap (λ rs. record (rows_of h') { rooms = rs })
     (one_changed (room_row h') (room_row h) c room

@@ -8,7 +8,7 @@ use Rattle.hotel_model.proofs.Names.{cards, held, passed, awaited, same_link, ro
 use Rattle.hotel_model.proofs.Names.{code_is, are_neighbours, stands_at, comes_later, has_link_at, act_fits, note_fits}
 use Rattle.hotel_model.proofs.Names.{notes_fit, is_of_fit, notes_of_fits, notes_counted, notes, notes_before}
 use Rattle.hotel_model.proofs.Names.{present_fit, all_notes, fits, fit_at, FitRow, fit_row, start, Install, Refitted}
-use Rattle.hotel_model.proofs.Names.{is_at, lookup, insert_entry, pair_cmp, said_of, list_all}
+use Rattle.hotel_model.proofs.Names.{is_at, lookup, insert_entry, pair_cmp, said_of, list_all, note_from}
 use Rattle.keycard_rules.specs.declared.note.Act.TheVariants as act
 use Rattle.hotel_model.proofs.{Facts.CodeFacts.IsLinkOf, OfTables.Tests.eq_from, OfTables.Tests.eq_self}
 use Rattle.hotel_model.proofs.{OfTables.Tests.and_true, OfTables.Tests.not_both, OfTables.Grown.may_follow}
@@ -116,19 +116,19 @@ left_fits h room fit count number link at ok =
 one_fits : (h : History) (event : Event) (note : Note) → Reached (h ▷ event) → note_of event ≡ Some note → note_fits (rows_of (h ▷ event)) ((note.room, length (notes h note.room) + 1), note) ≡ true
 one_fits h (Entered room fit count number link at) note ok e =
     let event : Event = Entered room fit count number link at in
-    let its : Note = record { room = room; fit = fit; count = count; act = act.Entered number link; day = at.0; second = at.1 } in
+    let its : Note = note_from room fit count (act.Entered number link) at in
     let w : its ≡ note = cc in
     subst (λ (n : Note). note_fits (rows_of (h ▷ event)) ((n.room, length (notes h n.room) + 1), n) ≡ true) w
     (new_fits (h ▷ event) its (length (notes h room) + 1) (may_follow h event ok).1 (entered_fits h room fit count number link at ok) (last_in_range h event ok).1)
 one_fits h (Left room fit count number link at) note ok e =
     let event : Event = Left room fit count number link at in
-    let its : Note = record { room = room; fit = fit; count = count; act = act.Left number link; day = at.0; second = at.1 } in
+    let its : Note = note_from room fit count (act.Left number link) at in
     let w : its ≡ note = cc in
     subst (λ (n : Note). note_fits (rows_of (h ▷ event)) ((n.room, length (notes h n.room) + 1), n) ≡ true) w
     (new_fits (h ▷ event) its (length (notes h room) + 1) (may_follow h event ok).1 (left_fits h room fit count number link at ok) (last_in_range h event ok).1)
 one_fits h (Recoded room fit count from to at) note ok e =
     let event : Event = Recoded room fit count from to at in
-    let its : Note = record { room = room; fit = fit; count = count; act = act.Recoded from to; day = at.0; second = at.1 } in
+    let its : Note = note_from room fit count (act.Recoded from to) at in
     let w : its ≡ note = cc in
     let n = may_follow h event ok in
     subst (λ (n : Note). note_fits (rows_of (h ▷ event)) ((n.room, length (notes h n.room) + 1), n) ≡ true) w
@@ -207,21 +207,21 @@ new_within h event note e = let l = one_more_note h event note e in le_tested _ 
 one_of_fit : (h : History) (event : Event) (note : Note) → Reached (h ▷ event) → note_of event ≡ Some note → is_of_fit_within (h ▷ event) ((note.room, length (notes h note.room) + 1), note) ≡ true
 one_of_fit h (Entered room fit count number link at) note ok e =
     let event : Event = Entered room fit count number link at in
-    let its : Note = record { room = room; fit = fit; count = count; act = act.Entered number link; day = at.0; second = at.1 } in
+    let its : Note = note_from room fit count (act.Entered number link) at in
     let w : its ≡ note = cc in
     let n = may_follow h event ok in
     both _ _ (subst (λ (x : Note). is_of_fit (rows_of h) ((x.room, length (notes h x.room) + 1), x) ≡ true) w
     (next_of_fit h ok.0 its n.1 n.5 (last_in_range h event ok).0.0 (next_number h ok.0 room fit count n.0 n.5))) (new_within h event note e)
 one_of_fit h (Left room fit count number link at) note ok e =
     let event : Event = Left room fit count number link at in
-    let its : Note = record { room = room; fit = fit; count = count; act = act.Left number link; day = at.0; second = at.1 } in
+    let its : Note = note_from room fit count (act.Left number link) at in
     let w : its ≡ note = cc in
     let n = may_follow h event ok in
     both _ _ (subst (λ (x : Note). is_of_fit (rows_of h) ((x.room, length (notes h x.room) + 1), x) ≡ true) w
     (next_of_fit h ok.0 its n.1 n.5 (last_in_range h event ok).0.0 (next_number h ok.0 room fit count n.0 n.5))) (new_within h event note e)
 one_of_fit h (Recoded room fit count from to at) note ok e =
     let event : Event = Recoded room fit count from to at in
-    let its : Note = record { room = room; fit = fit; count = count; act = act.Recoded from to; day = at.0; second = at.1 } in
+    let its : Note = note_from room fit count (act.Recoded from to) at in
     let w : its ≡ note = cc in
     let n = may_follow h event ok in
     both _ _ (subst (λ (x : Note). is_of_fit (rows_of h) ((x.room, length (notes h x.room) + 1), x) ≡ true) w

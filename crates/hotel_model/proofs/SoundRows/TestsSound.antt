@@ -32,8 +32,8 @@ begins_by : (rows : Rows) → ((kind : List ℕ) (d : ℕ) → NightFits rows ki
 begins_by rows fit [] = refl
 begins_by rows fit (e ∷ es) = both _ _ (le_tested _ _ (fit e.1.kind e.1.arrive)) (begins_by rows fit es)
 
-begins_fit : (rows : Rows) → ((kind : List ℕ) (d : ℕ) → NightFits rows kind d) → nights_fit rows ≡ true
-begins_fit rows fit = begins_by rows fit rows.stays
+pub nights_pass : (rows : Rows) → ((kind : List ℕ) (d : ℕ) → NightFits rows kind d) → nights_fit rows ≡ true
+nights_pass rows fit = begins_by rows fit rows.stays
 
 -- the stay takes the night, and it is its first
 abbrev begins : List ℕ → ℕ → ℕ × Stay → Bool
@@ -124,7 +124,7 @@ all_nights_fit rows all kind (suc d) = by (list_any (begins kind (suc d)) rows.s
 -- Sound rows pass the test.
 pub sound_pass : (rows : Rows) → IsSound rows → passes_rules rows ≡ true
 sound_pass rows s =
-    both _ _ (both _ _ (both _ _ (both _ _ (both _ _ (both _ _ (both _ _ (both _ _ (both _ _ (both _ _ (both _ _ (both _ _ (both _ _ (both _ _ (both _ _ (both _ _ (both _ _ (both _ _ (both _ _ (both _ _ (both _ _ (both _ _ (both _ _ (both _ _ (both _ _ (both _ _ (both _ _ (both _ _ (both _ _ (both _ _ (both _ _ (both _ _ (both _ _ (both _ _ (both _ _ (both _ _ (both _ _ (both _ _ (both _ _ (both _ _ s.keys s.meta_day) s.meta_kinds) s.kind_reads) s.room_number) s.room_lock_place) s.room_kind) s.room_codes) s.room_notes) s.room_party) s.room_secured) s.stay_number) s.stay_guest) s.stay_kind) s.stay_day) s.stay_room) (begins_fit rows s.stay_nights)) s.code_range) s.code_room) s.code_places) s.card_number) s.card_party) s.card_link) s.card_one_party) s.card_neighbours) s.card_fits) s.card_newest) s.card_last) s.inside_fits) s.note_counted) s.note_fits) s.note_of_fit) s.fit_room) s.fit_number) s.fit_first) s.fit_places) s.fit_notes) s.fit_held) s.fit_noted) s.fit_few) s.fit_of_room
+    both _ _ (both _ _ (both _ _ (both _ _ (both _ _ (both _ _ (both _ _ (both _ _ (both _ _ (both _ _ (both _ _ (both _ _ (both _ _ (both _ _ (both _ _ (both _ _ (both _ _ (both _ _ (both _ _ (both _ _ (both _ _ (both _ _ (both _ _ (both _ _ (both _ _ (both _ _ (both _ _ (both _ _ (both _ _ (both _ _ (both _ _ (both _ _ (both _ _ (both _ _ (both _ _ (both _ _ (both _ _ (both _ _ (both _ _ (both _ _ s.keys s.meta_day) s.meta_kinds) s.kind_reads) s.room_number) s.room_lock_place) s.room_kind) s.room_codes) s.room_notes) s.room_party) s.room_secured) s.stay_number) s.stay_guest) s.stay_kind) s.stay_day) s.stay_room) (nights_pass rows s.stay_nights)) s.code_range) s.code_room) s.code_places) s.card_number) s.card_party) s.card_link) s.card_one_party) s.card_neighbours) s.card_fits) s.card_newest) s.card_last) s.inside_fits) s.note_counted) s.note_fits) s.note_of_fit) s.fit_room) s.fit_number) s.fit_first) s.fit_places) s.fit_notes) s.fit_held) s.fit_noted) s.fit_few) s.fit_of_room
 
 -- Rows that pass the test are sound.
 pub passing_are_sound : (rows : Rows) → passes_rules rows ≡ true → IsSound rows

@@ -5,9 +5,10 @@ use Rattle.std.proofs.Common.{nat_cmp}
 use Rattle.hotel_model.proofs.Names.{list_all, insert_entry, keys_of, values_of, slice_cmp, nat_cmp_total}
 use Rattle.hotel_model.proofs.Names.{nat_list_cmp_total, CodeRow, RoomRow, when, pair_cmp, is_one_of, said_of, Rows}
 use Rattle.hotel_model.proofs.Names.{at_number, codes_by_place, codes_at, lock_place_of, start, is_room, count_up}
-use Rattle.hotel_model.proofs.Names.{are_in_order, codes_listed, IsSound}
+use Rattle.hotel_model.proofs.Names.{codes_listed, IsSound}
 use Rattle.hotel_model.proofs.{Facts.CodeFacts.CodesHavePlaces, Facts.CodeFacts.PlacesHaveCodes}
-use Rattle.hotel_model.proofs.{OfTables.KeysInOrder.InOrder, OfTables.CodeLists.nothing_in_nil}
+use Rattle.hotel_model.proofs.OfTables.KeysInOrder.{InOrder, ordered}
+use Rattle.hotel_model.proofs.{OfTables.CodeLists.nothing_in_nil}
 use Rattle.hotel_model.proofs.{OfTables.Pairs.pair_cmp_total, OfTables.Tests.eq_from, OfTables.Tests.and_true}
 use Rattle.hotel_model.proofs.{OfTables.Tests.not_both, OfTables.TableKeys.is_key}
 use Rattle.hotel_model.proofs.{OfTables.RowTests.found_passes, Starts.StartRules.some_of, OfTables.Tests.lt_from}
@@ -26,31 +27,18 @@ pub record Orders (t : Rows) : Type 0 where
   pub notes : InOrder pair_cmp (keys_of t.notes)
   pub fits : InOrder pair_cmp (keys_of t.fits)
 
-parts_of : (a b c d e f g k : Bool) → (a && b && c && d && e && f && g && k) ≡ true → (a ≡ true) × (b ≡ true) × (c ≡ true) × (d ≡ true) × (e ≡ true) × (f ≡ true) × (g ≡ true) × (k ≡ true)
-parts_of a b c d e f g k t =
-    let o = and_true (a && b && c && d && e && f && g) k t in
-    let p = and_true (a && b && c && d && e && f) g o.0 in
-    let q = and_true (a && b && c && d && e) f p.0 in
-    let u = and_true (a && b && c && d) e q.0 in
-    let v = and_true (a && b && c) d u.0 in
-    let w = and_true (a && b) c v.0 in
-    let x = and_true a b w.0 in
-    (x.0, x.1, w.1, v.1, u.1, q.1, p.1, o.1)
-
 pub orders : (t : Rows) → IsSound t → Orders t
 orders t s =
-    let a =
-    parts_of (are_in_order (slice_cmp nat_cmp) t.kinds) (are_in_order nat_cmp (keys_of t.rooms)) (are_in_order nat_cmp (keys_of t.codes)) (are_in_order nat_cmp (keys_of t.stays))
-    (are_in_order nat_cmp (keys_of t.cards)) (are_in_order pair_cmp t.inside) (are_in_order pair_cmp (keys_of t.notes)) (are_in_order pair_cmp (keys_of t.fits)) s.keys in
+    let a = ordered t s.keys in
     record {
-      kinds = in_order_from (slice_cmp nat_cmp) nat_list_cmp_total t.kinds a.0;
-      rooms = in_order_from nat_cmp nat_cmp_total (keys_of t.rooms) a.1;
-      codes = in_order_from nat_cmp nat_cmp_total (keys_of t.codes) a.2;
-      stays = in_order_from nat_cmp nat_cmp_total (keys_of t.stays) a.3;
-      cards = in_order_from nat_cmp nat_cmp_total (keys_of t.cards) a.4;
-      inside = in_order_from pair_cmp pair_cmp_total t.inside a.5;
-      notes = in_order_from pair_cmp pair_cmp_total (keys_of t.notes) a.6;
-      fits = in_order_from pair_cmp pair_cmp_total (keys_of t.fits) a.7;
+      kinds = in_order_from (slice_cmp nat_cmp) nat_list_cmp_total t.kinds a.kinds;
+      rooms = in_order_from nat_cmp nat_cmp_total (keys_of t.rooms) a.rooms;
+      codes = in_order_from nat_cmp nat_cmp_total (keys_of t.codes) a.codes;
+      stays = in_order_from nat_cmp nat_cmp_total (keys_of t.stays) a.stays;
+      cards = in_order_from nat_cmp nat_cmp_total (keys_of t.cards) a.cards;
+      inside = in_order_from pair_cmp pair_cmp_total t.inside a.inside;
+      notes = in_order_from pair_cmp pair_cmp_total (keys_of t.notes) a.notes;
+      fits = in_order_from pair_cmp pair_cmp_total (keys_of t.fits) a.fits;
     }
 
 -- a room's row has its number

@@ -11,7 +11,7 @@ use Rattle.hotel_model.specs.{declared.change.Change.Change}
 use Rattle.hotel_model.specs.declared.change.InsideMove.TheVariants.{Same, Goes, Comes}
 use Rattle.hotel_model.specs.declared.change.Change.TheVariants.{Begin, DayTo, Kind, Room, Reserved, Cancelled, Issue}
 use Rattle.hotel_model.specs.declared.change.Change.TheVariants.{Spare, CheckedOut, Refit, Noted}
-use Rattle.hotel_model.specs.{Words.pair_cmp, Rows.Rows, Rows.column_at, Stays.in_state}
+use Rattle.hotel_model.specs.{Words.pair_cmp, Rows.Rows, Rows.InsideKey, Rows.column_at, Stays.in_state}
 use Rattle.hotel_model.specs.{Guests.those_elsewhere, Refits.fit_row}
 
 -- the rooms, with f done to the row of a number
@@ -29,7 +29,7 @@ freed_by (Some room) rooms = without_party room rooms
 freed_by None rooms = rooms
 
 -- the cards inside rooms, after a move at a room
-abbrev pub moved : InsideMove → ℕ → List (ℕ × ℕ) → List (ℕ × ℕ)
+abbrev pub moved : InsideMove → ℕ → List InsideKey → List InsideKey
 moved Same room pairs = pairs
 moved (Goes number) room pairs = remove_key (is_at (pair_cmp (room, number))) pairs
 moved (Comes number) room pairs = insert_key pair_cmp pairs (room, number)
@@ -45,14 +45,27 @@ notes_in rows room = column_at rows.rooms room (λ row. row.notes)
 abbrev pub before_in : Rows → ℕ → ℕ
 before_in rows room = column_at rows.rooms room (λ row. row.before)
 
+-- the row of a new room: its lock is the first fit, and holds its one code
+abbrev pub new_row : ℕ → List ℕ → RoomRow
+new_row room kind = record {
+  room = room;
+  kind = kind;
+  lock_place = 0;
+  codes = 1;
+  secured = false;
+  party = None;
+  notes = 0;
+  fit = 1;
+  before = 0;
+}
+
 -- The rows with those of the change added or altered, and no others.
 abbrev pub made : Change → Rows → Rows
 made (Begin day) rows = record rows { day = Some day }
 made (DayTo day) rows = record rows { day = Some day }
 made (Kind kind) rows = record rows { kinds = insert_key (slice_cmp nat_cmp) rows.kinds kind }
 made (Room room kind code) rows = record rows {
-  rooms = insert_entry nat_cmp rows.rooms room
-      (record { room = room; kind = kind; lock_place = 0; codes = 1; secured = false; party = None; notes = 0; fit = 1; before = 0 });
+  rooms = insert_entry nat_cmp rows.rooms room (new_row room kind);
   codes = insert_entry nat_cmp rows.codes code (record { room = room; place = 0 });
   fits = insert_entry pair_cmp rows.fits (room, 1) (fit_row room 1 0 0);
 }

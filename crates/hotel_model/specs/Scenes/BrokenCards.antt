@@ -6,7 +6,7 @@ use Rattle.keycard_rules.specs.declared.note.Act.TheVariants as act
 use Rattle.hotel_nights.specs.declared.stay.Stay.{Stay}
 use Rattle.hotel_nights.specs.declared.stay.StayState.TheVariants as state
 use Rattle.hotel_model.specs.declared.rows.CodeRow.{CodeRow}
-use Rattle.hotel_model.specs.Rows.{Rows}
+use Rattle.hotel_model.specs.Rows.{Rows, NoteKey}
 use Rattle.hotel_model.specs.Scenes.Words.{a0, a1, a2, b0, b1, d0, TWN, link}
 use Rattle.hotel_model.specs.Scenes.RuleNames.{Broken, AreBroken}
 use Rattle.hotel_model.specs.Scenes.BrokenRows.{code, note, fit, first_notes, third_note, note_of_102, other_notes}
@@ -14,7 +14,7 @@ use Rattle.hotel_model.specs.Scenes.BrokenRows.{notes_of_105, fits_of_103_and_10
 use Rattle.hotel_model.specs.Scenes.BrokenRows.{changed, moved, with_room, with_card, with_code, with_insides}
 
 -- the last notes of rooms 101 and 102, in the place of theirs
-abbrev pub with_notes : (ℕ × ℕ) × Note → (ℕ × ℕ) × Note → Rows
+abbrev pub with_notes : NoteKey × Note → NoteKey × Note → Rows
 with_notes third other = record rows { notes = first_notes ++ third ∷ other ∷ other_notes ++ notes_of_105 }
 
 abbrev pub with_third : (Note → Note) → Rows

@@ -6,7 +6,7 @@ use Rattle.keycard_rules.specs.declared.note.Act.TheVariants as act
 use Rattle.hotel_model.specs.declared.rows.RoomRow.{RoomRow}
 use Rattle.hotel_model.specs.declared.rows.CodeRow.{CodeRow}
 use Rattle.hotel_model.specs.declared.rows.FitRow.{FitRow}
-use Rattle.hotel_model.specs.Rows.{Rows}
+use Rattle.hotel_model.specs.Rows.{Rows, NoteKey, FitKey}
 use Rattle.hotel_model.specs.Scenes.Words.{TWN}
 use Rattle.hotel_model.specs.Scenes.RuleNames.{Broken, AreBroken, IsWhole}
 use Rattle.hotel_model.specs.Scenes.BrokenRows.{room_row, code, note_of, fit, notes_of_105, fits_before_105}
@@ -24,13 +24,13 @@ abbrev pub after_notes : ℕ → RoomRow → RoomRow
 after_notes number row = record row { before = number }
 
 -- the rows with other fits of room 103
-abbrev pub with_103 : List ((ℕ × ℕ) × FitRow) → (RoomRow → RoomRow) → Rows
+abbrev pub with_103 : List (FitKey × FitRow) → (RoomRow → RoomRow) → Rows
 with_103 its_fits f = record (with_room 103 f) {
   fits = fit 101 1 0 0 ∷ fit 102 1 0 0 ∷ its_fits ++ fit 104 1 0 0 ∷ fit 104 2 2 2 ∷ fits_of_105 ++ fits_after_105;
 }
 
 -- the two notes of room 105, each with a fit and a count
-abbrev pub two_notes : ℕ → ℕ → ℕ → ℕ → List ((ℕ × ℕ) × Note)
+abbrev pub two_notes : ℕ → ℕ → ℕ → ℕ → List (NoteKey × Note)
 two_notes fit1 count1 fit2 count2 =
     note_of 105 1 fit1 count1 (act.Recoded 0x50 0x51)
     ∷ note_of 105 2 fit2 count2 (act.Recoded 0x51 0x52)
@@ -41,7 +41,7 @@ abbrev pub codes_of_106 : ℕ → ℕ → List (ℕ × CodeRow)
 codes_of_106 place zero = []
 codes_of_106 place (suc n) = code (4096 + place) 106 place ∷ codes_of_106 (place + 1) n
 
-abbrev pub fits_of_106 : ℕ → ℕ → List ((ℕ × ℕ) × FitRow)
+abbrev pub fits_of_106 : ℕ → ℕ → List (FitKey × FitRow)
 fits_of_106 place zero = []
 fits_of_106 place (suc n) = fit 106 (place + 1) place 0 ∷ fits_of_106 (place + 1) n
 
@@ -66,7 +66,7 @@ abbrev pub with_other_room : Rows
 with_other_room = with_103 (((103, 1), (fit 101 1 0 0).1) ∷ []) same
 
 -- room 105 with a second and a third fit at other places and after other notes
-abbrev pub fits_with : (place2 notes2 place3 notes3 : ℕ) → List ((ℕ × ℕ) × FitRow)
+abbrev pub fits_with : (place2 notes2 place3 notes3 : ℕ) → List (FitKey × FitRow)
 fits_with place2 notes2 place3 notes3 = fit 105 1 0 0 ∷ fit 105 2 place2 notes2 ∷ fit 105 3 place3 notes3 ∷ []
 
 -- four fits of room 105, two of them at one place

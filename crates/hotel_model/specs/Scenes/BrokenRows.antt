@@ -11,7 +11,7 @@ use Rattle.hotel_model.specs.declared.rows.RoomRow.{RoomRow}
 use Rattle.hotel_model.specs.declared.rows.CodeRow.{CodeRow}
 use Rattle.hotel_model.specs.declared.rows.FitRow.{FitRow}
 use Rattle.hotel_model.specs.Words.{when}
-use Rattle.hotel_model.specs.Rows.{Rows}
+use Rattle.hotel_model.specs.Rows.{Rows, InsideKey, NoteKey, FitKey}
 use Rattle.hotel_model.specs.Scenes.Words.{may, M, a0, a1, a2, b0, b1, c0, c1, d0, DBL, SGL, TWN, guest, link}
 use Rattle.hotel_model.specs.Scenes.Words.{note as noted}
 
@@ -50,49 +50,49 @@ abbrev pub card : ℕ → ℕ → ℕ → ℕ → ℕ × Card
 card number party old new = (number, record { number = number; party = party; link = link old new })
 
 -- a note of a fit, at its number among all notes of the room
-abbrev pub note_of : ℕ → ℕ → ℕ → ℕ → Act → (ℕ × ℕ) × Note
+abbrev pub note_of : ℕ → ℕ → ℕ → ℕ → Act → NoteKey × Note
 note_of its_room number fit count its_act = ((its_room, number), noted its_room fit count its_act M)
 
 -- a note of a room's first fit
-abbrev pub note : ℕ → ℕ → Act → (ℕ × ℕ) × Note
+abbrev pub note : ℕ → ℕ → Act → NoteKey × Note
 note its_room count its_act = note_of its_room count 1 count its_act
 
-abbrev pub fit : ℕ → ℕ → ℕ → ℕ → (ℕ × ℕ) × FitRow
+abbrev pub fit : ℕ → ℕ → ℕ → ℕ → FitKey × FitRow
 fit its_room number place notes =
     ((its_room, number), record { room = its_room; fit = number; place = place; before = notes })
 
 -- ---- sound rows
 
 -- two notes of room 101, its third one, and that of room 102
-abbrev pub first_notes : List ((ℕ × ℕ) × Note)
+abbrev pub first_notes : List (NoteKey × Note)
 first_notes = note 101 1 (act.Entered 1 (link a0 a1)) ∷ note 101 2 (act.Left 1 (link a0 a1)) ∷ []
 
-abbrev pub third_note : (ℕ × ℕ) × Note
+abbrev pub third_note : NoteKey × Note
 third_note = note 101 3 (act.Entered 4 (link a1 a2))
 
-abbrev pub note_of_102 : (ℕ × ℕ) × Note
+abbrev pub note_of_102 : NoteKey × Note
 note_of_102 = note 102 1 (act.Recoded b0 b1)
 
-abbrev pub notes_of_105 : List ((ℕ × ℕ) × Note)
+abbrev pub notes_of_105 : List (NoteKey × Note)
 notes_of_105 = note 105 1 (act.Recoded 0x50 0x51) ∷ note_of 105 2 3 1 (act.Recoded 0x51 0x52) ∷ []
 
-abbrev pub other_notes : List ((ℕ × ℕ) × Note)
+abbrev pub other_notes : List (NoteKey × Note)
 other_notes =
     note 104 1 (act.Entered 8 (link 0xf0 0xf1))
     ∷ note 104 2 (act.Left 8 (link 0xf0 0xf1))
     ∷ note_of 104 3 2 1 (act.Entered 9 (link 0xf2 0xf3))
     ∷ []
 
-abbrev pub fits_of_103_and_104 : List ((ℕ × ℕ) × FitRow)
+abbrev pub fits_of_103_and_104 : List (FitKey × FitRow)
 fits_of_103_and_104 = fit 103 1 0 0 ∷ fit 104 1 0 0 ∷ fit 104 2 2 2 ∷ []
 
-abbrev pub fits_before_105 : List ((ℕ × ℕ) × FitRow)
+abbrev pub fits_before_105 : List (FitKey × FitRow)
 fits_before_105 = fit 101 1 0 0 ∷ fit 102 1 0 0 ∷ fits_of_103_and_104
 
-abbrev pub fits_of_105 : List ((ℕ × ℕ) × FitRow)
+abbrev pub fits_of_105 : List (FitKey × FitRow)
 fits_of_105 = fit 105 1 0 0 ∷ fit 105 2 1 1 ∷ fit 105 3 2 1 ∷ []
 
-abbrev pub fits_after_105 : List ((ℕ × ℕ) × FitRow)
+abbrev pub fits_after_105 : List (FitKey × FitRow)
 fits_after_105 = fit 201 1 0 0 ∷ fit 202 1 0 0 ∷ []
 
 -- Party 2 had room 101, and party 1 moved there from room 102 and is inside; party 3 is in room 201, which it never
@@ -170,7 +170,7 @@ abbrev pub with_stay : ℕ → (Stay → Stay) → Rows
 with_stay number f = record rows { stays = changed number f rows.stays }
 
 -- room 105 with other fits, a row changed, and other notes
-abbrev pub with_105 : List ((ℕ × ℕ) × FitRow) → (RoomRow → RoomRow) → List ((ℕ × ℕ) × Note) → Rows
+abbrev pub with_105 : List (FitKey × FitRow) → (RoomRow → RoomRow) → List (NoteKey × Note) → Rows
 with_105 its_fits f its_notes = record (with_room 105 f) {
   fits = fits_before_105 ++ its_fits ++ fits_after_105;
   notes = first_notes ++ third_note ∷ note_of_102 ∷ other_notes ++ its_notes;
@@ -182,5 +182,5 @@ with_card number f = record rows { cards = changed number f rows.cards }
 abbrev pub with_code : ℕ × CodeRow → Rows
 with_code more = record rows { codes = rows.codes ++ more ∷ [] }
 
-abbrev pub with_insides : List (ℕ × ℕ) → Rows
+abbrev pub with_insides : List InsideKey → Rows
 with_insides pairs = record rows { inside = pairs }

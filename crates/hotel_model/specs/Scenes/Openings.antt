@@ -1,6 +1,6 @@
 -- What several scenes begin with.
 use Rattle.std.specs.Prelude.{List, [], ◌∷◌}
-use Rattle.hotel_model.specs.Event.{Moment}
+use Rattle.hotel_nights.specs.Moments.{Moment}
 use Rattle.hotel_model.specs.Scenes.Words.{may, M, a0, a1, a2, DBL, ann_lee, bo, begin, add_kind, add_room, reserve}
 use Rattle.hotel_model.specs.Scenes.Words.{check_in, check_out, entered, left, begun, kind_added, room_code, party}
 use Rattle.hotel_model.specs.Scenes.Words.{card, checked_out, taken}

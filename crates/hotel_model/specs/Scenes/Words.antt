@@ -5,7 +5,7 @@ use Rattle.keycard_rules.specs.declared.card.Link.{Link}
 use Rattle.keycard_rules.specs.Note.{Note}
 use Rattle.keycard_rules.specs.declared.note.Act.{Act}
 use Rattle.keycard_rules.specs.declared.note.Act.TheVariants as act
-use Rattle.hotel_model.specs.Event.{Moment}
+use Rattle.hotel_nights.specs.Moments.{Moment, note_from}
 use Rattle.hotel_model.specs.declared.command.Command.{Command}
 use Rattle.hotel_model.specs.declared.command.Command.TheVariants as command
 use Rattle.hotel_model.specs.declared.reply.Reply.{Reply}
@@ -81,8 +81,7 @@ link old new = record { old_code = old; new_code = new }
 
 -- a note of a room's lock of this number
 abbrev pub note : ℕ → ℕ → ℕ → Act → Moment → Note
-note room fit count its_act at =
-    record { room = room; fit = fit; count = count; act = its_act; day = at.0; second = at.1 }
+note = note_from
 
 -- ---- commands, as a script's line has them
 

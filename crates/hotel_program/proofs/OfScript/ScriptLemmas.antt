@@ -11,8 +11,10 @@ use Rattle.std.proofs.KnownBytes.{Appends-trans, Appends-nil}
 use Rattle.keycard_rules.specs.declared.issued.Issued.{Ghosts as IssuedOf}
 use Rattle.rand_core.specs.Stream.{Stream}
 use Rattle.keycard_rules.proofs.Drawing.{past-zero}
-use Rattle.hotel_core.proofs.OfCode.Happens.{idle_by, passes_push, then_by}
-use Rattle.hotel_core.specs.Books.Happens.{HappensBy, Passes}
+use Rattle.hotel_core.proofs.OfCode.Happens.{idle_by, then_by}
+use Rattle.hotel_core.proofs.OfCode.Passes.{passes_push}
+use Rattle.hotel_core.specs.Books.Happens.{HappensBy}
+use Rattle.hotel_core.specs.Books.Passes.{Passes}
 use Rattle.hotel_asks.specs.declared.asks.Ask.{Ask}
 use Rattle.hotel_asks.specs.declared.asks.Ask.TheVariants as ask
 use Rattle.hotel_model.specs.declared.reply.Reply.TheVariants.{Refused}

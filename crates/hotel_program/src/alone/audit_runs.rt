@@ -1,7 +1,7 @@
 //! An audit file that is imported alone: its answers on one writer, and what went wrong on another.
 
-ghost use Rattle.std.specs.Prelude.{◌≡◌, ◌≢◌, true, IsErrOf, List, Bool, Result};
-ghost use Rattle.hotel_lists.specs.Calls.{NoneForgotten};
+ghost use Rattle.std.specs.Prelude.{◌≡◌, ◌≢◌, List, Bool, Result};
+ghost use Rattle.hotel_lists.specs.Calls.{CountsWrites, OnErrOf};
 ghost use Rattle.hotel_audit.specs.declared.answer.LineAnswer.{LineAnswer};
 ghost use Rattle.hotel_audit.specs.declared.imports.ImportFault.{ImportFault};
 ghost use Rattle.hotel_program.specs.Faults.{end_status, IsOfFiles, Tells};
@@ -75,8 +75,7 @@ fn import_and_write<B: Books, W: Write>(
         × WritesAnswers W.contents writer.old writer.new outcome write_failed
         × ImportEnds B.Issued B.rows bytes.now books.old books.new outcome }
     ensures no_usage { end_status result ≢ 2 }
-    ensures failed { IsErrOf result Fault.Write → calls.new.write_failed ≡ true }
-    ensures calls { NoneForgotten calls.old calls.new }
+    ensures calls { CountsWrites calls.old calls.new (OnErrOf result Fault.Write) }
 {
     let answers = match import(alloc, books, bytes) {
         Ok(answers) => answers,

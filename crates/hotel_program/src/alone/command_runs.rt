@@ -1,8 +1,8 @@
 //! One command that is carried out alone: its reply on one writer, and what went wrong on another.
 
-ghost use Rattle.std.specs.Prelude.{◌≡◌, ◌≢◌, ℕ, Bool, true, IsErrOf, Result};
+ghost use Rattle.std.specs.Prelude.{◌≡◌, ◌≢◌, ℕ, Bool, Result};
 ghost use Rattle.hotel_model.specs.declared.reply.Reply.{Reply};
-ghost use Rattle.hotel_lists.specs.Calls.{NoneForgotten};
+ghost use Rattle.hotel_lists.specs.Calls.{CountsWrites, OnErrOf};
 ghost use Rattle.hotel_program.specs.Alone.CommandRuns.{command_end, CommandEnds, WritesReply};
 ghost use Rattle.hotel_program.specs.Faults.{end_status, Tells};
 ghost use Rattle.hotel_program.specs.declared.faults.Fault.{Fault};
@@ -28,8 +28,7 @@ fn step_and_write<B: Books, R: Rng, W: Write>(
         × CommandEnds B.Issued B.rows command.now reply books.old books.new (R.stream source.old)
         (R.stream source.new) }
     ensures no_usage { end_status result ≢ 2 }
-    ensures failed { IsErrOf result Fault.Write → calls.new.write_failed ≡ true }
-    ensures calls { NoneForgotten calls.old calls.new }
+    ensures calls { CountsWrites calls.old calls.new (OnErrOf result Fault.Write) }
 {
     let reply = step(books, source, command);
     match write_bytes(writer, reply_text(&reply).as_bytes(), calls) {

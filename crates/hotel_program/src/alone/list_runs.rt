@@ -1,7 +1,7 @@
 //! A list that is asked for alone: its text on one writer, and what went wrong on another.
 
-ghost use Rattle.std.specs.Prelude.{◌≡◌, ◌≢◌, true, IsErrOf, Result};
-ghost use Rattle.hotel_lists.specs.Calls.{NoneForgotten};
+ghost use Rattle.std.specs.Prelude.{◌≡◌, ◌≢◌, Result};
+ghost use Rattle.hotel_lists.specs.Calls.{CountsWrites, OnErrOf};
 ghost use Rattle.hotel_lists.specs.Lines.{LooksAt};
 ghost use Rattle.hotel_lists.specs.declared.fault.ListFault.{ListFault};
 ghost use Rattle.hotel_program.specs.Faults.{end_status, Tells};
@@ -27,8 +27,7 @@ fn write_list_or_refusal<W: Write, B: Walks>(
     ensures text { B.is_honest books.new → AnswerEnds (listing_on (B.rows books.old) list.now) (W.contents writer.old)
         (W.contents writer.new) result }
     ensures books { LooksAt B.Issued books.old books.new result }
-    ensures failed { IsErrOf result ListFault.Write → calls.new.write_failed ≡ true }
-    ensures calls { NoneForgotten calls.old calls.new }
+    ensures calls { CountsWrites calls.old calls.new (OnErrOf result ListFault.Write) }
 {
     match write_list(alloc, list, writer, books, calls) {
         Err(ListFault::NoRoom) => {

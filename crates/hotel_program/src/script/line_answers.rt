@@ -1,11 +1,10 @@
 //! The answer to a line of a script.
 
-ghost use Rattle.std.specs.Prelude.{◌≡◌, true, Some, OnOk, OnErr};
+ghost use Rattle.std.specs.Prelude.{Some, OnErr};
 ghost use Rattle.hotel_asks.specs.declared.asks.Ask.TheVariants as ask;
-ghost use Rattle.std.specs.Io.KnownBytes.{Appends};
 ghost use Rattle.hotel_core.specs.Books.Happens.{HappensBy};
-ghost use Rattle.hotel_lists.specs.Bytes.{AppendsFront};
-ghost use Rattle.hotel_lists.specs.Calls.{NoneForgotten};
+ghost use Rattle.hotel_lists.specs.Bytes.{Writes};
+ghost use Rattle.hotel_lists.specs.Calls.{CountsWrites};
 ghost use Rattle.hotel_program.specs.Script.{Asks.ask_in, LineAnswers.AskEnds, LineAnswers.answer_text};
 
 use crate::script::asks::{LineFault, read_line};
@@ -32,10 +31,8 @@ fn write_answer<W: Write>(
     answer: &ScriptAnswer,
     calls: &mut IoCalls,
 ) -> Result<(), WriteFailed>
-    ensures ok { OnOk result (Appends (W.contents writer.old) (W.contents writer.new) (answer_text answer.now)) }
-    ensures err { OnErr result (AppendsFront (W.contents writer.old) (W.contents writer.new) (answer_text answer.now)) }
-    ensures failed { OnErr result (calls.new.write_failed ≡ true) }
-    ensures calls { NoneForgotten calls.old calls.new }
+    ensures writes { Writes (W.contents writer.old) (W.contents writer.new) (answer_text answer.now)
+        calls.old calls.new result }
 {
     match answer {
         ScriptAnswer::Replied(reply) => { write_bytes(writer, reply_text(reply).as_bytes(), calls) }
@@ -54,8 +51,7 @@ fn answer_command<W: Write, B: Walks, R: Rng>(
     ensures went { HappensBy B.Issued B.rows books.old (AskEnds (Some (ask.Command command.now)) (R.stream source.old)
         (R.stream source.new)
         (W.contents writer.old) (W.contents writer.new) result) books.new }
-    ensures failed { OnErr result (calls.new.write_failed ≡ true) }
-    ensures calls { NoneForgotten calls.old calls.new }
+    ensures calls { CountsWrites calls.old calls.new (OnErr result) }
 {
     let answer = ScriptAnswer::Replied(step(books, source, command));
     write_answer(writer, &answer, calls)
@@ -75,8 +71,7 @@ pub fn answer_line<W: Write, B: Walks, R: Rng>(
     ensures went { HappensBy B.Issued B.rows books.old (AskEnds (ask_in line.now) (R.stream source.old)
         (R.stream source.new)
         (W.contents writer.old) (W.contents writer.new) result) books.new }
-    ensures failed { OnErr result (calls.new.write_failed ≡ true) }
-    ensures calls { NoneForgotten calls.old calls.new }
+    ensures calls { CountsWrites calls.old calls.new (OnErr result) }
 {
     match read_line(alloc, line) {
         Ok(Ask::Command(command)) => { answer_command(&command, writer, books, source, calls) }

@@ -1,10 +1,10 @@
 //! The answer to a line that asks for a list.
 
-ghost use Rattle.std.specs.Prelude.{◌≡◌, true, Some, OnErr};
+ghost use Rattle.std.specs.Prelude.{Some, OnErr};
 ghost use Rattle.rand_core.specs.Stream.{Stream};
 ghost use Rattle.hotel_core.specs.Books.Happens.{HappensBy};
 ghost use Rattle.hotel_asks.specs.declared.asks.Ask.TheVariants as ask;
-ghost use Rattle.hotel_lists.specs.Calls.{NoneForgotten};
+ghost use Rattle.hotel_lists.specs.Calls.{CountsWrites};
 ghost use Rattle.hotel_program.specs.Script.{LineAnswers.AskEnds};
 
 use hotel_asks::{ListAsk, write_list};
@@ -25,8 +25,7 @@ pub fn answer_list<W: Write, B: Walks>(
 ) -> Result<(), WriteFailed>
     ensures went { (s : Stream) → HappensBy B.Issued B.rows books.old
         (AskEnds (Some (ask.List list.now)) s s (W.contents writer.old) (W.contents writer.new) result) books.new }
-    ensures failed { OnErr result (calls.new.write_failed ≡ true) }
-    ensures calls { NoneForgotten calls.old calls.new }
+    ensures calls { CountsWrites calls.old calls.new (OnErr result) }
 {
     let Err(fault) = write_list(alloc, list, writer, books, calls) else {
         return Ok(());

@@ -1,12 +1,10 @@
 -- Undamaged tables have sound rows, and the other way round.
-use Rattle.std.proofs.Common.{◌≡◌, ℕ, Bool, true, false, cond, ◌==◌, ◌&&◌, nat_le, Option, Some, None, refl, nat_cmp}
+use Rattle.std.proofs.Common.{◌≡◌, ℕ, Bool, true, false, cond, ◌==◌, ◌&&◌, nat_le, Option, Some, None, refl}
 use Rattle.std.specs.List.{list_all}
-use Rattle.std.specs.Map.{keys_of}
-use Rattle.hotel_model.specs.Words.{pair_cmp}
 use Rattle.hotel_model.specs.declared.rows.RoomRow.{RoomRow}
 use Rattle.hotel_model.specs.Rows.{Rows, at_number}
 use Rattle.hotel_model.specs.Sound.{IsSound, keys_in_order, passes_rules}
-use Rattle.hotel_model.specs.SoundRooms.{are_in_order, day_before_kinds, kinds_read, room_numbers, lock_places}
+use Rattle.hotel_model.specs.SoundRooms.{day_before_kinds, kinds_read, room_numbers, lock_places}
 use Rattle.hotel_model.specs.SoundRooms.{room_kinds_there, codes_few, parties_in_house}
 use Rattle.hotel_model.specs.SoundRooms.{secured_hold_last}
 use Rattle.hotel_model.specs.SoundStays.{stay_numbers, guests_read, stay_kinds_there, stay_days, stay_rooms}
@@ -15,12 +13,13 @@ use Rattle.hotel_model.specs.SoundCards.{codes_in_range, code_rooms_there, place
 use Rattle.hotel_model.specs.SoundCards.{card_parties_there, links_are_neighbours, links_of_one_party}
 use Rattle.hotel_model.specs.SoundCards.{neighbours_are_links, fits_without_links, newest_of_party}
 use Rattle.hotel_model.specs.SoundCards.{last_cards_newest}
-use Rattle.hotel_model.specs.SoundNotes.{insides_fit, notes_fit, notes_counted, notes_of_fits}
+use Rattle.hotel_model.specs.SoundNotes.{insides_fit, notes_fit, notes_counted}
 use Rattle.hotel_model.specs.SoundFits.{fit_rooms_there, fit_numbers, first_fits, fit_places_rise, fit_notes_rise}
-use Rattle.hotel_model.specs.SoundFits.{last_fits_held, last_fits_noted, fit_notes_few, rows_of_last_fits}
+use Rattle.hotel_model.specs.SoundFits.{last_fits_held, last_fits_noted, fit_notes_few}
+use Rattle.hotel_model.proofs.OfTables.KeysInOrder.{ordered}
 use Rattle.hotel_model.proofs.OfTables.Tests.{and_true, eq_from}
 use Rattle.hotel_model.proofs.OfTables.RowTests.{both, found_passes}
-use Rattle.hotel_model.proofs.SoundRows.TestsSound.{sound_pass, passing_are_sound}
+use Rattle.hotel_model.proofs.SoundRows.TestsSound.{nights_pass, passing_are_sound}
 use Rattle.hotel_rows.specs.declared.stored.Stored.{Stored}
 use Rattle.hotel_rows.specs.declared.stored.TableName.{TableName}
 use Rattle.hotel_rows.specs.declared.stored.TableName.TheVariants as table
@@ -151,61 +150,26 @@ rules_passed s h =
     fit_6.1) fit_7.1) fit_8.1 in
     (more fits (of_last_fits s), more (more room_1.1 stay_1.1) note_1.1)
 
--- the rule of nights, of rows that pass all rules
-nights_of : (rows : Rows) → passes_rules rows ≡ true → nights_fit rows ≡ true
-nights_of rows t =
-    let p = and_true _ (rows_of_last_fits rows) t in
-    let p = and_true _ (fit_notes_few rows) p.0 in
-    let p = and_true _ (last_fits_noted rows) p.0 in
-    let p = and_true _ (last_fits_held rows) p.0 in
-    let p = and_true _ (fit_notes_rise rows) p.0 in
-    let p = and_true _ (fit_places_rise rows) p.0 in
-    let p = and_true _ (first_fits rows) p.0 in
-    let p = and_true _ (fit_numbers rows) p.0 in
-    let p = and_true _ (fit_rooms_there rows) p.0 in
-    let p = and_true _ (notes_of_fits rows) p.0 in
-    let p = and_true _ (notes_fit rows) p.0 in
-    let p = and_true _ (notes_counted rows) p.0 in
-    let p = and_true _ (insides_fit rows) p.0 in
-    let p = and_true _ (last_cards_newest rows) p.0 in
-    let p = and_true _ (newest_of_party rows) p.0 in
-    let p = and_true _ (fits_without_links rows) p.0 in
-    let p = and_true _ (neighbours_are_links rows) p.0 in
-    let p = and_true _ (links_of_one_party rows) p.0 in
-    let p = and_true _ (links_are_neighbours rows) p.0 in
-    let p = and_true _ (card_parties_there rows) p.0 in
-    let p = and_true _ (card_numbers rows) p.0 in
-    let p = and_true _ (places_once rows) p.0 in
-    let p = and_true _ (code_rooms_there rows) p.0 in
-    let p = and_true _ (codes_in_range rows) p.0 in
-    (and_true _ (nights_fit rows) p.0).1
-
 rules_hold : (s : Stored) → IsSound (rows_of s) → columns_fit s ≡ true → AllHold s
 rules_hold s sound columns =
     let rows = rows_of s in
-    let k7 = and_true _ (are_in_order pair_cmp (keys_of rows.fits)) sound.keys in
-    let k6 = and_true _ (are_in_order pair_cmp (keys_of rows.notes)) k7.0 in
-    let k5 = and_true _ (are_in_order pair_cmp rows.inside) k6.0 in
-    let k4 = and_true _ (are_in_order nat_cmp (keys_of rows.cards)) k5.0 in
-    let k3 = and_true _ (are_in_order nat_cmp (keys_of rows.stays)) k4.0 in
-    let k2 = and_true _ (are_in_order nat_cmp (keys_of rows.codes)) k3.0 in
-    let k1 = and_true _ (are_in_order nat_cmp (keys_of rows.rooms)) k2.0 in
+    let k = ordered rows sound.keys in
     let c2 = and_true _ (list_all note_columns s.notes.items) columns in
     let c1 = and_true _ (list_all stay_columns s.stays.items) c2.0 in
-    let nights = nights_of rows (sound_pass rows sound) in
+    let nights = nights_pass rows sound.stay_nights in
     record {
       meta = more sound.meta_day sound.meta_kinds;
-      kind = more k1.0 sound.kind_reads;
-      room = more (more (more (more (more (more (more (more k1.1 c1.0) sound.room_number) sound.room_lock_place)
+      kind = more k.kinds sound.kind_reads;
+      room = more (more (more (more (more (more (more (more k.rooms c1.0) sound.room_number) sound.room_lock_place)
           sound.room_kind) sound.room_codes) (few_of_sound s sound)) sound.room_party) sound.room_secured;
-      stay = more (more (more (more (more (more (more k3.1 c1.1) sound.stay_number) sound.stay_guest) sound.stay_kind)
+      stay = more (more (more (more (more (more (more k.stays c1.1) sound.stay_number) sound.stay_guest) sound.stay_kind)
           sound.stay_day) sound.stay_room) nights;
-      code = more (more (more k2.1 sound.code_range) sound.code_room) sound.code_places;
-      card = more (more (more (more (more (more (more (more k4.1 sound.card_number) sound.card_party) sound.card_link)
+      code = more (more (more k.codes sound.code_range) sound.code_room) sound.code_places;
+      card = more (more (more (more (more (more (more (more k.cards sound.card_number) sound.card_party) sound.card_link)
           sound.card_one_party) sound.card_neighbours) sound.card_fits) sound.card_newest) sound.card_last;
-      inside = more k5.1 sound.inside_fits;
-      note = more (more (more k6.1 c2.1) sound.note_counted) sound.note_fits;
-      fit = more (more (more (more (more (more (more (more k7.1 sound.fit_room) sound.fit_number) sound.fit_first)
+      inside = more k.inside sound.inside_fits;
+      note = more (more (more k.notes c2.1) sound.note_counted) sound.note_fits;
+      fit = more (more (more (more (more (more (more (more k.fits sound.fit_room) sound.fit_number) sound.fit_first)
           sound.fit_places) sound.fit_notes) sound.fit_held) sound.fit_noted) sound.fit_few;
     }
 

@@ -4,7 +4,7 @@ ghost use Rattle.std.specs.BTreeMap.{is_at};
 ghost use Rattle.std.specs.Map.{lookup};
 ghost use Rattle.hotel_model.specs.declared.rows.FitRow.{FitRow};
 ghost use Rattle.hotel_model.specs.Words.{said_of, pair_cmp};
-ghost use Rattle.hotel_model.specs.Rows.{at_number};
+ghost use Rattle.hotel_model.specs.Rows.{PlaceKey, at_number};
 ghost use Rattle.hotel_rows.specs.Stored.{number_of, fit_row};
 ghost use Rattle.hotel_rows.specs.FitRuns.{fit_run_of, first_in, comes_next, begin_key, FitRunsOf, BeginsOf, FitsOf};
 ghost use Rattle.hotel_rows.specs.FitRuns.{fits_in, last_place_in, begins_in, is_begun, is_ended, fitted_as_due};
@@ -14,6 +14,9 @@ use crate::stored::{PlainFit, PlainRoom};
 use keycard_rules::{LAST_FIT, LAST_NUMBER, Memory};
 use std::alloc::Global;
 use std::collections::BTreeMap;
+
+/// The room and the place of a code.
+type PlaceKey = (u64, u64);
 
 /// What is known of some fits of a room.
 #[derive(Clone, Copy)]
@@ -35,7 +38,7 @@ pub(crate) struct FitRun {
 #[derive(Drop)]
 pub(crate) struct RoomFits {
     runs: BTreeMap<u64, FitRun>,
-    begins: BTreeMap<(u64, u64), u64>,
+    begins: BTreeMap<PlaceKey, u64>,
 }
 
 fn run_at(runs: &BTreeMap<u64, FitRun>, room: u64) -> Option<FitRun>
@@ -114,8 +117,8 @@ fn runs_of(alloc: Global, fits: &[PlainFit]) -> Result<BTreeMap<u64, FitRun>, Me
     Ok(runs)
 }
 
-fn add_begin(begins: &mut BTreeMap<(u64, u64), u64>, fit: &PlainFit) -> Result<(), Memory>
-    ensures { OnOk result ((q : ℕ × ℕ) → lookup (is_at (pair_cmp q)) begins.new.entries
+fn add_begin(begins: &mut BTreeMap<PlaceKey, u64>, fit: &PlainFit) -> Result<(), Memory>
+    ensures { OnOk result ((q : PlaceKey) → lookup (is_at (pair_cmp q)) begins.new.entries
         ≡ (if is_at (pair_cmp (begin_key fit.now)) q then Some (number_of fit.now.fit)
         else lookup (is_at (pair_cmp q)) begins.old.entries)) }
 {
@@ -127,7 +130,7 @@ fn add_begin(begins: &mut BTreeMap<(u64, u64), u64>, fit: &PlainFit) -> Result<(
     Ok(())
 }
 
-fn begins_of(alloc: Global, fits: &[PlainFit]) -> Result<BTreeMap<(u64, u64), u64>, Memory>
+fn begins_of(alloc: Global, fits: &[PlainFit]) -> Result<BTreeMap<PlaceKey, u64>, Memory>
     ensures { IfOk result (λ begins. BeginsOf begins.entries fits.now) }
 {
     let mut begins = BTreeMap::new(alloc);

@@ -17,6 +17,15 @@ use keycard_rules::Memory;
 use std::alloc::Global;
 use std::collections::BTreeMap;
 
+/// The room and the number of a card that is inside.
+pub(crate) type InsideKey = (u64, u64);
+
+/// The room of a note, and its number among all notes of the room.
+pub(crate) type NoteKey = (u64, u64);
+
+/// The room and the number of a fit.
+pub(crate) type FitKey = (u64, u64);
+
 /// Where each key stands first.
 pub(crate) fn index_of(alloc: Global, keys: &[u64]) -> Result<BTreeMap<u64, usize>, Memory>
     ensures { IfOk result (λ places. Finds places.entries keys.now) }
@@ -90,7 +99,7 @@ pub(crate) fn card_keys(alloc: Global, cards: &[PlainCard]) -> Result<Vec<u64>, 
 }
 
 /// The rooms and cards of what is inside.
-pub(crate) fn inside_keys(alloc: Global, inside: &[PlainInside]) -> Result<Vec<(u64, u64)>, Memory>
+pub(crate) fn inside_keys(alloc: Global, inside: &[PlainInside]) -> Result<Vec<InsideKey>, Memory>
     ensures { IfOk result (λ keys. keys.items ≡ map inside_pair inside.now) }
 {
     match inside
@@ -104,7 +113,7 @@ pub(crate) fn inside_keys(alloc: Global, inside: &[PlainInside]) -> Result<Vec<(
 }
 
 /// The rooms and numbers of the notes.
-pub(crate) fn note_keys(alloc: Global, notes: &[PlainNote]) -> Result<Vec<(u64, u64)>, Memory>
+pub(crate) fn note_keys(alloc: Global, notes: &[PlainNote]) -> Result<Vec<NoteKey>, Memory>
     ensures { IfOk result (λ keys. keys.items ≡ map note_key notes.now) }
 {
     match notes
@@ -118,7 +127,7 @@ pub(crate) fn note_keys(alloc: Global, notes: &[PlainNote]) -> Result<Vec<(u64, 
 }
 
 /// The rooms and numbers of the fits.
-pub(crate) fn fit_keys(alloc: Global, fits: &[PlainFit]) -> Result<Vec<(u64, u64)>, Memory>
+pub(crate) fn fit_keys(alloc: Global, fits: &[PlainFit]) -> Result<Vec<FitKey>, Memory>
     ensures { IfOk result (λ keys. keys.items ≡ map fit_key fits.now) }
 {
     match fits

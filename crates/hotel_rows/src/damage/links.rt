@@ -18,7 +18,7 @@ use crate::damage::fit_runs::{RoomFits, begins_fit, ends_with_fit};
 use crate::damage::found::room_at;
 use crate::damage::known::Known;
 use crate::damage::numbers::{number, number_if};
-use crate::damage::owners::owner_of;
+use crate::damage::owners::{LinkKey, owner_of};
 use crate::damage::placed::{is_newest, newest_of};
 use crate::damage::rooms::home_of;
 use crate::stored::{PlainCard, PlainCode, PlainRoom, PlainStay, Stored};
@@ -92,12 +92,7 @@ pub(crate) fn all_brought(brought: &BTreeMap<u64, usize>, fits: &RoomFits, store
 }
 
 /// Whether a link's cards are of a party, where it has any.
-fn is_link_of(
-    owners: &BTreeMap<(u64, u64), u64>,
-    stored: &Stored,
-    link: (u64, u64),
-    party: u64,
-) -> bool
+fn is_link_of(owners: &BTreeMap<LinkKey, u64>, stored: &Stored, link: LinkKey, party: u64) -> bool
     requires { OwnersOf owners.now.entries stored.now.cards.items }
     ensures { result ≡ said_of (owner_in stored.now.cards.items (link_of_pair link)) true (λ owner. owner == party) }
 {
@@ -109,7 +104,7 @@ fn is_link_of(
 
 /// Whether the cards of the newest link of a room with so many codes are of a party.
 fn all_owned(
-    owners: &BTreeMap<(u64, u64), u64>,
+    owners: &BTreeMap<LinkKey, u64>,
     known: &Known,
     stored: &Stored,
     room: u64,
@@ -132,7 +127,7 @@ fn all_owned(
 }
 
 fn has_owner(
-    owners: &BTreeMap<(u64, u64), u64>,
+    owners: &BTreeMap<LinkKey, u64>,
     known: &Known,
     stored: &Stored,
     room: &PlainRoom,
@@ -153,7 +148,7 @@ fn has_owner(
 
 /// Whether the cards of each room's newest link are of its party, where it has one.
 pub(crate) fn all_have_owners(
-    owners: &BTreeMap<(u64, u64), u64>,
+    owners: &BTreeMap<LinkKey, u64>,
     known: &Known,
     stored: &Stored,
 ) -> bool
@@ -172,7 +167,7 @@ pub(crate) fn all_have_owners(
 }
 
 /// The link of the party's last card, among those after a card, or else that card's.
-fn add_last(lasts: &mut BTreeMap<u64, (u64, u64)>, card: &PlainCard) -> Result<(), Memory>
+fn add_last(lasts: &mut BTreeMap<u64, LinkKey>, card: &PlainCard) -> Result<(), Memory>
     ensures { OnOk result ((p : ℕ) → at_number lasts.new.entries p
         ≡ (if is_some (at_number lasts.old.entries p) then at_number lasts.old.entries p
         else (if p == number_of card.now.party then Some (link_pair card.now) else None))) }
@@ -189,10 +184,7 @@ fn add_last(lasts: &mut BTreeMap<u64, (u64, u64)>, card: &PlainCard) -> Result<(
 }
 
 /// The link of each party's last card.
-pub(crate) fn lasts_of(
-    alloc: Global,
-    cards: &[PlainCard],
-) -> Result<BTreeMap<u64, (u64, u64)>, Memory>
+pub(crate) fn lasts_of(alloc: Global, cards: &[PlainCard]) -> Result<BTreeMap<u64, LinkKey>, Memory>
     ensures { IfOk result (λ lasts. LastsOf lasts.entries cards.now) }
 {
     let mut lasts = BTreeMap::new(alloc);
@@ -203,14 +195,14 @@ pub(crate) fn lasts_of(
     Ok(lasts)
 }
 
-fn last_of(lasts: &BTreeMap<u64, (u64, u64)>, party: u64) -> Option<(u64, u64)>
+fn last_of(lasts: &BTreeMap<u64, LinkKey>, party: u64) -> Option<LinkKey>
     ensures { result ≡ at_number lasts.now.entries party }
 {
     lasts.get(&party).copied()
 }
 
 /// Whether a link is the newest of a room that is there.
-fn is_newest_at(known: &Known, stored: &Stored, home: u64, link: (u64, u64)) -> bool
+fn is_newest_at(known: &Known, stored: &Stored, home: u64, link: LinkKey) -> bool
     requires known { IsOfRows known.now stored.now }
     requires due { list_all (placed_as_due known.now.placed.entries) stored.now.rooms.items ≡ true }
     requires there { is_some (at_number (rows_of stored.now).rooms home) ≡ true }
@@ -226,7 +218,7 @@ fn is_newest_at(known: &Known, stored: &Stored, home: u64, link: (u64, u64)) -> 
 fn has_newest(
     known: &Known,
     stored: &Stored,
-    lasts: &BTreeMap<u64, (u64, u64)>,
+    lasts: &BTreeMap<u64, LinkKey>,
     party: u64,
     home: u64,
 ) -> bool
@@ -245,7 +237,7 @@ fn has_newest(
 fn has_last(
     known: &Known,
     stored: &Stored,
-    lasts: &BTreeMap<u64, (u64, u64)>,
+    lasts: &BTreeMap<u64, LinkKey>,
     stay: &PlainStay,
 ) -> bool
     requires known { IsOfRows known.now stored.now }
@@ -261,11 +253,7 @@ fn has_last(
 }
 
 /// Whether the last card of each party in house has the newest link of its room.
-pub(crate) fn all_have_lasts(
-    known: &Known,
-    stored: &Stored,
-    lasts: &BTreeMap<u64, (u64, u64)>,
-) -> bool
+pub(crate) fn all_have_lasts(known: &Known, stored: &Stored, lasts: &BTreeMap<u64, LinkKey>) -> bool
     requires known { IsOfRows known.now stored.now }
     requires due { list_all (placed_as_due known.now.placed.entries) stored.now.rooms.items ≡ true }
     requires lasts { LastsOf lasts.now.entries stored.now.cards.items }

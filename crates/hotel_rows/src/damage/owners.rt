@@ -1,10 +1,11 @@
 //! Whose the cards of a link are.
-ghost use Rattle.std.specs.Prelude.{◌≡◌, ℕ, true, Some, IfOk, OnOk, if◌then◌else◌};
+ghost use Rattle.std.specs.Prelude.{◌≡◌, true, Some, IfOk, OnOk, if◌then◌else◌};
 ghost use Rattle.std.specs.List.{list_all};
 ghost use Rattle.std.specs.BTreeMap.{is_at};
 ghost use Rattle.std.specs.Map.{lookup};
 ghost use Rattle.hotel_model.specs.Words.{pair_cmp};
 ghost use Rattle.hotel_rows.specs.Stored.{number_of};
+ghost use Rattle.hotel_rows.specs.Keys.{LinkKey};
 ghost use Rattle.hotel_rows.specs.Lasts.{link_pair};
 ghost use Rattle.hotel_rows.specs.Owners.{OwnersOf, is_own};
 ghost use Rattle.hotel_rows.specs.RowTests.{agrees};
@@ -15,8 +16,11 @@ use keycard_rules::Memory;
 use std::alloc::Global;
 use std::collections::BTreeMap;
 
-fn add_owner(owners: &mut BTreeMap<(u64, u64), u64>, card: &PlainCard) -> Result<(), Memory>
-    ensures { OnOk result ((q : ℕ × ℕ) → lookup (is_at (pair_cmp q)) owners.new.entries
+/// The codes of a link: the old one, and the new one.
+pub(crate) type LinkKey = (u64, u64);
+
+fn add_owner(owners: &mut BTreeMap<LinkKey, u64>, card: &PlainCard) -> Result<(), Memory>
+    ensures { OnOk result ((q : LinkKey) → lookup (is_at (pair_cmp q)) owners.new.entries
         ≡ (if is_at (pair_cmp (link_pair card.now)) q then Some (number_of card.now.party)
         else lookup (is_at (pair_cmp q)) owners.old.entries)) }
 {
@@ -32,7 +36,7 @@ fn add_owner(owners: &mut BTreeMap<(u64, u64), u64>, card: &PlainCard) -> Result
 pub(crate) fn owners_of(
     alloc: Global,
     cards: &[PlainCard],
-) -> Result<BTreeMap<(u64, u64), u64>, Memory>
+) -> Result<BTreeMap<LinkKey, u64>, Memory>
     ensures { IfOk result (λ owners. OwnersOf owners.entries cards.now) }
 {
     let mut owners = BTreeMap::new(alloc);
@@ -44,13 +48,13 @@ pub(crate) fn owners_of(
 }
 
 /// The party of a link.
-pub(crate) fn owner_of(owners: &BTreeMap<(u64, u64), u64>, old: u64, new: u64) -> Option<u64>
+pub(crate) fn owner_of(owners: &BTreeMap<LinkKey, u64>, old: u64, new: u64) -> Option<u64>
     ensures { result ≡ lookup (is_at (pair_cmp (old, new))) owners.now.entries }
 {
     owners.get(&(old, new)).copied()
 }
 
-fn is_own(owners: &BTreeMap<(u64, u64), u64>, stored: &Stored, card: &PlainCard) -> bool
+fn is_own(owners: &BTreeMap<LinkKey, u64>, stored: &Stored, card: &PlainCard) -> bool
     requires { OwnersOf owners.now.entries stored.now.cards.items }
     ensures { result ≡ is_own stored.now.cards.items card.now }
 {
@@ -62,7 +66,7 @@ fn is_own(owners: &BTreeMap<(u64, u64), u64>, stored: &Stored, card: &PlainCard)
     party == number(card.party)
 }
 
-fn all_own(owners: &BTreeMap<(u64, u64), u64>, stored: &Stored) -> bool
+fn all_own(owners: &BTreeMap<LinkKey, u64>, stored: &Stored) -> bool
     requires { OwnersOf owners.now.entries stored.now.cards.items }
     ensures { result ≡ list_all (is_own stored.now.cards.items) stored.now.cards.items }
 {
@@ -75,7 +79,7 @@ fn all_own(owners: &BTreeMap<(u64, u64), u64>, stored: &Stored) -> bool
 }
 
 /// Whether the cards of one link have one party.
-pub(crate) fn all_agree(owners: &BTreeMap<(u64, u64), u64>, stored: &Stored) -> bool
+pub(crate) fn all_agree(owners: &BTreeMap<LinkKey, u64>, stored: &Stored) -> bool
     requires { OwnersOf owners.now.entries stored.now.cards.items }
     ensures { result ≡ list_all (agrees stored.now) stored.now.cards.items }
 {

@@ -17,6 +17,7 @@ ghost use Rattle.hotel_rows.specs.Placed.{places_in, listed_in, PlacesOf, placed
 
 use crate::damage::fit_runs::{RoomFits, ends_with_fit};
 use crate::damage::numbers::number;
+use crate::damage::owners::LinkKey;
 use crate::stored::{PlainCode, PlainRoom, Stored};
 use keycard_rules::Memory;
 use std::alloc::Global;
@@ -202,7 +203,7 @@ fn code_of(placed: &BTreeMap<u64, Placed>, room: u64, place: u64) -> Option<u64>
 }
 
 /// The link of the last two codes of a room with so many.
-pub(crate) fn newest_of(placed: &BTreeMap<u64, Placed>, room: u64, codes: u64) -> Option<(u64, u64)>
+pub(crate) fn newest_of(placed: &BTreeMap<u64, Placed>, room: u64, codes: u64) -> Option<LinkKey>
     requires { are_due_at placed.now.entries room codes ≡ true }
     ensures { option_map link_of_pair result ≡ last_link_of (values_of (places_in placed.now.entries room)) }
 {
@@ -214,7 +215,7 @@ pub(crate) fn newest_of(placed: &BTreeMap<u64, Placed>, room: u64, codes: u64) -
     both_of(old, new)
 }
 
-fn both_of(old: Option<u64>, new: Option<u64>) -> Option<(u64, u64)>
+fn both_of(old: Option<u64>, new: Option<u64>) -> Option<LinkKey>
     ensures { option_map link_of_pair result ≡ link_of_both old new }
 {
     let Some(old) = old else {

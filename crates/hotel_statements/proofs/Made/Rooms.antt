@@ -1,6 +1,6 @@
 -- The steps of a room that is added, of a lock that is replaced and of a note that is taken make the change.
 use Rattle.std.proofs.Common.{◌≡◌, ◌+◌, inl, inr, refl, sym, ap, ap₂, ◌∙◌, List, [], ◌∷◌, ℕ, true, false, Bool}
-use Rattle.std.proofs.Common.{None, Some, arith, eqb, is_eq, nat_cmp, Ordering, Less, Equal, Greater}
+use Rattle.std.proofs.Common.{Some, arith, eqb, is_eq, nat_cmp, Ordering, Less, Equal, Greater}
 use Rattle.std.specs.Ordering.{match_ordering}
 use Rattle.std.specs.BTreeMap.{insert_entry}
 use Rattle.std.proofs.lemmas.Bool.{cases_Bool}
@@ -12,7 +12,7 @@ use Rattle.hotel_model.specs.declared.change.Change.TheVariants as change
 use Rattle.hotel_model.specs.Words.{said_of, pair_cmp}
 use Rattle.hotel_model.specs.Rows.{Rows, at_number}
 use Rattle.hotel_model.specs.Refits.{fit_row}
-use Rattle.hotel_model.specs.Refinement.Change.{made, moved, room_changed}
+use Rattle.hotel_model.specs.Refinement.Change.{made, moved, new_row, room_changed}
 use Rattle.hotel_model.proofs.OfTables.Tests.{eq_self}
 use Rattle.hotel_statements.specs.Steps.{IsNewRoom, IsNextFit, IsRefit, IsNumbered, bare_room, room_added, code_added}
 use Rattle.hotel_statements.specs.Steps.{fit_added, lock_replaced, note_given}
@@ -63,29 +63,16 @@ said said_by rows room n row is there = sym is ∙ ap (λ o. said_of o 0 said_by
 
 -- ---- a room that is added
 
-abbrev pub first_row : ℕ → List ℕ → RoomRow
-first_row room kind = record {
-  room = room;
-  kind = kind;
-  lock_place = 0;
-  codes = 1;
-  secured = false;
-  party = None;
-  notes = 0;
-  fit = 1;
-  before = 0;
-}
-
 pub room_is : (room : ℕ) (kind : List ℕ) (code : ℕ) (rows : Rows)
     → fit_added (fit_row room 1 0 0) (code_added code (record { room = room; place = 0 })
-    (room_added (first_row room kind) rows)) ≡ made (change.Room room kind code) rows
+    (room_added (new_row room kind) rows)) ≡ made (change.Room room kind code) rows
 room_is room kind code rows =
     ap (λ rooms. record (made (change.Room room kind code) rows) { rooms = rooms })
-    (put_changed room (λ row. record row { fit = 1; before = 0 }) (bare_room (first_row room kind)) rows.rooms)
+    (put_changed room (λ row. record row { fit = 1; before = 0 }) (bare_room (new_row room kind)) rows.rooms)
 
 pub still_next : (room : ℕ) (kind : List ℕ) (code : ℕ) (rows : Rows) → IsNewRoom room rows
     → IsNextFit (fit_row room 1 0 0) (code_added code (record { room = room; place = 0 })
-    (room_added (first_row room kind) rows))
+    (room_added (new_row room kind) rows))
 still_next room kind code rows new = record { later = new.next.later; noted = new.next.noted }
 
 -- ---- a lock that is replaced

@@ -5,7 +5,7 @@ use Rattle.hotel_audit.specs.{declared.answer.LineAnswer.LineAnswer, declared.im
 use Rattle.hotel_audit.specs.{Import.AreAnswered, Import.Imports, Import.LineHappens, Import.LinesLeadOn}
 use Rattle.hotel_audit.specs.{Import.failures_of, Import.has_taken, Import.stopped}
 use Rattle.std.specs.Prelude.{zip}
-use Rattle.hotel_core.specs.{Books.Failures.refusal_of, Books.Happens.Passes}
+use Rattle.hotel_core.specs.{Books.Failures.refusal_of, Books.Passes.Passes}
 use Rattle.hotel_audit.specs.declared.audit_file.AuditFault.TheVariants as fault
 use Rattle.keycard_rules.specs.declared.issued.LookFault.{LookFault}
 use Rattle.keycard_rules.specs.declared.issued.LookFault.TheVariants as look

@@ -1,7 +1,7 @@
 use Rattle.std.proofs.Common.{◌≡◌, ◌≢◌, ◌≤◌, [], take, length, vec_len, vec_capacity}
 use Rattle.std.specs.Prelude.{zip}
 use Rattle.keycard_rules.specs.Rise.{NoFewer}
-use Rattle.hotel_core.specs.Books.Happens.{Passes}
+use Rattle.hotel_core.specs.Books.Passes.{Passes}
 use Rattle.hotel_audit.specs.Import.{AreAnswered, LineHappens, LinesLeadOn, replies_in}
 use Rattle.hotel_audit.proofs.imports.import_lines.Given as goal
 

@@ -6,7 +6,8 @@ use Rattle.hotel_model.proofs.{Lifted.RunParts.runs_step, Invariants.Assurance.r
 use Rattle.hotel_model.proofs.{Invariants.Assurance.assured}
 use Rattle.hotel_core.proofs.{OfCode.Happened.RunsOn, OfCode.Happened.run_goes_on}
 use Rattle.hotel_core.proofs.OfCode.RepliesAnswered.{any_answered-push, last_answered-push}
-use Rattle.hotel_core.proofs.OfCode.Happens.{passes_push, step_happens, zip-push}
+use Rattle.hotel_core.proofs.OfCode.Happens.{step_happens, zip-push}
+use Rattle.hotel_core.proofs.OfCode.Passes.{passes_push}
 use Rattle.hotel_core.specs.Books.Happens.{CommandHappens}
 use Rattle.hotel_core.proofs.runs.run.Goals as goal
 

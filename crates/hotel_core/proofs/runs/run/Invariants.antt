@@ -2,7 +2,8 @@ use Rattle.std.proofs.Common.{◌≡◌, ◌≤◌, true, take, length, vec_len,
 use Rattle.hotel_core.proofs.Names.{NoFewer, History, Reached, rows_of, StandsFor, RunsTo, AreCounted, any_answered}
 use Rattle.hotel_core.proofs.Names.{failures_in, last_answered}
 use Rattle.hotel_core.proofs.OfCode.Happened.{RunsOn}
-use Rattle.hotel_core.specs.Books.Happens.{CommandHappens, Passes}
+use Rattle.hotel_core.specs.Books.Happens.{CommandHappens}
+use Rattle.hotel_core.specs.Books.Passes.{Passes}
 use Rattle.hotel_core.proofs.runs.run.Given as goal
 
 abbrev pub invariant-loop-command : goal.invariant-loop-command

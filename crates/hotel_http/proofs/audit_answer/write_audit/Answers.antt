@@ -1,4 +1,4 @@
-use Rattle.std.proofs.Common.{◌∙◌, ap, None}
+use Rattle.std.proofs.Common.{rules, ◌∙◌, ap, None}
 use Rattle.hotel_lists.proofs.BytesLemmas.{on_err}
 use Rattle.hotel_audit.specs.Answers.{answers_text}
 use Rattle.hotel_http.specs.{Answer.answer_text, Answer.head_text, declared.answer.Media.TheVariants.Plain}
@@ -6,20 +6,17 @@ use Rattle.hotel_http.specs.{declared.status.Status.TheVariants.Success}
 use Rattle.hotel_http.proofs.AuditAnswerLemmas.{front_of_head, then_ok, then_err}
 use Rattle.hotel_http.proofs.audit_answer.write_audit.Goals as goal
 
-pub returns-in_err-write_bytes-clause-err : goal.returns-in_err-write_bytes-clause-err
+pub returns-in_err-write_bytes : goal.returns-in_err-write_bytes
 unfolding answer_text
-returns-in_err-write_bytes-clause-err g c =
+returns-in_err-write_bytes g c =
     let head = c.as_bytes.ensures.same ∙ c.head_text-head.ensures.same ∙ ap (head_text Success Plain None) c.answers_size.ensures in
-    on_err c.from_residual.result (front_of_head _ _ _ (answers_text 1 c.args.answers.now) head c.in_err-write_bytes.ensures.err)
+    let err = on_err c.from_residual.result (front_of_head _ _ _ (answers_text 1 c.args.answers.now) head c.in_err-write_bytes.ensures.writes.err) in
+    search rules
 
-pub returns-clause-ok : goal.returns-clause-ok
+pub returns : goal.returns
 unfolding answer_text
-returns-clause-ok g c =
+returns g c =
     let head = c.as_bytes.ensures.same ∙ c.head_text-head.ensures.same ∙ ap (head_text Success Plain None) c.answers_size.ensures in
-    then_ok c.write_answers.result _ _ _ _ _ _ head c.in_ok-write_bytes.ensures.ok c.write_answers.ensures.ok
-
-pub returns-clause-err : goal.returns-clause-err
-unfolding answer_text
-returns-clause-err g c =
-    let head = c.as_bytes.ensures.same ∙ c.head_text-head.ensures.same ∙ ap (head_text Success Plain None) c.answers_size.ensures in
-    then_err c.write_answers.result _ _ _ _ _ _ head c.in_ok-write_bytes.ensures.ok c.write_answers.ensures.err
+    let ok = then_ok c.write_answers.result _ _ _ _ _ _ head c.in_ok-write_bytes.ensures.writes.ok c.write_answers.ensures.writes.ok in
+    let err = then_err c.write_answers.result _ _ _ _ _ _ head c.in_ok-write_bytes.ensures.writes.ok c.write_answers.ensures.writes.err in
+    search rules

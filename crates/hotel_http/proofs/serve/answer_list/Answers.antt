@@ -13,8 +13,8 @@ returns-in-Ok-clause-went g c =
     let old = g.W.Write.contents c.args.writer.now in
     let new = g.W.Write.contents c.write_csv-written.new.writer in
     let out = outcome (list_answer c.in-Ok.text.items) Success false (true ∷ []) in
-    let ends = ends_as (list_answer c.deref.result.now) Success false (true ∷ []) c.write_csv-written.result old new c.ended.result c.ended.ensures c.write_csv-written.ensures.ok
-    c.write_csv-written.ensures.err in
+    let ends = ends_as (list_answer c.deref.result.now) Success false (true ∷ []) c.write_csv-written.result old new c.ended.result c.ended.ensures c.write_csv-written.ensures.writes.ok
+    c.write_csv-written.ensures.writes.err in
     list_came c.args.list.now out true [] old new c.ended.result g.met.B.Issued.clean_honest made.was_clean made.was_honest made.counted (λ clean. g.met.B.Books.kept_rows _ _ (made.kept clean)) made.vouched refl
     (λ listing same honest. list_comes (listing_on (g.B.Books.rows c.args.books.now) c.args.list.now) listing (Ok c.in-Ok.text.items) out made.text made.vouched same honest (λ l is. list_there l c.in-Ok.text.items is) (λ k. cc k))
     (subst (λ (t : List ℕ). EndsAs (outcome (list_answer t) Success false (true ∷ [])) [] old new c.ended.result) c.deref.ensures.value ends) made.failures

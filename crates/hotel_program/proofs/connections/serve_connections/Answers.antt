@@ -1,5 +1,5 @@
 use Rattle.std.proofs.Common.{[], ◌∷◌, ◌++◌, length-append, refl, arith}
-use Rattle.hotel_core.proofs.OfCode.Happens.{passes_push}
+use Rattle.hotel_core.proofs.OfCode.Passes.{passes_push}
 use Rattle.hotel_program.specs.Connections.{ConnectionHappens}
 use Rattle.hotel_program.proofs.ConnectionsLemmas.{none_served, then_served, then_told}
 use Rattle.hotel_program.proofs.connections.serve_connections.Goals as goal

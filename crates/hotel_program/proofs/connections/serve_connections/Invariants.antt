@@ -1,6 +1,7 @@
 -- the connections so far were served, each in the state that the one before it left, and the faults of each were told
 use Rattle.std.proofs.Common.{◌≡◌, List, length}
-use Rattle.hotel_core.specs.Books.Happens.{Happens, Passes}
+use Rattle.hotel_core.specs.Books.Happens.{Happens}
+use Rattle.hotel_core.specs.Books.Passes.{Passes}
 use Rattle.hotel_program.specs.Faults.{TellsAll}
 use Rattle.hotel_program.specs.Connections.{ConnectionEnd, ConnectionHappens, ServesAll, faults_of}
 use Rattle.hotel_program.proofs.connections.serve_connections.Given as goal

@@ -34,7 +34,7 @@ loop-line-preserved-in-Ok-1 g c =
       within = next.0;
       left = next.1;
       went = lines_next g.B.Issued g.B.Books.rows g.R.Rng.stream g.W.Write.contents all c.loop-line.done line _ _ _ _ c.loop-line.invariant.went left ended;
-      calls = then_none_forgotten _ _ _ c.loop-line.invariant.calls answered.calls;
+      calls = then_none_forgotten _ _ _ c.loop-line.invariant.calls answered.calls.none_forgotten;
     }
 
 pub returns-in_default-answered-clause-cut : goal.returns-in_default-answered-clause-cut

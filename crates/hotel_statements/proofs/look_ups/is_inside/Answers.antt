@@ -1,4 +1,4 @@
-use Rattle.std.proofs.Common.{◌∙◌, [], ◌∷◌, rules}
+use Rattle.std.proofs.Common.{◌∙◌, [], ◌∷◌}
 use Rattle.sqlite.specs.Order.{column}
 use Rattle.sqlite.specs.Query.{Query}
 use Rattle.sqlite.specs.Held.{state}
@@ -10,6 +10,7 @@ use Rattle.hotel_statements.specs.Texts as text
 use Rattle.hotel_statements.proofs.Statements.Selects as selects
 use Rattle.hotel_statements.proofs.Finds.{inside_finds}
 use Rattle.hotel_statements.proofs.Unread.{cause_of}
+use Rattle.hotel_statements.proofs.LookedInTurn.{of_statement, answers_so, fails_so}
 use Rattle.hotel_statements.proofs.look_ups.is_inside.Goals as goal
 
 pub look-requires-clause-asks : goal.look-requires-clause-asks
@@ -22,28 +23,15 @@ returns g c =
     let shown : IsKept new → (p : Query) → Asks text.select_inside p
     → AnswersFirst (λ v. number_of (column v 0)) p (int c.args.room ∷ int c.args.number ∷ []) old.now.trees c.in_ok-card.card =
     rw (c.small.ensures, c.small-2.ensures, c.value.ensures.same, c.value-2.ensures.same) at c.in_ok-card.ensures.found in
-    record {
-      books = c.look.ensures.books;
-      keeps = c.look.ensures.keeps;
-      found = λ kept. c.is_some.ensures ∙ inside_finds old.now.trees (c.requires.desk (c.look.ensures.keeps kept).0).tables c.args.room c.args.number c.in_ok-card.card
-          (shown kept _ selects.select_inside);
-      open_on = λ _ clean. (c.in_ok-card.ensures.unchanged clean).0.is_open;
-      unchanged = λ _. c.in_ok-card.ensures.unchanged;
-      cause = λ _. tt;
-      crash = c.look.ensures.crash;
-    }
+    answers_so (of_statement c.look.ensures.books c.look.ensures.keeps c.in_ok-card.ensures.unchanged c.look.ensures.crash)
+    (λ kept. c.is_some.ensures ∙ inside_finds old.now.trees (c.requires.desk (c.look.ensures.keeps kept).0).tables c.args.room c.args.number c.in_ok-card.card
+    (shown kept _ selects.select_inside))
 
 pub returns-in_err-card : goal.returns-in_err-card
 returns-in_err-card g c =
     let old = state g.S.Store c.args.conn.now in
     let new = state g.S.Store c.look.new.conn in
     let cause : HasCause (IsInsideFails c.args.room c.args.number) old new c.look.result = rw (c.small.ensures, c.small-2.ensures, c.value.ensures.same, c.value-2.ensures.same) at c.look.ensures.cause in
-    record {
-      books = c.look.ensures.books;
-      keeps = c.look.ensures.keeps;
-      found = search rules;
-      open_on = search rules;
-      unchanged = search rules;
-      cause = cause_of (IsInsideFails c.args.room c.args.number) old new c.look.result c.from_residual.result _ c.in_err-card.was c.from_residual.ensures cause;
-      crash = c.look.ensures.crash;
-    }
+    fails_so c.from_residual.result c.from_residual.ensures.0
+    c.look.ensures.books c.look.ensures.keeps c.look.ensures.crash
+    (cause_of (IsInsideFails c.args.room c.args.number) old new c.look.result c.from_residual.result _ c.in_err-card.was c.from_residual.ensures cause)

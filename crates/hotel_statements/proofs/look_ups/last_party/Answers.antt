@@ -1,12 +1,14 @@
-use Rattle.std.proofs.Common.{refl}
+use Rattle.std.proofs.Common.{refl, []}
+use Rattle.std.specs.Prelude.{unwrap_or}
 use Rattle.std.proofs.lemmas.Result.{IfOk-weaker}
 use Rattle.hotel_nights.specs.declared.stay.Stay.{Stay}
 use Rattle.sqlite.specs.Held.{state}
 use Rattle.hotel_statements.specs.Trees.{stay_tree}
 use Rattle.hotel_statements.specs.Columns.{stay_columns, stay_of, stay_written}
+use Rattle.hotel_statements.specs.Texts as text
 use Rattle.hotel_statements.proofs.Statements.Selects as selects
 use Rattle.hotel_statements.proofs.Last.{last_finds}
-use Rattle.hotel_statements.proofs.Keyed.{open_still}
+use Rattle.hotel_statements.proofs.Keyed.{looks_to}
 use Rattle.hotel_statements.proofs.look_ups.last_party.Goals as goal
 
 pub look-requires-clause-asks : goal.look-requires-clause-asks
@@ -15,17 +17,8 @@ look-requires-clause-asks g c = (_, selects.select_last_party)
 pub returns : goal.returns
 returns g c =
     let old = state g.S.Store c.args.conn.now in
-    record {
-      books = c.look.ensures.books;
-      keeps = c.look.ensures.keeps;
-      found = λ kept.
-          let was = (c.look.ensures.keeps kept).0 in
-          IfOk-weaker c.look.result _ _ (λ o a. last_finds Stay stay_tree stay_columns stay_of stay_written
-          old.now.trees (c.requires.books.desk was).tables.stay (λ r. refl) (λ e. refl)
-          (c.requires.numbered was) o a)
-          (c.look.ensures.found kept _ selects.select_last_party);
-      open_on = λ _ clean. open_still old (state g.S.Store c.look.new.conn) c.look.result (c.look.ensures.unchanged clean);
-      unchanged = λ _. c.look.ensures.unchanged;
-      cause = c.look.ensures.cause;
-      crash = c.look.ensures.crash;
-    }
+    looks_to text.select_last_party [] old (state g.S.Store c.look.new.conn) _ _ c.look.result c.look.result (λ o. unwrap_or o 0) _
+    c.requires.books c.look.ensures.books c.look.ensures.keeps c.look.ensures.found c.look.ensures.unchanged
+    c.look.ensures.cause c.look.ensures.crash selects.select_last_party
+    (λ kept tables. IfOk-weaker c.look.result _ _ (λ o a. last_finds Stay stay_tree stay_columns stay_of stay_written
+    old.now.trees tables.stay (λ r. refl) (λ e. refl) (c.requires.numbered kept) o a))

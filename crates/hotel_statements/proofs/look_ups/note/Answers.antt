@@ -11,15 +11,15 @@ use Rattle.hotel_model.specs.Rows.{fits_at}
 use Rattle.hotel_rows.specs.Joined.{with_count, fit_of_number}
 use Rattle.hotel_statements.specs.Tables.{fits_in, bare_notes_in}
 use Rattle.hotel_statements.specs.LookUps.{numbered_fit}
-use Rattle.hotel_statements.proofs.Keeps.{then_keeps, then_survives}
 use Rattle.hotel_statements.proofs.Fitted.{no_fit, no_note, note_is}
 use Rattle.hotel_statements.specs.Values.{int}
 use Rattle.hotel_statements.specs.Books.{IsKept}
 use Rattle.hotel_statements.specs.Readable.{IsNote, IsUnderFits}
 use Rattle.hotel_statements.specs.Texts as text
 use Rattle.hotel_statements.proofs.Statements.Selects as selects
-use Rattle.hotel_statements.proofs.Since.{then_unchanged, fails_later, clean_before}
+use Rattle.hotel_statements.proofs.Since.{fails_later, clean_before}
 use Rattle.hotel_statements.proofs.Unread.{cause_passed}
+use Rattle.hotel_statements.proofs.LookedInTurn.{of_look, of_find, then_answered, answers_so, then_fails}
 use Rattle.hotel_statements.proofs.look_ups.note.Goals as goal
 
 pub returns-in_default : goal.returns-in_default
@@ -28,22 +28,13 @@ returns-in_default g c =
     let fits = c.in_ok-fits.fits.items in
     let lost : None ≡ numbered_fit fits c.args.fit = sym c.in_default.is ∙ c.numbered.ensures
     ∙ ap (λ fs. numbered_fit fs c.args.fit) c.deref.ensures.value in
-    record {
-      books = c.in_ok-fits.ensures.books;
-      keeps = c.in_ok-fits.ensures.keeps;
-      found = λ kept. no_fit old.now.trees c.args.room c.args.fit c.args.count fits (c.in_ok-fits.ensures.found kept)
-          (ap (option_map (λ (f : FitRow). f.before + c.args.count)) lost);
-      open_on = c.in_ok-fits.ensures.open_on;
-      unchanged = c.in_ok-fits.ensures.unchanged;
-      cause = λ _. tt;
-      crash = c.in_ok-fits.ensures.crash;
-    }
+    answers_so (of_look c.in_ok-fits.ensures)
+    (λ kept. no_fit old.now.trees c.args.room c.args.fit c.args.count fits (c.in_ok-fits.ensures.found kept)
+    (ap (option_map (λ (f : FitRow). f.before + c.args.count)) lost))
 
 pub returns-in_default-2 : goal.returns-in_default-2
 returns-in_default-2 g c =
     let old = state g.S.Store c.args.conn.now in
-    let mid = state g.S.Store c.fits_of_room.new.conn in
-    let new = state g.S.Store c.bare_note.new.conn in
     let room = c.args.room in
     let fit = c.args.fit in
     let count = c.args.count in
@@ -55,29 +46,18 @@ returns-in_default-2 g c =
     ∙ ap (λ fs. numbered_fit fs fit) c.deref.ensures.value in
     let is : Some number ≡ option_map (λ (f : FitRow). f.before + count) (numbered_fit fits fit) = ap Some numbered
     ∙ ap (option_map (λ (f : FitRow). f.before + count)) there in
-    record {
-      books = c.in_ok-bare.ensures.books;
-      keeps = then_keeps old mid new c.in_ok-fits.ensures.keeps c.in_ok-bare.ensures.keeps;
-      found = λ kept.
-          let after = c.in_ok-bare.ensures.keeps kept in
-          let first = c.in_ok-fits.ensures.keeps after.0 in
-          let are = c.in_ok-fits.ensures.found after.0 in
-          let same = c.in_ok-bare.ensures.found kept
-          ∙ ap (λ (d : Database). lookup (is_at (pair_cmp (room, number))) (bare_notes_in d.trees)) first.1 in
-          no_note old.now.trees room fit count fits are number is (sym c.in_default-2.is ∙ same);
-      open_on = λ _. c.in_ok-bare.ensures.open_on;
-      unchanged = λ _. then_unchanged old mid new (clean_before mid new c.in_ok-bare.ensures.crash)
-          (c.in_ok-fits.ensures.unchanged tt) c.in_ok-fits.ensures.crash c.in_ok-bare.ensures.unchanged;
-      cause = λ _. tt;
-      crash = then_survives old mid new (c.in_ok-fits.ensures.open_on tt) c.in_ok-fits.ensures.crash
-          c.in_ok-bare.ensures.crash;
-    }
+    answers_so (then_answered (of_look c.in_ok-fits.ensures) (of_find c.in_ok-bare.ensures))
+    (λ kept.
+    let after = c.in_ok-bare.ensures.keeps kept in
+    let first = c.in_ok-fits.ensures.keeps after.0 in
+    let are = c.in_ok-fits.ensures.found after.0 in
+    let same = c.in_ok-bare.ensures.found kept
+    ∙ ap (λ (d : Database). lookup (is_at (pair_cmp (room, number))) (bare_notes_in d.trees)) first.1 in
+    no_note old.now.trees room fit count fits are number is (sym c.in_default-2.is ∙ same))
 
 pub returns-then-eq : goal.returns-then-eq
 returns-then-eq g c =
     let old = state g.S.Store c.args.conn.now in
-    let mid = state g.S.Store c.fits_of_room.new.conn in
-    let new = state g.S.Store c.bare_note.new.conn in
     let room = c.args.room in
     let fit = c.args.fit in
     let count = c.args.count in
@@ -94,30 +74,19 @@ returns-then-eq g c =
     let with : note ≡ with_count (fit_of_number fits bare.count) bare.count bare = c.in_ok-note.ensures.reads
     ∙ ap (λ fs. with_count (fit_of_number fs bare.count) bare.count bare) c.deref-2.ensures.value in
     let of_it : (note.fit == fit) ≡ true = search rules in
-    record {
-      books = c.in_ok-bare.ensures.books;
-      keeps = then_keeps old mid new c.in_ok-fits.ensures.keeps c.in_ok-bare.ensures.keeps;
-      found = λ kept.
-          let after = c.in_ok-bare.ensures.keeps kept in
-          let first = c.in_ok-fits.ensures.keeps after.0 in
-          let are = c.in_ok-fits.ensures.found after.0 in
-          let same = c.in_ok-bare.ensures.found kept
-          ∙ ap (λ (d : Database). lookup (is_at (pair_cmp (room, number))) (bare_notes_in d.trees)) first.1 in
-          ap (λ b. if b then Some note else None) (sym of_it)
-          ∙ note_is old.now.trees room fit count fits are number is bare note (sym c.in-Some-2.is ∙ same) with;
-      open_on = λ _. c.in_ok-bare.ensures.open_on;
-      unchanged = λ _. then_unchanged old mid new (clean_before mid new c.in_ok-bare.ensures.crash)
-          (c.in_ok-fits.ensures.unchanged tt) c.in_ok-fits.ensures.crash c.in_ok-bare.ensures.unchanged;
-      cause = λ _. tt;
-      crash = then_survives old mid new (c.in_ok-fits.ensures.open_on tt) c.in_ok-fits.ensures.crash
-          c.in_ok-bare.ensures.crash;
-    }
+    answers_so (then_answered (of_look c.in_ok-fits.ensures) (of_find c.in_ok-bare.ensures))
+    (λ kept.
+    let after = c.in_ok-bare.ensures.keeps kept in
+    let first = c.in_ok-fits.ensures.keeps after.0 in
+    let are = c.in_ok-fits.ensures.found after.0 in
+    let same = c.in_ok-bare.ensures.found kept
+    ∙ ap (λ (d : Database). lookup (is_at (pair_cmp (room, number))) (bare_notes_in d.trees)) first.1 in
+    ap (λ b. if b then Some note else None) (sym of_it)
+    ∙ note_is old.now.trees room fit count fits are number is bare note (sym c.in-Some-2.is ∙ same) with)
 
 pub returns : goal.returns
 returns g c =
     let old = state g.S.Store c.args.conn.now in
-    let mid = state g.S.Store c.fits_of_room.new.conn in
-    let new = state g.S.Store c.bare_note.new.conn in
     let room = c.args.room in
     let fit = c.args.fit in
     let count = c.args.count in
@@ -134,24 +103,15 @@ returns g c =
     let with : note ≡ with_count (fit_of_number fits bare.count) bare.count bare = c.in_ok-note.ensures.reads
     ∙ ap (λ fs. with_count (fit_of_number fs bare.count) bare.count bare) c.deref-2.ensures.value in
     let of_other : (note.fit == fit) ≡ false = search rules in
-    record {
-      books = c.in_ok-bare.ensures.books;
-      keeps = then_keeps old mid new c.in_ok-fits.ensures.keeps c.in_ok-bare.ensures.keeps;
-      found = λ kept.
-          let after = c.in_ok-bare.ensures.keeps kept in
-          let first = c.in_ok-fits.ensures.keeps after.0 in
-          let are = c.in_ok-fits.ensures.found after.0 in
-          let same = c.in_ok-bare.ensures.found kept
-          ∙ ap (λ (d : Database). lookup (is_at (pair_cmp (room, number))) (bare_notes_in d.trees)) first.1 in
-          ap (λ b. if b then Some note else None) (sym of_other)
-          ∙ note_is old.now.trees room fit count fits are number is bare note (sym c.in-Some-2.is ∙ same) with;
-      open_on = λ _. c.in_ok-bare.ensures.open_on;
-      unchanged = λ _. then_unchanged old mid new (clean_before mid new c.in_ok-bare.ensures.crash)
-          (c.in_ok-fits.ensures.unchanged tt) c.in_ok-fits.ensures.crash c.in_ok-bare.ensures.unchanged;
-      cause = λ _. tt;
-      crash = then_survives old mid new (c.in_ok-fits.ensures.open_on tt) c.in_ok-fits.ensures.crash
-          c.in_ok-bare.ensures.crash;
-    }
+    answers_so (then_answered (of_look c.in_ok-fits.ensures) (of_find c.in_ok-bare.ensures))
+    (λ kept.
+    let after = c.in_ok-bare.ensures.keeps kept in
+    let first = c.in_ok-fits.ensures.keeps after.0 in
+    let are = c.in_ok-fits.ensures.found after.0 in
+    let same = c.in_ok-bare.ensures.found kept
+    ∙ ap (λ (d : Database). lookup (is_at (pair_cmp (room, number))) (bare_notes_in d.trees)) first.1 in
+    ap (λ b. if b then Some note else None) (sym of_other)
+    ∙ note_is old.now.trees room fit count fits are number is bare note (sym c.in-Some-2.is ∙ same) with)
 
 pub returns-in_err-bare : goal.returns-in_err-bare
 returns-in_err-bare g c =
@@ -160,28 +120,20 @@ returns-in_err-bare g c =
     let new = state g.S.Store c.bare_note.new.conn in
     let number = c.from.result + c.from-2.result in
     let low : c.from.result + c.from-2.result < 2 ^ 63 = omega arith in
-    record {
-      books = c.bare_note.ensures.books;
-      keeps = then_keeps old mid new c.in_ok-fits.ensures.keeps c.bare_note.ensures.keeps;
-      found = search rules;
-      open_on = search rules;
-      unchanged = search rules;
-      cause = λ clean. cause_passed c.from_residual-in_err-bare.result _ c.from_residual-in_err-bare.ensures (λ other.
-          inr (
-            number,
-            low,
-            inl (fails_later old mid new (clean_before mid new c.bare_note.ensures.crash)
-                (c.in_ok-fits.ensures.unchanged tt) c.in_ok-fits.ensures.crash text.select_note (int c.args.room ∷ int number ∷ []) _
-                selects.select_note c.in_ok-fits.ensures.books clean IsNote (c.in_err-bare.ensures.cause clean other)),
-          ));
-      crash = then_survives old mid new (c.in_ok-fits.ensures.open_on tt) c.in_ok-fits.ensures.crash
-          c.bare_note.ensures.crash;
-    }
+    then_fails c.from_residual-in_err-bare.result c.from_residual-in_err-bare.ensures.0
+    (of_look c.in_ok-fits.ensures) c.bare_note.ensures.books c.bare_note.ensures.keeps c.bare_note.ensures.crash
+    (λ clean. cause_passed c.from_residual-in_err-bare.result _ c.from_residual-in_err-bare.ensures (λ other.
+    inr (
+      number,
+      low,
+      inl (fails_later old mid new (clean_before mid new c.bare_note.ensures.crash)
+          (c.in_ok-fits.ensures.unchanged tt) c.in_ok-fits.ensures.crash text.select_note (int c.args.room ∷ int number ∷ []) _
+          selects.select_note c.in_ok-fits.ensures.books clean IsNote (c.in_err-bare.ensures.cause clean other)),
+    )))
 
 pub returns-in_err-note : goal.returns-in_err-note
 returns-in_err-note g c =
     let old = state g.S.Store c.args.conn.now in
-    let mid = state g.S.Store c.fits_of_room.new.conn in
     let new = state g.S.Store c.bare_note.new.conn in
     let room = c.args.room in
     let fits = c.in_ok-fits.fits.items in
@@ -189,20 +141,13 @@ returns-in_err-note g c =
     let low : c.from.result + c.from-2.result < 2 ^ 63 = omega arith in
     let bare = c.in-Some-2.bare in
     let unread : ¬ IsUnderFits fits bare = subst (λ fs. ¬ IsUnderFits fs bare) c.deref-2.ensures.value c.in_err-note.ensures.unread in
-    record {
-      books = c.in_ok-bare.ensures.books;
-      keeps = then_keeps old mid new c.in_ok-fits.ensures.keeps c.in_ok-bare.ensures.keeps;
-      found = search rules;
-      open_on = search rules;
-      unchanged = search rules;
-      cause = λ clean. cause_passed c.from_residual-in_err-note.result _ c.from_residual-in_err-note.ensures (λ other.
-          let kept : IsKept new = (clean, c.in_ok-bare.ensures.open_on clean) in
-          let after = c.in_ok-bare.ensures.keeps kept in
-          let first = c.in_ok-fits.ensures.keeps after.0 in
-          let are : fits ≡ fits_at (fits_in old.now.trees) room = c.in_ok-fits.ensures.found after.0 in
-          let same = c.in_ok-bare.ensures.found kept
-          ∙ ap (λ (d : Database). lookup (is_at (pair_cmp (room, number))) (bare_notes_in d.trees)) first.1 in
-          inr (number, low, inr (first.0, (bare, sym same ∙ c.in-Some-2.is, subst (λ fs. ¬ IsUnderFits fs bare) are unread))));
-      crash = then_survives old mid new (c.in_ok-fits.ensures.open_on tt) c.in_ok-fits.ensures.crash
-          c.in_ok-bare.ensures.crash;
-    }
+    then_fails c.from_residual-in_err-note.result c.from_residual-in_err-note.ensures.0
+    (of_look c.in_ok-fits.ensures) c.in_ok-bare.ensures.books c.in_ok-bare.ensures.keeps c.in_ok-bare.ensures.crash
+    (λ clean. cause_passed c.from_residual-in_err-note.result _ c.from_residual-in_err-note.ensures (λ other.
+    let kept : IsKept new = (clean, c.in_ok-bare.ensures.open_on clean) in
+    let after = c.in_ok-bare.ensures.keeps kept in
+    let first = c.in_ok-fits.ensures.keeps after.0 in
+    let are : fits ≡ fits_at (fits_in old.now.trees) room = c.in_ok-fits.ensures.found after.0 in
+    let same = c.in_ok-bare.ensures.found kept
+    ∙ ap (λ (d : Database). lookup (is_at (pair_cmp (room, number))) (bare_notes_in d.trees)) first.1 in
+    inr (number, low, inr (first.0, (bare, sym same ∙ c.in-Some-2.is, subst (λ fs. ¬ IsUnderFits fs bare) are unread)))))

@@ -1,4 +1,4 @@
-use Rattle.std.proofs.Common.{◌≡◌, true, false, refl, sym, ap, ◌∙◌, subst, List, Ok, Err}
+use Rattle.std.proofs.Common.{rules, ◌≡◌, true, false, refl, sym, ap, ◌∙◌, subst, List, Ok, Err}
 use Rattle.std.specs.Io.KnownBytes.{Appends}
 use Rattle.hotel_lists.specs.Bytes.{AppendsFront}
 use Rattle.hotel_audit.specs.Answers.{answers_text}
@@ -34,7 +34,7 @@ returns-in-Ok-write_answers-clause-ends g c =
       Ok c.in-Ok.answers.items,
       false,
       ap (λ s. Ok s) (c.answers_status.ensures.status ∙ ap answers_status items),
-      subst (λ (l : List LineAnswer). Appends old new (answers_text 1 l)) items c.in-Ok-write_answers.ensures.ok,
+      subst (λ (l : List LineAnswer). Appends old new (answers_text 1 l)) items c.in-Ok-write_answers.ensures.writes.ok,
       record {
         went = e.imported;
         no_file = tt;
@@ -54,7 +54,7 @@ returns-clause-ends g c =
       Ok c.in-Ok.answers.items,
       true,
       refl,
-      subst (λ (l : List LineAnswer). AppendsFront old new (answers_text 1 l)) items c.in-Err-write_answers.ensures.err,
+      subst (λ (l : List LineAnswer). AppendsFront old new (answers_text 1 l)) items c.in-Err-write_answers.ensures.writes.err,
       record {
         went = e.imported;
         no_file = tt;
@@ -65,7 +65,10 @@ returns-clause-ends g c =
       },
     )
 
-pub returns-in-Err-clause-failed : goal.returns-in-Err-clause-failed
-returns-in-Err-clause-failed g c = λ e.
-    let written : c.import_fault.result ≡ Write = cc in
-    absurd (no_failed_write c.in-Err.fault (sym c.import_fault.ensures.fault ∙ written))
+pub returns-in-Err-clause-calls : goal.returns-in-Err-clause-calls
+returns-in-Err-clause-calls g c = record {
+  failed = λ e.
+      let written : c.import_fault.result ≡ Write = cc in
+      absurd (no_failed_write c.in-Err.fault (sym c.import_fault.ensures.fault ∙ written));
+  none_forgotten = search rules;
+}

@@ -11,7 +11,7 @@ returns-in-Ok-clause-ends g c =
       c.step-reply.result,
       false,
       ap Ok c.status_of.ensures.status,
-      subst (λ (t : List ℕ). Appends (g.W.Write.contents c.args.writer.now) (g.W.Write.contents c.write_bytes.new.writer) t) text c.in-Ok.ensures.ok,
+      subst (λ (t : List ℕ). Appends (g.W.Write.contents c.args.writer.now) (g.W.Write.contents c.write_bytes.new.writer) t) text c.in-Ok.ensures.writes.ok,
       step_happens _ _ c.args.command.now c.step-reply.result g.met.B.Issued.clean_honest e.was_clean e.was_honest e.counted e.happened e.failed e.vouched,
     )
 
@@ -22,6 +22,6 @@ returns-in-Err-clause-ends g c =
       c.step-reply.result,
       true,
       refl,
-      subst (λ (t : List ℕ). AppendsFront (g.W.Write.contents c.args.writer.now) (g.W.Write.contents c.write_bytes.new.writer) t) text c.in-Err.ensures.err,
+      subst (λ (t : List ℕ). AppendsFront (g.W.Write.contents c.args.writer.now) (g.W.Write.contents c.write_bytes.new.writer) t) text c.in-Err.ensures.writes.err,
       step_happens _ _ c.args.command.now c.step-reply.result g.met.B.Issued.clean_honest e.was_clean e.was_honest e.counted e.happened e.failed e.vouched,
     )

@@ -27,10 +27,10 @@ pub returns-in-Err-Unread-clause-went : goal.returns-in-Err-Unread-clause-went
 returns-in-Err-Unread-clause-went g c =
     let read = c.in-Err-Unread.is ∙ ap (λ (f : LineFault). Err f) c.in-Err-Unread.field-0-is in
     let wanted = subst (IsLineRead ask_copies (ask_in c.args.line.now)) read c.read_line.ensures in
-    unread_ends c.args.books.now (ask_in c.args.line.now) _ _ _ c.write_answer.result g.met.B.Issued.clean_honest wanted c.write_answer.ensures.ok c.write_answer.ensures.err
+    unread_ends c.args.books.now (ask_in c.args.line.now) _ _ _ c.write_answer.result g.met.B.Issued.clean_honest wanted c.write_answer.ensures.writes.ok c.write_answer.ensures.writes.err
 
 pub returns-in-Err-Memory-clause-went : goal.returns-in-Err-Memory-clause-went
 returns-in-Err-Memory-clause-went g c =
     let read = c.in-Err-Memory.is ∙ ap (λ (f : LineFault). Err f) c.in-Err-Memory.field-0-is in
     let some = subst (IsLineRead ask_copies (ask_in c.args.line.now)) read c.read_line.ensures in
-    memory_ends c.args.books.now (ask_in c.args.line.now) _ _ _ c.write_answer-in-Err-Memory.result g.met.B.Issued.clean_honest some c.write_answer-in-Err-Memory.ensures.ok c.write_answer-in-Err-Memory.ensures.err
+    memory_ends c.args.books.now (ask_in c.args.line.now) _ _ _ c.write_answer-in-Err-Memory.result g.met.B.Issued.clean_honest some c.write_answer-in-Err-Memory.ensures.writes.ok c.write_answer-in-Err-Memory.ensures.writes.err

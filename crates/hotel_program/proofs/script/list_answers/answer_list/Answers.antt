@@ -24,10 +24,10 @@ returns-clause-went g c = λ s.
     list_ends c.args.list.now s old new c.write_bytes.result g.met.B.Issued.clean_honest books.was_clean books.was_honest books.counted (λ clean. g.met.B.Books.kept_rows _ _ (books.kept clean))
     (λ honest.
     let written = subst (λ (r : Result (Unit {0}) ListFault). ListEnds [] listing old mid r) c.in-Err.is (c.write_list.ensures.text honest) in
-    when_ok _ _ _ (λ p. refused_whole g.B.Issued listing old mid new _ _ refused written looks honest (subst (λ (t : List ℕ). Appends mid new t) said p)) c.write_bytes.ensures.ok)
+    when_ok _ _ _ (λ p. refused_whole g.B.Issued listing old mid new _ _ refused written looks honest (subst (λ (t : List ℕ). Appends mid new t) said p)) c.write_bytes.ensures.writes.ok)
     (λ honest.
     let written = subst (λ (r : Result (Unit {0}) ListFault). ListEnds [] listing old mid r) c.in-Err.is (c.write_list.ensures.text honest) in
-    when_err _ _ _ (λ p. refused_cut g.B.Issued listing old mid new _ _ refused written looks (subst (λ (t : List ℕ). AppendsFront mid new t) said p)) c.write_bytes.ensures.err)
+    when_err _ _ _ (λ p. refused_cut g.B.Issued listing old mid new _ _ refused written looks (subst (λ (t : List ℕ). AppendsFront mid new t) said p)) c.write_bytes.ensures.writes.err)
 
 pub returns-in_default-clause-went : goal.returns-in_default-clause-went
 returns-in_default-clause-went g c = λ s.

@@ -1,7 +1,8 @@
-use Rattle.std.proofs.Common.{rules, ◌≡◌, ℕ, List, None, false, ap, sym, ◌∙◌, subst, arith, nat_cmp}
+use Rattle.std.proofs.Common.{rules, ◌≡◌, ℕ, List, None, ap, sym, ◌∙◌, subst, arith, nat_cmp}
 use Rattle.hotel_core.proofs.Names.{FitRow, CodeRow, pair_cmp, lookup, fit_at, is_at, remove_entry, keys_of}
 use Rattle.hotel_core.proofs.Names.{nat_cmp_total, RoomRow, said_of, IsNumberUpTo, Rows, has_kind, room_at, code_place}
 use Rattle.hotel_core.proofs.Names.{LaterPlacesFree, RoomsKnown, TablesAgree}
+use Rattle.hotel_model.specs.Refinement.Change.{new_row}
 use Rattle.hotel_core.proofs.OfTables.MapEntries.{taken_back, pair_total}
 use Rattle.hotel_core.proofs.OfTables.LaterPlaces.{free_after, codes_added, codes_new, codes_there}
 use Rattle.hotel_core.proofs.OfNights.RoomsByKind.{few_rooms, known_added}
@@ -10,7 +11,7 @@ use Rattle.hotel_core.proofs.memory.tables.Tables.add_room.Goals as goal
 pub invariant_of-self-2 : goal.invariant_of-self-2
 invariant_of-self-2 c =
     let absent = ap (λ rows. room_at rows c.args.room) c.self.view_is ∙ c.requires.new_room in
-    let row : RoomRow = record { room = c.args.room; kind = c.args.kind; lock_place = 0; codes = 1; secured = false; party = None; notes = 0; fit = c.unwrap-fit.result; before = 0 } in
+    let row : RoomRow = record (new_row c.args.room c.args.kind) { fit = c.unwrap-fit.result } in
     let rooms = c.self.inside.rooms.entries in
     let none : codes_there rooms c.args.room ≡ 0 = ap (λ o. said_of o 0 (λ (row : RoomRow). row.codes)) absent in
     let kind_there = ap (λ (rows : Rows). has_kind rows c.args.kind) c.self.view_is ∙ c.requires.there in
@@ -30,7 +31,7 @@ invariant_of-self-2 c =
 pub returns-in_default-insert-clause-err : goal.returns-in_default-insert-clause-err
 returns-in_default-insert-clause-err c =
     let absent = ap (λ rows. room_at rows c.args.room) c.self.view_is ∙ c.requires.new_room in
-    let row : RoomRow = record { room = c.args.room; kind = c.args.kind; lock_place = 0; codes = 1; secured = false; party = None; notes = 0; fit = c.unwrap-fit.result; before = 0 } in
+    let row : RoomRow = record (new_row c.args.room c.args.kind) { fit = c.unwrap-fit.result } in
     let t = c.self.inside in
     let before : List (ℕ × RoomRow) → Rows = λ rooms. record { day = t.day; kinds = keys_of t.kinds; rooms = rooms; codes = t.codes; stays = t.stays; cards = t.cards; inside = t.inside; notes = t.notes; fits = c.insert-2.new.self.entries } in
     ap before (c.remove.ensures.entries ∙ ap (remove_entry (is_at (nat_cmp c.args.room))) c.in-Ok.ensures.entries ∙ taken_back nat_cmp nat_cmp_total c.args.room row t.rooms.entries absent)
@@ -40,7 +41,7 @@ returns-in_default-insert-clause-err c =
 pub invariant_of-self-in_default-insert : goal.invariant_of-self-in_default-insert
 invariant_of-self-in_default-insert c =
     let absent = ap (λ rows. room_at rows c.args.room) c.self.view_is ∙ c.requires.new_room in
-    let row : RoomRow = record { room = c.args.room; kind = c.args.kind; lock_place = 0; codes = 1; secured = false; party = None; notes = 0; fit = c.unwrap-fit.result; before = 0 } in
+    let row : RoomRow = record (new_row c.args.room c.args.kind) { fit = c.unwrap-fit.result } in
     let t = c.self.inside in
     let back = c.remove.ensures.entries ∙ ap (remove_entry (is_at (nat_cmp c.args.room))) c.in-Ok.ensures.entries ∙ taken_back nat_cmp nat_cmp_total c.args.room row t.rooms.entries absent in
     subst (λ rooms. TablesAgree t.kinds rooms t.codes) (sym back) c.self.invariant
@@ -48,7 +49,7 @@ invariant_of-self-in_default-insert c =
 pub returns-in_default-insert-2-clause-err : goal.returns-in_default-insert-2-clause-err
 returns-in_default-insert-2-clause-err c =
     let absent = ap (λ rows. room_at rows c.args.room) c.self.view_is ∙ c.requires.new_room in
-    let row : RoomRow = record { room = c.args.room; kind = c.args.kind; lock_place = 0; codes = 1; secured = false; party = None; notes = 0; fit = c.unwrap-fit.result; before = 0 } in
+    let row : RoomRow = record (new_row c.args.room c.args.kind) { fit = c.unwrap-fit.result } in
     let first : FitRow = record { room = c.args.room; fit = c.unwrap-fit.result; place = 0; before = 0 } in
     let t = c.self.inside in
     let one : c.unwrap-fit.result ≡ 1 = search rules in
@@ -63,7 +64,7 @@ returns-in_default-insert-2-clause-err c =
 pub invariant_of-self-in_default-insert-2 : goal.invariant_of-self-in_default-insert-2
 invariant_of-self-in_default-insert-2 c =
     let absent = ap (λ rows. room_at rows c.args.room) c.self.view_is ∙ c.requires.new_room in
-    let row : RoomRow = record { room = c.args.room; kind = c.args.kind; lock_place = 0; codes = 1; secured = false; party = None; notes = 0; fit = c.unwrap-fit.result; before = 0 } in
+    let row : RoomRow = record (new_row c.args.room c.args.kind) { fit = c.unwrap-fit.result } in
     let t = c.self.inside in
     let back = c.remove-in_default-insert-2-2.ensures.entries ∙ ap (remove_entry (is_at (nat_cmp c.args.room))) c.in-Ok.ensures.entries ∙ taken_back nat_cmp nat_cmp_total c.args.room row t.rooms.entries absent in
     subst (λ rooms. TablesAgree t.kinds rooms c.insert-3.new.self) (sym back) (subst (λ codes. TablesAgree t.kinds t.rooms.entries codes) (sym c.in_default-insert-2.ensures.err) c.self.invariant)

@@ -1,27 +1,9 @@
-use Rattle.std.proofs.Common.{rules}
-use Rattle.sqlite.specs.Held.{state}
-use Rattle.hotel_model.specs.Refinement.Lookups.{card_at}
-use Rattle.hotel_statements.specs.Failures.{CardFails}
 use Rattle.hotel_tables.specs.Causes.{of_card}
-use Rattle.hotel_tables.proofs.OverBooks.{look_up_failed, look_up_found}
+use Rattle.hotel_tables.proofs.CountedCalls.{look_up_counted}
 use Rattle.hotel_tables.proofs.table_books.books.TableBooksBooks.card.Goals as goal
 
 pub returns : goal.returns
-returns g c = record {
-  answer = look_up_found (state g.S.Store) _ c.args.self.now c.self.view_is (λ a. a)
-      (λ rows. card_at rows c.args.number) c.card-card.new.conn c.counting.new.self c.counting.ensures.conn
-      c.card-card.result c.counting.result c.counting.ensures.same c.card-card.ensures.found;
-  kept = search rules;
-  was_clean = search rules;
-  was_honest = search rules;
-  vouched = search rules;
-  stop = search rules;
-  counted = search rules;
-  fault = search rules;
-  cause = look_up_failed (state g.S.Store) _ c.args.self.now c.self.view_is (CardFails c.args.number)
-      c.card-card.new.conn
-      c.counting.new.self c.counting.ensures.conn (of_card c.args.number) c.card-card.result c.counting.result
-      c.counting.ensures.same
-      c.card-card.ensures.cause;
-  sure = λ never. absurd never;
-}
+returns g c =
+    look_up_counted g.S.Store _ _ c.self.view_is _ _ c.counting.ensures.conn c.counting.ensures.counted
+    (λ _ _. of_card c.args.number) c.card-card.ensures
+    c.counting.ensures.same c.counting.ensures.risen

@@ -1,7 +1,7 @@
 use Rattle.std.proofs.Common.{arith, rules}
 use Rattle.std.proofs.lemmas.Result.{IfErr-weaker}
 use Rattle.hotel_core.proofs.OfCode.Parts.{risen_later}
-use Rattle.hotel_tables.proofs.Causes.{handed}
+use Rattle.hotel_tables.proofs.CountedCalls.{asked_in_vain}
 use Rattle.hotel_tables.proofs.table_books.books.TableBooksBooks.copy_guest.Goals as goal
 
 pub returns : goal.returns
@@ -20,15 +20,6 @@ returns g c = record {
 }
 
 pub returns-in_err-ask : goal.returns-in_err-ask
-returns-in_err-ask g c = record {
-  answer = search rules;
-  kept = search rules;
-  was_clean = search rules;
-  was_honest = search rules;
-  vouched = search rules;
-  stop = search rules;
-  counted = search rules;
-  fault = search rules;
-  cause = λ clean. handed _ c.from_residual.result c.from_residual.ensures (c.in_err-ask.ensures.cause clean);
-  sure = λ never. absurd never;
-}
+returns-in_err-ask g c =
+    asked_in_vain g.S.Store _ _ _ _ c.in_err-ask.ensures.looks c.in_err-ask.ensures.cause
+    c.in_err-ask.ensures.counted c.in_err-ask.ensures.fault c.from_residual.ensures

@@ -4,7 +4,7 @@ use Rattle.sqlite.specs.Held.{state}
 use Rattle.hotel_model.specs.Refinement.Lookups.{first_full_on}
 use Rattle.hotel_statements.specs.Tables.{rows_in}
 use Rattle.hotel_tables.proofs.OverBooks.{night_found}
-use Rattle.hotel_tables.proofs.Causes.{handed}
+use Rattle.hotel_tables.proofs.CountedCalls.{asked_in_vain}
 use Rattle.hotel_tables.proofs.table_books.books.TableBooksBooks.full_night.Goals as goal
 
 pub returns : goal.returns
@@ -30,15 +30,6 @@ returns g c =
     }
 
 pub returns-in_err-ask : goal.returns-in_err-ask
-returns-in_err-ask g c = record {
-  answer = search rules;
-  kept = search rules;
-  was_clean = search rules;
-  was_honest = search rules;
-  vouched = search rules;
-  stop = search rules;
-  counted = search rules;
-  fault = search rules;
-  cause = λ clean. handed _ c.from_residual.result c.from_residual.ensures (c.in_err-ask.ensures.cause clean);
-  sure = λ never. absurd never;
-}
+returns-in_err-ask g c =
+    asked_in_vain g.S.Store _ _ _ _ c.in_err-ask.ensures.looks c.in_err-ask.ensures.cause
+    c.in_err-ask.ensures.counted c.in_err-ask.ensures.fault c.from_residual.ensures
