@@ -1,6 +1,6 @@
 //! The import of an audit file into any books.
 ghost use Rattle.std.specs.Prelude.{◌≡◌, ◌≢◌, ◌<◌, [], ◌∷◌, length, IfOk, IfErr, OnErr, Ok, Err};
-ghost use Rattle.keycard_rules.specs.Rise.{NoFewer};
+ghost use Rattle.keycard_rules.specs.{Since.Since};
 ghost use Rattle.hotel_core.specs.{Books.Failures.AreCounted, Books.Failures.refusal_of};
 ghost use Rattle.hotel_audit.specs.{declared.audit_file.AuditFault.AuditFault, AuditFile.audit_lines};
 ghost use Rattle.hotel_audit.specs.declared.audit_file.TheConstants.{AUDIT_BYTES};
@@ -53,9 +53,7 @@ fn answer_line<B: Books>(books: &mut B, line: &Line) -> Result<LineAnswer, LookF
     ensures unchanged { OnErr result (B.is_clean books.new → B.rows books.new ≡ B.rows books.old) }
     ensures failed { IfErr result (λ why. B.is_clean books.new
         → AreCounted (B.failures books.old) (B.failures books.new) (refusal_of why ∷ [])) }
-    ensures was_clean { B.is_clean books.new → B.is_clean books.old }
-    ensures was_honest { B.is_honest books.new → B.is_honest books.old }
-    ensures counted { NoFewer (B.failures books.old) (B.failures books.new) }
+    ensures since { Since B.is_clean B.is_honest B.failures books.old books.new }
 {
     match line {
         Line::Unread(cause) => Ok(LineAnswer::Unread(*cause)),
@@ -84,9 +82,7 @@ fn import_lines<B: Books>(
     ensures no_file { IfErr result (λ f. (why : AuditFault) → f ≡ ImportFault.File why → books.new ≡ books.old) }
     ensures failed { IfErr result (λ f. B.is_clean books.new
         → AreCounted (B.failures books.old) (B.failures books.new) (failures_of f)) }
-    ensures was_clean { B.is_clean books.new → B.is_clean books.old }
-    ensures was_honest { B.is_honest books.new → B.is_honest books.old }
-    ensures counted { NoFewer (B.failures books.old) (B.failures books.new) }
+    ensures since { Since B.is_clean B.is_honest B.failures books.old books.new }
 {
     let Ok(mut answers) = Vec::with_capacity(alloc, lines.len()) else {
         return Err(ImportFault::File(AuditFault::Memory));
@@ -118,9 +114,7 @@ pub fn import<B: Books>(
     ensures no_file { IfErr result (λ f. (why : AuditFault) → f ≡ ImportFault.File why → books.new ≡ books.old) }
     ensures failed { IfErr result (λ fault. B.is_clean books.new →
         AreCounted (B.failures books.old) (B.failures books.new) (failures_of fault)) }
-    ensures was_clean { B.is_clean books.new → B.is_clean books.old }
-    ensures was_honest { B.is_honest books.new → B.is_honest books.old }
-    ensures counted { NoFewer (B.failures books.old) (B.failures books.new) }
+    ensures since { Since B.is_clean B.is_honest B.failures books.old books.new }
 {
     match read_notes(alloc, bytes) {
         Ok(lines) => import_lines(alloc, books, lines.as_slice()),

@@ -1,7 +1,8 @@
 //! The books of the desk, however they are kept.
 ghost use Rattle.std.specs.Prelude.{◌≡◌, ◌-◌, List, Option, Some, None, Bool, true, false, OnOk, OnErr, IfErr, IsOk};
 ghost use Rattle.std.specs.Prelude.{Result, Err, length, not};
-ghost use Rattle.keycard_rules.specs.{Rise.HasRisen, Rise.NoFewer, declared.issued.LookFault.LookFault};
+ghost use Rattle.keycard_rules.specs.{Rise.HasRisen, declared.issued.LookFault.LookFault};
+ghost use Rattle.keycard_rules.specs.{Since.Since};
 ghost use Rattle.keycard_rules.specs.{declared.issued.LookFault.TheVariants.Store};
 ghost use Rattle.hotel_model.specs.{Words.is_one_of, Rows.Rows, Rows.has_kind, Rows.fit_at, Rows.rooms_of_kind};
 ghost use Rattle.hotel_model.specs.{Guests.are_none, Refinement.Change.made};
@@ -135,11 +136,9 @@ pub trait Books: Issued {
         requires { Self.is_clean self.old → Fits change (rows self.old) }
         ensures ok { Self.is_clean self.new → OnOk result (rows self.new ≡ made change (rows self.old)) }
         ensures err { Self.is_clean self.new → OnErr result (rows self.new ≡ rows self.old) }
-        ensures was_clean { Self.is_clean self.new → Self.is_clean self.old }
-        ensures was_honest { Self.is_honest self.new → Self.is_honest self.old }
+        ensures since { Since Self.is_clean Self.is_honest Self.failures self.old self.new }
         ensures vouched { Self.is_honest self.new → OnOk result (Self.is_clean self.new) }
         ensures stop { leaves_change change self.old self.new result }
-        ensures counted { NoFewer (Self.failures self.old) (Self.failures self.new) }
         ensures fault { IfErr result (λ why. HasRisen (Self.failures self.old why) (Self.failures self.new why)) }
         ensures cause { Self.is_honest self.new → IfErr result
             (λ why. why ≡ Store → change_fails change self.old self.new) }

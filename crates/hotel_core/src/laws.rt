@@ -5,7 +5,7 @@ use crate::books::Books;
 use rand_core::Rng;
 
 /// Books that were not clean as a call began answer nothing but `Memory` or `Store`, where nobody else wrote what they
-/// are kept in. The clauses `vouched` and `was_clean` of each call say so.
+/// are kept in. The clauses `vouched` and `since` of each call say so.
 pub fn shut_answers_nothing<B: Books, A, R>()
     ensures look_up { FindsNothing B.Issued A R }
     ensures change { ChangesNothing B.Issued }

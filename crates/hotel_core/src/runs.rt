@@ -1,6 +1,6 @@
 //! Commands one after the other, over any books.
 ghost use Rattle.std.specs.Prelude.{◌≡◌, true, IfOk, IfErr, length, zip};
-ghost use Rattle.keycard_rules.specs.Rise.{NoFewer};
+ghost use Rattle.keycard_rules.specs.{Since.Since};
 ghost use Rattle.hotel_core.specs.Books.Happens.{CommandHappens};
 ghost use Rattle.hotel_core.specs.Books.Passes.{Passes};
 ghost use Rattle.hotel_core.specs.{Books.Failures.AreCounted, Books.Failures.failures_in};
@@ -42,9 +42,7 @@ pub fn run<B: Books, R: Rng>(
     ensures through { IfOk result (λ replies. (length replies.items ≡ length commands.now)
         × Passes (CommandHappens B.Issued B.rows R.stream) (books.old, source.old)
         (zip commands.now replies.items) (books.new, source.new)) }
-    ensures was_honest { B.is_honest books.new → B.is_honest books.old }
-    ensures was_clean { B.is_clean books.new → B.is_clean books.old }
-    ensures counted { NoFewer (B.failures books.old) (B.failures books.new) }
+    ensures since { Since B.is_clean B.is_honest B.failures books.old books.new }
 {
     let Ok(mut replies) = Vec::with_capacity(alloc, commands.len()) else {
         return Err(RunFault { answered: 0 });

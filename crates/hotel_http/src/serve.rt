@@ -3,7 +3,7 @@
 ghost use Rattle.std.specs.Prelude.{◌≡◌, [], true, Option, OnErr};
 ghost use Rattle.std.specs.Io.KnownBytes.{Appends};
 ghost use Rattle.rand_core.specs.Stream.{Stream};
-ghost use Rattle.keycard_rules.specs.Rise.{NoFewer};
+ghost use Rattle.keycard_rules.specs.{Since.Since};
 ghost use Rattle.hotel_core.specs.{Books.Failures.AreCounted, Books.Happens.Happens};
 ghost use Rattle.hotel_lists.specs.Calls.{CountsReads, CountsWrites, OnErrOf};
 ghost use Rattle.hotel_asks.specs.Listings.{listing_on};
@@ -157,9 +157,7 @@ fn list_text<B: Walks>(alloc: Global, list: &ListAsk, books: &mut B) -> Result<V
     ensures vouched { B.is_honest books.new → is_answered (text_in (λ t. t.items) result) ≡ true
         → B.is_clean books.new }
     ensures kept { B.is_clean books.new → B.is_kept books.old books.new }
-    ensures was_clean { B.is_clean books.new → B.is_clean books.old }
-    ensures was_honest { B.is_honest books.new → B.is_honest books.old }
-    ensures counted { NoFewer (B.failures books.old) (B.failures books.new) }
+    ensures since { Since B.is_clean B.is_honest B.failures books.old books.new }
     ensures failures { AreCounted (B.failures books.old) (B.failures books.new)
         (list_failures (text_in (λ t. t.items) result)) }
 {
@@ -281,9 +279,7 @@ pub fn serve_by<I: Read, W: Write, B: Walks, R: Rng>(
         (λ wanted awaited end. Happens B.Issued B.rows books.old
         (Answered (Comes wanted) (R.stream source.old) (R.stream source.new) (interim_where awaited)
         (W.contents writer.old) (W.contents writer.new) end) books.new) result }
-    ensures was_clean { B.is_clean books.new → B.is_clean books.old }
-    ensures was_honest { B.is_honest books.new → B.is_honest books.old }
-    ensures counted { NoFewer (B.failures books.old) (B.failures books.new) }
+    ensures since { Since B.is_clean B.is_honest B.failures books.old books.new }
     ensures wanted { ReadsWhile WantsMore (I.remaining reader.old) (I.remaining reader.new) }
     ensures reads_counted { CountsReads calls.old calls.new (OnErrOf result Read) }
     ensures writes_counted { CountsWrites calls.old calls.new (IfUnwritten result) }
@@ -313,9 +309,7 @@ pub fn serve_one<I: Read, W: Write, B: Walks, R: Rng>(
         (λ wanted awaited end. Happens B.Issued B.rows books.old
         (Answered (Comes wanted) (R.stream source.old) (R.stream source.new) (interim_where awaited)
         (W.contents writer.old) (W.contents writer.new) end) books.new) result }
-    ensures was_clean { B.is_clean books.new → B.is_clean books.old }
-    ensures was_honest { B.is_honest books.new → B.is_honest books.old }
-    ensures counted { NoFewer (B.failures books.old) (B.failures books.new) }
+    ensures since { Since B.is_clean B.is_honest B.failures books.old books.new }
     ensures wanted { ReadsWhile WantsMore (I.remaining reader.old) (I.remaining reader.new) }
 {
     let Ok(routes) = make_routes(alloc) else {

@@ -4,7 +4,8 @@ use Rattle.std.specs.Prelude.{Result, Ok, Err}
 use Rattle.std.specs.Fmt.{decimal}
 use Rattle.std.specs.Io.KnownBytes.{Keeps}
 use Rattle.csv.specs.Writing.{default_writer, row_text}
-use Rattle.keycard_rules.specs.{Rise.HasRisen, Rise.NoFewer, declared.issued.Issued.Ghosts as IssuedOf}
+use Rattle.keycard_rules.specs.{Rise.HasRisen, declared.issued.Issued.Ghosts as IssuedOf}
+use Rattle.keycard_rules.specs.{Since.Since}
 use Rattle.keycard_rules.specs.{Numerals.code_text, Note.Note, declared.note.Act.Act}
 use Rattle.keycard_rules.specs.declared.issued.LookFault.TheVariants as look
 use Rattle.keycard_rules.specs.declared.note.Act.TheVariants.{Entered, Left, Recoded}
@@ -98,10 +99,8 @@ Vouches is_clean (Err _) = Unit {0}
 -- where a failure of the store was counted.
 pub record LooksAt {B : Type 0} (I : IssuedOf B) (old new : B) (result : Result (Unit {0}) ListFault) : Type 0 where
   pub kept : I.is_clean new → I.is_kept old new
-  pub was_clean : I.is_clean new → I.is_clean old
-  pub was_honest : I.is_honest new → I.is_honest old
+  pub since : Since I.is_clean I.is_honest I.failures old new
   pub vouched : I.is_honest new → Vouches (I.is_clean new) result
-  pub counted : NoFewer (I.failures old) (I.failures new)
   pub store : result ≡ Err fault.Store → HasRisen (I.failures old look.Store) (I.failures new look.Store)
 
 -- no row and no header can have been written

@@ -4,6 +4,7 @@ pub mod Numerals
 pub mod Numbers
 pub mod Lock
 pub mod Rise
+pub mod Since
 pub mod Draw
 pub mod Note
 pub mod Chain

@@ -1,7 +1,8 @@
 //! Drawing a code that was never issued.
 ghost use Rattle.std.specs.Prelude.{◌≡◌, false, Err, IfOk, IfSome, None};
 ghost use Rattle.keycard_rules.specs.{Words.is_one_of, Draw.words, Draw.past, Draw.MovedAtMost, Draw.Draws};
-ghost use Rattle.keycard_rules.specs.{Draw.AllIssued, Draw.fault_in, Rise.HasRisen, Rise.NoFewer};
+ghost use Rattle.keycard_rules.specs.{Since.Since};
+ghost use Rattle.keycard_rules.specs.{Draw.AllIssued, Draw.fault_in, Rise.HasRisen};
 
 use crate::code::Code;
 use crate::issued::{Issued, LookFault};
@@ -34,10 +35,8 @@ pub fn draw_fresh<R: Rng, I: Issued>(source: &mut R, issued: &mut I) -> Result<C
     ensures none_moved { result ≡ Err DrawFault.NoFreshCode → R.stream source.new ≡ past 64 (R.stream source.old) }
 
     ensures kept { I.is_clean issued.new → I.is_kept issued.old issued.new }
-    ensures was_clean { I.is_clean issued.new → I.is_clean issued.old }
-    ensures was_honest { I.is_honest issued.new → I.is_honest issued.old }
+    ensures since { Since I.is_clean I.is_honest I.failures issued.old issued.new }
     ensures vouched { I.is_honest issued.new → fault_in result ≡ None → I.is_clean issued.new }
-    ensures counted { NoFewer (I.failures issued.old) (I.failures issued.new) }
     ensures fault { IfSome (fault_in result) (λ why. HasRisen (I.failures issued.old why) (I.failures issued.new why)) }
     ensures sure { I.never_fails → fault_in result ≡ None }
 {

@@ -1,7 +1,8 @@
 //! What knows the codes that were issued, asked before a new one is given out.
 ghost use Rattle.std.specs.Prelude.{◌≡◌, ℕ, List, IfOk, IfErr, OnOk, IsOk, refl};
 ghost use Rattle.std.proofs.Common.{◌∙◌};
-ghost use Rattle.keycard_rules.specs.{Words.is_one_of, Rise.HasRisen, Rise.NoFewer};
+ghost use Rattle.keycard_rules.specs.{Words.is_one_of, Rise.HasRisen};
+ghost use Rattle.keycard_rules.specs.{Since.Since};
 ghost use Rattle.keycard_rules.specs.{declared.issued.LookFault.LookFault, declared.issued.LookFault.TheVariants.Store};
 
 use crate::code::Code;
@@ -51,11 +52,9 @@ pub trait Issued {
     fn is_issued(&mut self, code: Code) -> Result<bool, LookFault>
         ensures answer { is_clean self.new → IfOk result (λ yes. yes ≡ is_one_of code (issued self.old)) }
         ensures kept { is_clean self.new → is_kept self.old self.new }
-        ensures was_clean { is_clean self.new → is_clean self.old }
-        ensures was_honest { is_honest self.new → is_honest self.old }
+        ensures since { Since is_clean is_honest failures self.old self.new }
         ensures vouched { is_honest self.new → OnOk result (is_clean self.new) }
         ensures stop { leaves_no_more self.old self.new }
-        ensures counted { NoFewer (failures self.old) (failures self.new) }
         ensures fault { IfErr result (λ why. HasRisen (failures self.old why) (failures self.new why)) }
         ensures cause { is_honest self.new → IfErr result (λ why. why ≡ Store → look_up_fails self.old self.new) }
         ensures sure { never_fails → IsOk result };

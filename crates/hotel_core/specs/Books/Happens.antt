@@ -1,6 +1,6 @@
 -- What a call over books promises of histories, also where the books fail for good in it.
 use Rattle.std.specs.Prelude.{◌≡◌, Bool, true, false, not, List, [], ◌∷◌, ⊤}
-use Rattle.keycard_rules.specs.Rise.{NoFewer}
+use Rattle.keycard_rules.specs.{Since.Since}
 use Rattle.keycard_rules.specs.declared.issued.Issued.{Ghosts as IssuedOf}
 use Rattle.rand_core.specs.Stream.{Stream}
 use Rattle.hotel_model.specs.{declared.command.Command.Command, declared.reply.Reply.Reply}
@@ -43,9 +43,7 @@ pub record HappensBy {S : Type 0} (I : IssuedOf S) (rows : S → Rows) (old : S)
       (λ failed answered. AreCounted (I.failures old) (I.failures new) failed)) (rows new)
   pub happened : I.is_honest new → LeadsOn (I.is_clean old) (rows old) (went (I.is_clean new) (Tells I old new))
       (I.is_clean new) (rows new)
-  pub was_clean : I.is_clean new → I.is_clean old
-  pub was_honest : I.is_honest new → I.is_honest old
-  pub counted : NoFewer (I.failures old) (I.failures new)
+  pub since : Since I.is_clean I.is_honest I.failures old new
 
 -- The same of what is known of all books.
 abbrev pub Happens : {S : Type 0} → IssuedOf S → (S → Rows) → S

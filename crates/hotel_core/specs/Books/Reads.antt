@@ -1,6 +1,7 @@
 -- What a look-up of the books promises.
 use Rattle.std.specs.Prelude.{◌≡◌, Bool, false, Result, IfOk, IfErr, OnOk, IsOk}
-use Rattle.keycard_rules.specs.{Rise.HasRisen, Rise.NoFewer, declared.issued.LookFault.LookFault}
+use Rattle.keycard_rules.specs.{Rise.HasRisen, declared.issued.LookFault.LookFault}
+use Rattle.keycard_rules.specs.{Since.Since}
 use Rattle.keycard_rules.specs.declared.issued.LookFault.TheVariants.{Store}
 use Rattle.keycard_rules.specs.declared.issued.Issued.{Ghosts as IssuedOf}
 
@@ -12,11 +13,9 @@ pub record LooksUp {S A R : Type 0} (I : IssuedOf S) (takes_memory : Bool) (said
     (result : Result R LookFault) : Type 0 where
   pub answer : I.is_clean new → IfOk result (λ a. said a ≡ wanted)
   pub kept : I.is_clean new → I.is_kept old new
-  pub was_clean : I.is_clean new → I.is_clean old
-  pub was_honest : I.is_honest new → I.is_honest old
+  pub since : Since I.is_clean I.is_honest I.failures old new
   pub vouched : I.is_honest new → OnOk result (I.is_clean new)
   pub stop : I.leaves_no_more old new
-  pub counted : NoFewer (I.failures old) (I.failures new)
   pub fault : IfErr result (λ why. HasRisen (I.failures old why) (I.failures new why))
   pub cause : I.is_honest new → IfErr result (λ why. why ≡ Store → I.look_up_fails old new)
   pub sure : I.never_fails → takes_memory ≡ false → IsOk result

@@ -19,7 +19,7 @@ FindsNothing {S = S} I A R = (takes_memory : Bool) (said : R → A) (wanted : A)
     (result : Result R LookFault)
     → LooksUp I takes_memory said wanted old new result → BeganShut I old new → IsErr result
 
--- such a change, with the clauses vouched and was_clean, was not made
+-- such a change, with the clauses vouched and since, was not made
 abbrev pub ChangesNothing : {S : Type 0} → IssuedOf S → Type 0
 ChangesNothing {S = S} I = (old new : S) (result : Result (Unit {0}) LookFault)
     → (I.is_honest new → OnOk result (I.is_clean new)) → (I.is_clean new → I.is_clean old) → BeganShut I old new

@@ -1,6 +1,7 @@
 -- What a walk over the rows of a list hands to a sink.
 use Rattle.std.specs.Prelude.{◌≡◌, Bool, false, List, ◌∷◌, ◌++◌, Result, Ok, Err, Option, Some, None, IfSome}
-use Rattle.keycard_rules.specs.{declared.issued.LookFault.LookFault, Rise.HasRisen, Rise.NoFewer}
+use Rattle.keycard_rules.specs.{declared.issued.LookFault.LookFault, Rise.HasRisen}
+use Rattle.keycard_rules.specs.{Since.Since}
 use Rattle.keycard_rules.specs.{declared.issued.Issued.Ghosts as IssuedOf}
 use Rattle.keycard_rules.specs.declared.issued.LookFault.TheVariants as look
 use Rattle.hotel_core.specs.Books.Passes.{Passes}
@@ -42,11 +43,9 @@ pub record WalksOver {B S R : Type 0} (I : IssuedOf B) (takes_memory : Bool) (af
     (rows : List R) (old new : B) (sink end : S) (result : Result (Unit {0}) WalkFault) : Type 0 where
   pub hands : (handed : List R) × Hands after after_stop handed sink end result × (I.is_honest new → handed ≡ rows)
   pub kept : I.is_clean new → I.is_kept old new
-  pub was_clean : I.is_clean new → I.is_clean old
-  pub was_honest : I.is_honest new → I.is_honest old
+  pub since : Since I.is_clean I.is_honest I.failures old new
   pub vouched : I.is_honest new → failure_of result ≡ None → I.is_clean new
   pub stop : I.leaves_no_more old new
-  pub counted : NoFewer (I.failures old) (I.failures new)
   pub fault : IfSome (failure_of result) (λ cause. HasRisen (I.failures old cause) (I.failures new cause))
   pub cause : I.is_honest new → failure_of result ≡ Some look.Store → I.look_up_fails old new
   pub sure : I.never_fails → takes_memory ≡ false → failure_of result ≡ None

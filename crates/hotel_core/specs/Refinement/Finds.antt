@@ -2,7 +2,8 @@
 use Rattle.std.specs.Prelude.{ℕ, ◌≡◌, Bool, true, false, List, [], ◌∷◌, Option, Some, None, Result, Ok, Err}
 use Rattle.rand_core.specs.Stream.{Stream}
 use Rattle.keycard_rules.specs.{Draw.Draw, Draw.words, Draw.past, Draw.draw_from, Draw.MovedAtMost, Rise.HasRisen}
-use Rattle.keycard_rules.specs.{Rise.NoFewer, declared.issued.LookFault.LookFault}
+use Rattle.keycard_rules.specs.{Since.Since}
+use Rattle.keycard_rules.specs.{declared.issued.LookFault.LookFault}
 use Rattle.keycard_rules.specs.{declared.draw.DrawFault.DrawFault, declared.issued.Issued.Ghosts as IssuedOf}
 use Rattle.keycard_rules.specs.declared.draw.DrawFault.TheVariants as draw
 use Rattle.hotel_model.specs.{declared.reply.Reply.Reply, declared.reply.Refusal.Refusal}
@@ -44,10 +45,8 @@ pub record Finds {S A : Type 0} (I : IssuedOf S) (B : BooksOf S) (are_whole : Ro
     (wanted : Rows → Option A) (old new : S) (result : Result A Refusal) : Type 0 where
   pub answer : I.is_clean new → Found why (wanted (B.rows old)) result
   pub same : I.is_clean new → B.rows new ≡ B.rows old
-  pub was_clean : I.is_clean new → I.is_clean old
-  pub was_honest : I.is_honest new → I.is_honest old
+  pub since : Since I.is_clean I.is_honest I.failures old new
   pub vouched : I.is_honest new → has_failed result ≡ false → I.is_clean new
-  pub counted : NoFewer (I.failures old) (I.failures new)
   pub fault : I.is_clean new → are_whole (B.rows old) → (cause : LookFault) → result ≡ Err (refusal_of cause)
       → HasRisen (I.failures old cause) (I.failures new cause)
 
@@ -78,12 +77,10 @@ pub record DrawsCode {S : Type 0} (I : IssuedOf S) (B : BooksOf S) (old new : S)
     (result : Result ℕ Refusal) : Type 0 where
   pub answer : I.is_clean new → Drew (draw_from (codes_in (B.rows old)) (words 64 source)) source rest result
   pub same : I.is_clean new → B.rows new ≡ B.rows old
-  pub was_clean : I.is_clean new → I.is_clean old
-  pub was_honest : I.is_honest new → I.is_honest old
+  pub since : Since I.is_clean I.is_honest I.failures old new
   pub vouched : I.is_honest new → has_failed result ≡ false → I.is_clean new
   pub moved : I.is_honest new → has_failed result ≡ true
       → MovedAtMost (draw_from (codes_in (B.rows old)) (words 64 source)).examined source rest
-  pub counted : NoFewer (I.failures old) (I.failures new)
   pub fault : (cause : LookFault) → result ≡ Err (refusal_of cause)
       → HasRisen (I.failures old cause) (I.failures new cause)
   pub sure : I.never_fails → has_failed result ≡ true → ⊥

@@ -1,7 +1,7 @@
 -- One step over books: it goes as the outcome says, or it fails and changes nothing.
 use Rattle.std.specs.Prelude.{◌⊎◌, ◌≡◌, true, false}
 use Rattle.keycard_rules.specs.{declared.issued.LookFault.LookFault, Draw.MovedAtMost, Draw.words, Rise.HasRisen}
-use Rattle.keycard_rules.specs.{Rise.NoFewer}
+use Rattle.keycard_rules.specs.{Since.Since}
 use Rattle.rand_core.specs.Stream.{Stream}
 use Rattle.hotel_model.specs.{declared.command.Command.Command, declared.change.Change.Change}
 use Rattle.hotel_model.specs.{declared.reply.Reply.Reply, Rows.Rows}
@@ -18,12 +18,10 @@ use Rattle.hotel_core.specs.declared.books.Books.{Ghosts as BooksOf}
 pub record StepsAs {S : Type 0} (I : IssuedOf S) (B : BooksOf S) (outcome : Rows → Outcome Change) (old new : S)
     (source rest : Stream) (answer : Reply) : Type 0 where
   pub goes : I.is_clean new → Goes (outcome (B.rows old)) (B.rows old) source answer (B.rows new) rest
-  pub was_clean : I.is_clean new → I.is_clean old
-  pub was_honest : I.is_honest new → I.is_honest old
+  pub since : Since I.is_clean I.is_honest I.failures old new
   pub vouched : I.is_honest new → is_failed answer ≡ false → I.is_clean new
   pub moved : I.is_honest new → is_failed answer ≡ true → (rest ≡ source)
       ⊎ (I.is_clean old × MovedAtMost (outcome (B.rows old)).examined source rest)
-  pub counted : NoFewer (I.failures old) (I.failures new)
   pub fault : I.is_clean new → AreWhole (B.rows old) → (cause : LookFault) → answer ≡ reply.Refused (refusal_of cause)
       → HasRisen (I.failures old cause) (I.failures new cause)
 

@@ -2,7 +2,7 @@
 use Rattle.std.specs.Prelude.{◌≡◌, ℕ, Bool, true, false, List, [], ◌∷◌, Option, Result, Ok, Err, IfErr}
 use Rattle.std.specs.Io.KnownBytes.{Appends}
 use Rattle.keycard_rules.specs.declared.issued.Issued.{Ghosts as IssuedOf}
-use Rattle.keycard_rules.specs.Rise.{NoFewer}
+use Rattle.keycard_rules.specs.{Since.Since}
 use Rattle.keycard_rules.specs.declared.issued.LookFault.TheVariants as look
 use Rattle.hotel_model.specs.Rows.{Rows}
 use Rattle.hotel_core.specs.Books.Failures.{AreCounted}
@@ -61,7 +61,5 @@ pub record ImportEnds {B : Type 0} (I : IssuedOf B) (rows : B → Rows) (bytes :
     (outcome : Result (List LineAnswer) ImportFault) : Type 0 where
   pub went : Imports I rows (audit_lines bytes) old new outcome
   pub no_file : IfErr outcome (λ fault. (why : AuditFault) → fault ≡ File why → new ≡ old)
-  pub was_clean : I.is_clean new → I.is_clean old
-  pub was_honest : I.is_honest new → I.is_honest old
-  pub counted : NoFewer (I.failures old) (I.failures new)
+  pub since : Since I.is_clean I.is_honest I.failures old new
   pub failed : IfErr outcome (λ why. I.is_clean new → AreCounted (I.failures old) (I.failures new) (failures_of why))
