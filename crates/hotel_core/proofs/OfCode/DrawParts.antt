@@ -2,9 +2,10 @@
 use Rattle.std.proofs.Common.{ℕ, ◌≡◌, Bool, true, false, Some, None, Result, Ok, Err, IsErrAnd, List, refl, ap, sym}
 use Rattle.std.proofs.Common.{◌∙◌, arith, subst, option_map, IfSome, inr}
 use Rattle.hotel_core.proofs.Names.{false≢true, LookFault, Stream, HasRisen, Since, since_then, Draw, Draws, fault_in}
-use Rattle.hotel_core.proofs.Names.{draw_from, drawn, words, past, Change, Reply, Refused, Refusal, NoFreshCode, said_of, Rows}
-use Rattle.hotel_core.proofs.Names.{codes_in, is_failed, Outcome, accepted, by_draw, made, GoesIf, made_by, AreWhole}
-use Rattle.hotel_core.proofs.Names.{StepsAs, DrawsCode, Drew, DrewNone, drawn_or, has_failed, refusal_of, reply_of}
+use Rattle.hotel_core.proofs.Names.{draw_from, drawn, words, past, Change, Reply, Refused, Refusal, NoFreshCode}
+use Rattle.hotel_core.proofs.Names.{said_of, Rows, codes_in, is_failed, Outcome, accepted, by_draw, made, GoesIf}
+use Rattle.hotel_core.proofs.Names.{made_by, AreWhole, StepsAs, DrawsCode, Drew, DrewNone, drawn_or, has_failed}
+use Rattle.hotel_core.proofs.Names.{refusal_of, reply_of}
 use Rattle.hotel_core.proofs.Names.{Ghosts as BooksOf}
 use Rattle.keycard_rules.specs.Draw.{MovedAtMost}
 use Rattle.keycard_rules.specs.declared.issued.LookFault.TheVariants as look

@@ -2,9 +2,9 @@
 use Rattle.std.proofs.Common.{ℕ, ◌≡◌, ◌≤◌, Bool, true, false, Option, Some, None, Result, Ok, Err, refl, ap, sym, ◌∙◌}
 use Rattle.std.proofs.Common.{arith, subst, IsErrAnd, List, [], ◌∷◌, ◌++◌, ◌+◌, ◌⊎◌, inl, inr, nat_lt, cond}
 use Rattle.hotel_core.proofs.Names.{false≢true, Stream, past, HasRisen, LookFault, Since, since_refl, since_then}
-use Rattle.hotel_core.proofs.Names.{Change, Reply, Refused, Refusal, Store, Rows, number_after, is_failed, Outcome, refused, accepted, unless}
-use Rattle.hotel_core.proofs.Names.{made, GoesIf, Goes, made_by, AreWhole, StepsAs, Finds, AnyRows, reply_of}
-use Rattle.hotel_core.proofs.Names.{refusal_of, first_refusal, Ghosts as BooksOf}
+use Rattle.hotel_core.proofs.Names.{Change, Reply, Refused, Refusal, Store, Rows, number_after, is_failed, Outcome}
+use Rattle.hotel_core.proofs.Names.{refused, accepted, unless, made, GoesIf, Goes, made_by, AreWhole, StepsAs, Finds}
+use Rattle.hotel_core.proofs.Names.{AnyRows, reply_of, refusal_of, first_refusal, Ghosts as BooksOf}
 use Rattle.keycard_rules.proofs.Drawing.{past-zero}
 use Rattle.keycard_rules.specs.Draw.{MovedAtMost}
 use Rattle.keycard_rules.specs.declared.issued.LookFault.TheVariants as look
