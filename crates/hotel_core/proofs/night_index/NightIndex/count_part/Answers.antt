@@ -40,11 +40,13 @@ pub invariant_of-self : goal.invariant_of-self
 invariant_of-self c =
     let new = c.more.new.counts in
     let taken = c.more.ensures.taken (omega (arith, c.from.ensures, c.requires.order)) in
-    subst (λ es. HasNoEmptyBlock es) (sym (c.get_mut.follows.holds new).0) (kept_set _ c.self.inside.blocks.entries new taken c.self.invariant)
+    subst (λ es. HasNoEmptyBlock es) (sym (c.get_mut.follows.holds new).0)
+    (kept_set _ c.self.inside.blocks.entries new taken c.self.invariant)
 
 pub invariant_of-self-2 : goal.invariant_of-self-2
 invariant_of-self-2 c =
     let before = c.get_mut.follows.lender-at-none.entries in
     let taken = c.more-2.ensures.taken (omega (arith, c.from.ensures, c.requires.order)) in
     let kept = subst (λ m. HasNoEmptyBlock m.entries) (sym c.get_mut.follows.holds-at-none) c.self.invariant in
-    subst (λ es. HasNoEmptyBlock es) (sym c.in-Ok.ensures.entries) (kept_added _ before _ c.more-2.new.counts taken kept)
+    subst (λ es. HasNoEmptyBlock es) (sym c.in-Ok.ensures.entries)
+    (kept_added _ before _ c.more-2.new.counts taken kept)

@@ -42,11 +42,13 @@ returns-else-not-is_taken c =
 pub invariant_of-self-then-not-is_taken : goal.invariant_of-self-then-not-is_taken
 invariant_of-self-then-not-is_taken c =
     let new = c.less-is_taken.new.counts in
-    let gone = c.remove.ensures.entries ∙ ap (λ es. remove_entry (is_at (block_cmp (c.args.kind.now, c.args.from / 32))) es) (c.get_mut.follows.holds new).0 in
+    let gone = c.remove.ensures.entries ∙ ap (λ es. remove_entry
+    (is_at (block_cmp (c.args.kind.now, c.args.from / 32))) es) (c.get_mut.follows.holds new).0 in
     subst (λ es. HasNoEmptyBlock es) (sym gone) (kept_removed _ c.self.inside.blocks.entries new c.self.invariant)
 
 pub invariant_of-self-else-not-is_taken : goal.invariant_of-self-else-not-is_taken
 invariant_of-self-else-not-is_taken c =
     let new = c.less-is_taken.new.counts in
     let taken = c.less-is_taken.ensures.some c.if-not-is_taken.false in
-    subst (λ es. HasNoEmptyBlock es) (sym (c.get_mut.follows.holds new).0) (kept_set _ c.self.inside.blocks.entries new taken c.self.invariant)
+    subst (λ es. HasNoEmptyBlock es) (sym (c.get_mut.follows.holds new).0)
+    (kept_set _ c.self.inside.blocks.entries new taken c.self.invariant)
