@@ -6,7 +6,7 @@ pub use Rattle.hotel_core.specs.Books.Walks.{Hands, StopsAt, TakesFront, failure
 pub use Rattle.hotel_core.specs.KindRooms.{is_there, rooms_in}
 pub use Rattle.hotel_core.specs.Memory.{HaveCardNumbers, HaveCounts, HaveRoomNumbers, LaterPlacesFree, PlacesAgree}
 pub use Rattle.hotel_core.specs.Memory.{RoomsKnown, CountsNightsOf, TablesAgree}
-pub use Rattle.hotel_core.specs.NightIndex.{block_at, block_cmp, counted, spans}
+pub use Rattle.hotel_core.specs.NightIndex.{HasNoEmptyBlock, HasTakenNight, block_at, block_cmp, counted, spans}
 pub use Rattle.hotel_core.specs.Refinement.Finds.{AnyRows, DrawsCode, Drew, DrewNone, Finds, drawn_or, first_refusal}
 pub use Rattle.hotel_core.specs.Refinement.Finds.{has_failed, reply_of}
 pub use Rattle.hotel_core.specs.Refinement.StepOnRows.{StepsAs}

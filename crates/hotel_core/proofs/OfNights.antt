@@ -1,4 +1,5 @@
 pub mod NightCounts
+pub mod BlocksKept
 pub mod NightsStanding
 pub mod KindKeys
 pub mod RoomsByKind

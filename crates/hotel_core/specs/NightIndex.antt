@@ -1,5 +1,5 @@
 -- The standing stays of each kind and night, counted.
-use Rattle.std.specs.Prelude.{◌≡◌, ℕ, ◌/◌, ◌%◌, Bool, ◌&&◌, List, [], nat_le, nat_lt, bytes_eq, slice_index}
+use Rattle.std.specs.Prelude.{◌≡◌, ℕ, ◌/◌, ◌%◌, ◌<◌, Bool, ◌&&◌, List, [], ◌∷◌, nat_le, nat_lt, bytes_eq, slice_index}
 use Rattle.std.specs.Option.{unwrap_or}
 use Rattle.std.specs.Ordering.{nat_cmp, ordering_then}
 use Rattle.std.specs.Cmp.Lexicographic.{slice_cmp}
@@ -19,6 +19,15 @@ block_at blocks kind block = unwrap_or (lookup (is_at (block_cmp (kind, block)))
 -- how many stays are counted at a night of a kind: the nights are kept in blocks of 32
 abbrev pub counted : List ((List ℕ × ℕ) × List ℕ) → List ℕ → ℕ → ℕ
 counted blocks kind d = slice_index (block_at blocks kind (d / 32)) (d % 32)
+
+-- a stay is counted at one of a block's nights
+abbrev pub HasTakenNight : List ℕ → Type 0
+HasTakenNight counts = (place : ℕ) × (0 < slice_index counts place)
+
+-- Each block that is kept has a taken night: so no memory is kept for nights that no stay takes any more.
+abbrev pub HasNoEmptyBlock : List ((List ℕ × ℕ) × List ℕ) → Type 0
+HasNoEmptyBlock [] = Unit {0}
+HasNoEmptyBlock (e ∷ es) = HasTakenNight e.1 × HasNoEmptyBlock es
 
 -- it is one of the nights from `arrive` on and before `depart`, of this kind
 abbrev pub spans : List ℕ → ℕ → ℕ → List ℕ → ℕ → Bool

@@ -1,6 +1,6 @@
 //! The books of the desk, however they are kept.
-ghost use Rattle.std.specs.Prelude.{◌≡◌, ◌-◌, List, Option, Some, None, Bool, true, false, OnOk, OnErr, IfErr, IsOk};
-ghost use Rattle.std.specs.Prelude.{Result, Err, length, not};
+ghost use Rattle.std.specs.Prelude.{◌≡◌, ◌-◌, Option, true, false, OnOk, OnErr, IfErr, IsOk};
+ghost use Rattle.std.specs.Prelude.{Result, length, not};
 ghost use Rattle.keycard_rules.specs.{Rise.HasRisen, declared.issued.LookFault.LookFault};
 ghost use Rattle.keycard_rules.specs.{Since.Since};
 ghost use Rattle.keycard_rules.specs.{declared.issued.LookFault.TheVariants.Store};

@@ -14,8 +14,7 @@ use std::marker::Model;
 /// How many booked and in-house stays of each kind take each night.
 ///
 /// It keeps counts alone, so that books of any form can keep it beside their stays: of each kind those of 32 nights
-/// together, and none
-/// of 32 that no stay takes. A night is named by its day's number.
+/// together, and none of 32 that no stay takes. A night is named by its day's number.
 #[derive(Drop)]
 pub struct NightIndex {
     blocks: BTreeMap<(KindCode, u16), [usize; 32]>,
@@ -23,10 +22,13 @@ pub struct NightIndex {
 
 impl Model for NightIndex {
     ghost use Rattle.std.specs.Prelude.{ℕ, List};
+    ghost use Rattle.hotel_core.specs.NightIndex.{HasNoEmptyBlock};
 
     ghost Value = { List ((List ℕ × ℕ) × List ℕ) };
 
     ghost view = { λ t. t.blocks.entries };
+
+    ghost invariant = { λ t. HasNoEmptyBlock t.blocks.entries };
 }
 
 /// The first night that isn't of the block of `from`, or `to` where that comes before it.

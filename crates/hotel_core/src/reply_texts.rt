@@ -1,5 +1,5 @@
 //! The text of a reply.
-ghost use Rattle.std.specs.Prelude.{◌≡◌, [], ◌∷◌, ◌++◌, ◌+◌, ◌≤◌, length};
+ghost use Rattle.std.specs.Prelude.{◌≡◌, [], ◌++◌, ◌+◌, ◌≤◌, length};
 ghost use Rattle.keycard_rules.specs.Numerals.{code_text};
 ghost use Rattle.hotel_model.specs.declared.reply.Reply.TheVariants as reply;
 ghost use Rattle.hotel_core.specs.Texts.{refusal_name, reply_line, reply_text};

@@ -1,6 +1,6 @@
 //! Numbers of nights.
 
-ghost use Rattle.std.specs.Prelude.{◌≡◌, ℕ, ◌≤◌};
+ghost use Rattle.std.specs.Prelude.{◌≡◌, ℕ};
 ghost use Rattle.std.specs.Option.{SomeIff};
 ghost use Rattle.keycard_rules.specs.{Numerals.number_up_to, Numbers.IsNumberUpTo};
 

@@ -41,7 +41,7 @@ pub struct Chain {
 }
 
 impl Model for Chain {
-    ghost use Rattle.std.specs.Prelude.{ℕ, ◌<◌, ◌+◌, length, take, drop, slice_index, nat_eq};
+    ghost use Rattle.std.specs.Prelude.{◌<◌, ◌+◌, length, take, drop, slice_index, nat_eq};
     ghost use Rattle.std.specs.List.{IsDistinct};
     ghost use Rattle.keycard_rules.specs.Chain.{Ledger};
 

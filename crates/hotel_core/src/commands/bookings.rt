@@ -1,5 +1,5 @@
 //! Bookings.
-ghost use Rattle.std.specs.Prelude.{◌≡◌, ◌-◌, false, true, Option, Some};
+ghost use Rattle.std.specs.Prelude.{◌-◌, Option, Some};
 ghost use Rattle.hotel_model.specs.{Refinement.Lookups.first_full_on};
 ghost use Rattle.hotel_core.specs.{Refinement.Finds.Finds, Refinement.Finds.AnyRows, Refinement.Finds.reply_of};
 ghost use Rattle.hotel_model.specs.{Ranges.IsCommand, declared.reply.Refusal.TheVariants.Store};

@@ -1,5 +1,5 @@
 //! Cards that open a door from outside.
-ghost use Rattle.std.specs.Prelude.{◌≡◌, ◌+◌, true, false, is_some, Some};
+ghost use Rattle.std.specs.Prelude.{◌≡◌, ◌+◌, true, is_some, Some};
 ghost use Rattle.keycard_rules.specs.Lock.{turn};
 ghost use Rattle.keycard_rules.specs.declared.note.Act.TheVariants as act;
 ghost use Rattle.hotel_model.specs.{Refinement.Answered.IsOutcome, Refinement.Lookups.inside_at};
@@ -7,7 +7,7 @@ ghost use Rattle.hotel_core.specs.{Refinement.Finds.Finds, Refinement.Finds.AnyR
 ghost use Rattle.hotel_model.specs.{Guests.are_none, declared.reply.Refusal.TheVariants.Store};
 ghost use Rattle.hotel_model.specs.{Refinement.NotesOnRows.IsUntaken, Refinement.OnRows.opened_on};
 ghost use Rattle.hotel_model.specs.{Refinement.NotesOnRows.secured_by, Refinement.ChangeOf.comes};
-ghost use Rattle.hotel_model.specs.{Refinement.OnRows.told_on, Refinement.OnRows.has_link_on, Words.is_one_of};
+ghost use Rattle.hotel_model.specs.{Refinement.OnRows.told_on, Refinement.OnRows.has_link_on};
 ghost use Rattle.hotel_core.specs.Refinement.StepOnRows.{StepsWithoutWords};
 
 use crate::books::Books;

@@ -1,5 +1,4 @@
 //! Cards that were shown on the way out.
-ghost use Rattle.std.specs.Prelude.{◌≡◌, false};
 ghost use Rattle.keycard_rules.specs.declared.note.Act.TheVariants as act;
 ghost use Rattle.hotel_model.specs.{Refinement.Answered.IsOutcome, Refinement.NotesOnRows.IsUntaken};
 ghost use Rattle.hotel_model.specs.{Refinement.OnRows.told_on};

@@ -1,5 +1,5 @@
 //! Parties that come, move and leave.
-ghost use Rattle.std.specs.Prelude.{◌≡◌, false, Option, Some, None, bytes_eq};
+ghost use Rattle.std.specs.Prelude.{◌≡◌, Option, Some, None, bytes_eq};
 ghost use Rattle.hotel_model.specs.{Stays.is_booked_state, Stays.room_of_state};
 ghost use Rattle.hotel_core.specs.{Refinement.Finds.reply_of, Refinement.Finds.IsChecked};
 ghost use Rattle.hotel_core.specs.Refinement.StepOnRows.{CarriesOut, CarriesOutWithoutWords};

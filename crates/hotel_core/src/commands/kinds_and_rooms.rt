@@ -1,5 +1,4 @@
 //! The kinds and the rooms.
-ghost use Rattle.std.specs.Prelude.{false};
 ghost use Rattle.hotel_core.specs.Refinement.Finds.{reply_of};
 ghost use Rattle.hotel_core.specs.Refinement.StepOnRows.{CarriesOut, CarriesOutWithoutWords};
 ghost use Rattle.hotel_model.specs.{Ranges.IsCommand};

@@ -1,7 +1,7 @@
 //! Notes of locks.
-ghost use Rattle.std.specs.Prelude.{◌≡◌, false, None, nat_le};
+ghost use Rattle.std.specs.Prelude.{◌≡◌, None, nat_le};
 ghost use Rattle.hotel_model.specs.{Refinement.Answered.IsOutcome, Refinement.NotesOnRows.IsUntaken, Ranges.IsCommand};
-ghost use Rattle.hotel_model.specs.{Cards.same_link, Notes.same_act, Notes.same_note};
+ghost use Rattle.hotel_model.specs.{Notes.same_note};
 ghost use Rattle.hotel_model.specs.{Refinement.OnRows.reported_on};
 ghost use Rattle.hotel_core.specs.Refinement.Finds.{reply_of};
 ghost use Rattle.hotel_core.specs.Refinement.StepOnRows.{StepsWithoutWords, CarriesOutWithoutWords};

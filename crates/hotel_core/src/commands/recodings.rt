@@ -1,5 +1,5 @@
 //! Locks that staff recoded.
-ghost use Rattle.std.specs.Prelude.{◌≡◌, ◌==◌, ◌&&◌, nat_lt, false};
+ghost use Rattle.std.specs.Prelude.{◌≡◌, ◌==◌, ◌&&◌, nat_lt};
 ghost use Rattle.keycard_rules.specs.declared.note.Act.TheVariants as act;
 ghost use Rattle.hotel_model.specs.{Refinement.Answered.IsOutcome, Refinement.NotesOnRows.IsUntaken};
 ghost use Rattle.hotel_model.specs.{Refinement.OnRows.told_on};

@@ -1,5 +1,5 @@
 //! Cards of new codes.
-ghost use Rattle.std.specs.Prelude.{◌≡◌, ◌<◌, ◌-◌, ◌^◌, false, Option, Some, IsSome, OnOk};
+ghost use Rattle.std.specs.Prelude.{◌≡◌, ◌<◌, ◌-◌, ◌^◌, Option, Some, IsSome, OnOk};
 ghost use Rattle.keycard_rules.specs.Draw.{words};
 ghost use Rattle.hotel_model.specs.Refinement.Answered.{IsOutcome};
 ghost use Rattle.hotel_core.specs.{Refinement.Finds.Finds, Refinement.Finds.reply_of, Refinement.StepOnRows.StepsAs};

@@ -1,5 +1,5 @@
 //! Changes of rows that are there: they take no memory.
-ghost use Rattle.std.specs.Prelude.{◌≡◌, ℕ, ◌+◌, ◌-◌, ◌^◌, ◌<◌, Some, None, false};
+ghost use Rattle.std.specs.Prelude.{◌≡◌, ◌+◌, ◌-◌, ◌^◌, ◌<◌, Some, None, false};
 ghost use Rattle.hotel_model.specs.{Rows.column_at, Refinement.Change.room_changed};
 ghost use Rattle.hotel_model.specs.{Refinement.Change.without_party, Refinement.Change.freed_by, Stays.in_state};
 

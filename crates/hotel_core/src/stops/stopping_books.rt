@@ -2,7 +2,7 @@
 ghost use Rattle.std.specs.Prelude.{◌≡◌, IfErr, refl};
 ghost use Rattle.std.proofs.Common.{ap, ◌∙◌};
 ghost use Rattle.keycard_rules.specs.Rise.{HasRisen, NoFewer};
-ghost use Rattle.hotel_core.specs.Stops.{counts};
+ghost use Rattle.hotel_core.specs.Stops.{counts, FailsAtNumber, MakesCall, MakesNoCall};
 ghost use Rattle.hotel_model.specs.Refinement.Lookups.{codes_in};
 
 use crate::books::Books;
@@ -35,13 +35,27 @@ impl Model for StoppingBooks {
 
     ghost Value = { Stopping };
 
-    ghost view = { λ b. record { rows = b.books.rows; calls = b.calls.made; memory = b.memory; store = b.store } };
+    ghost view = { λ b. record {
+      rows = b.books.rows;
+      calls = b.calls.made;
+      failing = b.calls.failing;
+      cause = b.cause;
+      memory = b.memory;
+      store = b.store;
+    } };
 }
 
 impl StoppingBooks {
     /// Books whose call of this number, counted from 1, fails for this cause; none does where it is 0.
     pub fn new(books: ListBooks, failing: u64, cause: LookFault) -> StoppingBooks
-        ensures { result ≡ record { rows = books.rows; calls = 0; memory = 0; store = 0 } }
+        ensures { result ≡ record {
+          rows = books.rows;
+          calls = 0;
+          failing = failing;
+          cause = cause;
+          memory = 0;
+          store = 0;
+        } }
     {
         StoppingBooks {
             books,
@@ -70,13 +84,16 @@ impl StoppingBooks {
     }
 
     /// Why the call fails.
-    pub(crate) fn cause(&self) -> LookFault {
+    pub(crate) fn cause(&self) -> LookFault
+        ensures { result ≡ self.now.cause }
+    {
         self.cause
     }
 
     /// Counts a failure; a count stays at its greatest value.
     pub(crate) fn count(&mut self, cause: LookFault)
         ensures rows { self.new.rows ≡ self.old.rows }
+        ensures calls { MakesNoCall self.old self.new }
         ensures counted { NoFewer (counts self.old) (counts self.new) }
         ensures risen { HasRisen (counts self.old cause) (counts self.new cause) }
     {
@@ -89,6 +106,8 @@ impl StoppingBooks {
     /// Makes a call, which fails where its number is the one that is to fail.
     pub(crate) fn begin(&mut self) -> Result<(), LookFault>
         ensures rows { self.new.rows ≡ self.old.rows }
+        ensures calls { MakesCall self.old self.new }
+        ensures fails { FailsAtNumber self.old self.new result }
         ensures counted { NoFewer (counts self.old) (counts self.new) }
         ensures fault { IfErr result (λ why. HasRisen (counts self.old why) (counts self.new why)) }
     {
@@ -104,6 +123,7 @@ impl StoppingBooks {
     fn found<T>(&mut self, found: Result<T, LookFault>) -> Result<T, LookFault>
         ensures same { result ≡ found }
         ensures rows { self.new.rows ≡ self.old.rows }
+        ensures calls { MakesNoCall self.old self.new }
         ensures counted { NoFewer (counts self.old) (counts self.new) }
         ensures fault { IfErr result (λ why. HasRisen (counts self.old why) (counts self.new why)) }
     {

@@ -1,7 +1,7 @@
 //! Walks over books in memory of which one call fails.
-ghost use Rattle.std.specs.Prelude.{◌≡◌, Err, IfSome, Some};
+ghost use Rattle.std.specs.Prelude.{◌≡◌, ◌+◌, ◌-◌, ◌^◌, ◌<◌, Err, IfSome, OnErr, OnOk, Some};
 ghost use Rattle.keycard_rules.specs.Rise.{HasRisen, NoFewer};
-ghost use Rattle.hotel_core.specs.{Books.Walks.failure_of, Stops.EndsAs, Stops.counts};
+ghost use Rattle.hotel_core.specs.{Books.Walks.failure_of, Stops.EndsAs, Stops.MakesNoCall, Stops.counts};
 
 use crate::books::walks::{Sink, Stop, WalkFault, Walks};
 use crate::stops::calls::Calls;
@@ -57,6 +57,7 @@ impl StoppingBooks {
     fn walk_failed(&mut self, cause: LookFault) -> WalkFault
         ensures same { failure_of (Err result) ≡ Some cause }
         ensures rows { self.new.rows ≡ self.old.rows }
+        ensures calls { MakesNoCall self.old self.new }
         ensures counted { NoFewer (counts self.old) (counts self.new) }
         ensures risen { HasRisen (counts self.old cause) (counts self.new cause) }
     {
@@ -76,6 +77,8 @@ impl StoppingBooks {
     ) -> Result<(), WalkFault>
         ensures ends { EndsAs end failed result }
         ensures rows { self.new.rows ≡ self.old.rows }
+        ensures last_call { OnOk end (calls.made < 2 ^ 64 - 1 → self.new.calls ≡ calls.made + 1) }
+        ensures no_call { OnErr end (self.new.calls ≡ calls.made) }
         ensures counted { NoFewer (counts self.old) (counts self.new) }
         ensures fault { IfSome (failure_of result) (λ cause. HasRisen (counts self.old cause) (counts self.new cause)) }
     {

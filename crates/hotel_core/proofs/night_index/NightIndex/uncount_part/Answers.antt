@@ -1,6 +1,7 @@
 use Rattle.std.proofs.Common.{rules, ◌≡◌, ℕ, ◌+◌, ◌-◌, ◌/◌, ◌&&◌, Some, None, [], nat_le, nat_lt, ap, ◌∙◌, sym, arith}
-use Rattle.std.proofs.Common.{slice_index}
-use Rattle.hotel_core.proofs.Names.{one_if, block_at, counted, spans}
+use Rattle.std.proofs.Common.{slice_index, subst}
+use Rattle.hotel_core.proofs.Names.{HasNoEmptyBlock, block_at, block_cmp, counted, is_at, one_if, remove_entry, spans}
+use Rattle.hotel_core.proofs.OfNights.BlocksKept.{kept_set, kept_removed}
 use Rattle.std.specs.Option.{unwrap_or}
 use Rattle.hotel_core.proofs.OfNights.NightCounts.{Sets, sets_twice, part_changed, part_absent}
 use Rattle.hotel_core.proofs.night_index.NightIndex.uncount_part.Goals as goal
@@ -37,3 +38,17 @@ returns-else-not-is_taken c =
     λ k d. part_changed (λ x n y. y ≡ x - n) (λ x. omega arith) before after kind c.args.from c.args.to (Some new) c.requires.order c.requires.one_block set
     (λ j. c.less-is_taken.ensures.counts j ∙ (λ i. slice_index (was i) j - one_if (nat_le (c.from-first.ensures i) j && nat_lt j (c.from-first.ensures i + c.from.ensures i)))) k d
     ∙ ap (λ es. counted es k d - one_if (spans kind c.args.from c.args.to k d)) c.self.view_is
+
+pub invariant_of-self-then-not-is_taken : goal.invariant_of-self-then-not-is_taken
+invariant_of-self-then-not-is_taken c =
+    let new = c.less-is_taken.new.counts in
+    let gone = c.remove.ensures.entries ∙ ap (λ es. remove_entry
+    (is_at (block_cmp (c.args.kind.now, c.args.from / 32))) es) (c.get_mut.follows.holds new).0 in
+    subst (λ es. HasNoEmptyBlock es) (sym gone) (kept_removed _ c.self.inside.blocks.entries new c.self.invariant)
+
+pub invariant_of-self-else-not-is_taken : goal.invariant_of-self-else-not-is_taken
+invariant_of-self-else-not-is_taken c =
+    let new = c.less-is_taken.new.counts in
+    let taken = c.less-is_taken.ensures.some c.if-not-is_taken.false in
+    subst (λ es. HasNoEmptyBlock es) (sym (c.get_mut.follows.holds new).0)
+    (kept_set _ c.self.inside.blocks.entries new taken c.self.invariant)
