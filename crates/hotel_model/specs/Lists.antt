@@ -27,7 +27,14 @@ arrivals h day = filter (arrives_on day) (values_of (stays h))
 
 -- the row of a stay at a room
 abbrev pub house_row_of : History → ℕ → Stay → HouseRow
-house_row_of h room stay = record { room = room; party = stay.party; guest = stay.guest; kind = stay.kind; depart = stay.depart; secured = secured h room }
+house_row_of h room stay = record {
+  room = room;
+  party = stay.party;
+  guest = stay.guest;
+  kind = stay.kind;
+  depart = stay.depart;
+  secured = secured h room;
+}
 
 -- the row of a room's party, where one is registered there
 abbrev pub house_row : History → ℕ → Option HouseRow

@@ -57,7 +57,17 @@ pub record Rows : Type 0 where
 
 -- the rows of an empty desk
 abbrev pub no_rows : Rows
-no_rows = record { day = None; kinds = []; rooms = []; codes = []; stays = []; cards = []; inside = []; notes = []; fits = [] }
+no_rows = record {
+  day = None;
+  kinds = [];
+  rooms = [];
+  codes = [];
+  stays = [];
+  cards = [];
+  inside = [];
+  notes = [];
+  fits = [];
+}
 
 -- the kind is there
 abbrev pub has_kind : Rows → List ℕ → Bool

@@ -48,7 +48,14 @@ room_of_state state.Cancelled = None
 
 -- how a stay stands after a change
 abbrev pub now_is : StayState → Stay → Stay
-now_is state stay = record { party = stay.party; guest = stay.guest; kind = stay.kind; arrive = stay.arrive; depart = stay.depart; state = state }
+now_is state stay = record {
+  party = stay.party;
+  guest = stay.guest;
+  kind = stay.kind;
+  arrive = stay.arrive;
+  depart = stay.depart;
+  state = state;
+}
 
 -- the stays, that of the party in this state
 abbrev pub in_state : ℕ → StayState → List (ℕ × Stay) → List (ℕ × Stay)

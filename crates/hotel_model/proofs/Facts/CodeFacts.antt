@@ -49,11 +49,13 @@ PartiesHaveLinks h = (party : ℕ) (link : Link) → link_of_party h party ≡ S
 
 -- The newest link of a room is its last two codes.
 abbrev pub NewestAreLast : History → Type 0
-NewestAreLast h = (r : ℕ) (link : Link) → newest_link h r ≡ Some link → (front : List ℕ) × (issued h r ≡ front ++ link.old_code ∷ link.new_code ∷ [])
+NewestAreLast h = (r : ℕ) (link : Link)
+    → newest_link h r ≡ Some link → (front : List ℕ) × (issued h r ≡ front ++ link.old_code ∷ link.new_code ∷ [])
 
 -- The search for the place of a room's code finds this code.
 abbrev pub CodesAreFound : History → Type 0
-CodesAreFound h = (r : ℕ) (before : List ℕ) (code : ℕ) (later : List ℕ) → issued h r ≡ before ++ code ∷ later → code_at (rows_of h) r (length before) ≡ Some code
+CodesAreFound h = (r : ℕ) (before : List ℕ) (code : ℕ) (later : List ℕ)
+    → issued h r ≡ before ++ code ∷ later → code_at (rows_of h) r (length before) ≡ Some code
 
 -- There are at most 9,999,999 cards.
 abbrev pub CardsFit : History → Type 0
@@ -69,7 +71,8 @@ CodesFit h = (r : ℕ) → length (issued h r) ≤ length (cards h) + length (fi
 
 -- the party has a card of this link
 abbrev pub HasCard : History → ℕ → Link → Type 0
-HasCard h party link = (number : ℕ) × (card : Card) × (at_number (cards h) number ≡ Some card) × (card.link ≡ link) × (card.party ≡ party)
+HasCard h party link =
+    (number : ℕ) × (card : Card) × (at_number (cards h) number ≡ Some card) × (card.link ≡ link) × (card.party ≡ party)
 
 -- A party has a card of the link that it was given last.
 abbrev pub PartiesHaveCards : History → Type 0
@@ -77,13 +80,16 @@ PartiesHaveCards h = (party : ℕ) (link : Link) → link_of_party h party ≡ S
 
 -- Cards that bring the same new code are one party's.
 abbrev pub CardsOneParty : History → Type 0
-CardsOneParty h = (n m : ℕ) (a b : Card) → at_number (cards h) n ≡ Some a → at_number (cards h) m ≡ Some b → a.link.new_code ≡ b.link.new_code → a.party ≡ b.party
+CardsOneParty h = (n m : ℕ) (a b : Card) → at_number (cards h) n ≡ Some a → at_number (cards h) m ≡ Some b
+    → a.link.new_code ≡ b.link.new_code → a.party ≡ b.party
 
 -- A registered party has a card of its room's newest link.
 abbrev pub GuestsHaveCards : History → Type 0
-GuestsHaveCards h = (r party : ℕ) → registered h r ≡ Some party → (link : Link) × (newest_link h r ≡ Some link) × HasCard h party link
+GuestsHaveCards h = (r party : ℕ)
+    → registered h r ≡ Some party → (link : Link) × (newest_link h r ≡ Some link) × HasCard h party link
 
 -- A secured room awaits no code, and each card inside has its newest link.
 abbrev pub SecuredRoomsFit : History → Type 0
 SecuredRoomsFit h = (r : ℕ) → secured h r ≡ true → (is_room h r ≡ true) × (awaited h r ≡ [])
-    × ((number : ℕ) → is_one_of number (inside h r) ≡ true → (card : Card) × (at_number (cards h) number ≡ Some card) × (newest_link h r ≡ Some card.link))
+    × ((number : ℕ) → is_one_of number (inside h r) ≡ true
+    → (card : Card) × (at_number (cards h) number ≡ Some card) × (newest_link h r ≡ Some card.link))

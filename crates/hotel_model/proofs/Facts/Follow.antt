@@ -20,18 +20,26 @@ abbrev pub MayFollow : History → Event → Type 0
 MayFollow h (Begun day) = is_begun h ≡ false
 MayFollow h (Kind kind) = (is_begun h ≡ true) × (is_kind h kind ≡ false)
 MayFollow h (Install room kind code) = (is_kind h kind ≡ true) × (is_room h room ≡ false) × (is_fresh h code ≡ true)
-MayFollow h (Reserved party guest kind arrive depart) = (is_kind h kind ≡ true) × (party ≡ next_party h) × (nights : ℕ) × (depart ≡ arrive + nights) × (first_full h kind arrive nights ≡ None)
+MayFollow h (Reserved party guest kind arrive depart) = (is_kind h kind ≡ true) × (party ≡ next_party h) × (nights : ℕ)
+    × (depart ≡ arrive + nights) × (first_full h kind arrive nights ≡ None)
 MayFollow h (Cancelled party) = (is_party h party ≡ true) × (is_booked h party ≡ true)
 MayFollow h (Issue party room number code) =
-    OrAtHome h party room (is_room h room ≡ true) × (is_party h party ≡ true) × (stays_now h party ≡ true) × OrAtHome h party room (is_of_kind h room party ≡ true)
+    OrAtHome h party room (is_room h room ≡ true) × (is_party h party ≡ true) × (stays_now h party ≡ true)
+    × OrAtHome h party room (is_of_kind h room party ≡ true)
     × OrAtHome h party room (is_taken h room ≡ false) × (number ≡ next_card h) × (is_fresh h code ≡ true)
 MayFollow h (Spare party number) = (is_party h party ≡ true) × (is_in_house h party ≡ true) × (number ≡ next_card h)
 MayFollow h (CheckOut party) = (is_party h party ≡ true) × (is_in_house h party ≡ true)
 MayFollow h NextDay = (is_begun h ≡ true) × (nat_lt (today h) 36524 ≡ true)
-MayFollow h (Refitted room fit code) = (is_room h room ≡ true) × (is_taken h room ≡ false) × (fit ≡ present_fit h room + 1) × (is_fresh h code ≡ true)
-MayFollow h (Entered room fit count number link at) = (count ≡ length (notes_of h room fit) + 1) × (is_room h room ≡ true) × (is_card h number ≡ true) × (has_link h number link ≡ true) × (opens h room link ≡ true) × (fit ≡ present_fit h room)
-MayFollow h (Left room fit count number link at) = (count ≡ length (notes_of h room fit) + 1) × (is_room h room ≡ true) × (is_card h number ≡ true) × (has_link h number link ≡ true) × (is_one_of number (inside h room) ≡ true) × (fit ≡ present_fit h room)
-MayFollow h (Recoded room fit count from to at) = (count ≡ length (notes_of h room fit) + 1) × (is_room h room ≡ true) × (holds h room from ≡ true) × (is_one_of to (awaited h room) ≡ true) × (fit ≡ present_fit h room)
+MayFollow h (Refitted room fit code) =
+    (is_room h room ≡ true) × (is_taken h room ≡ false) × (fit ≡ present_fit h room + 1) × (is_fresh h code ≡ true)
+MayFollow h (Entered room fit count number link at) =
+    (count ≡ length (notes_of h room fit) + 1) × (is_room h room ≡ true) × (is_card h number ≡ true)
+    × (has_link h number link ≡ true) × (opens h room link ≡ true) × (fit ≡ present_fit h room)
+MayFollow h (Left room fit count number link at) =
+    (count ≡ length (notes_of h room fit) + 1) × (is_room h room ≡ true) × (is_card h number ≡ true)
+    × (has_link h number link ≡ true) × (is_one_of number (inside h room) ≡ true) × (fit ≡ present_fit h room)
+MayFollow h (Recoded room fit count from to at) = (count ≡ length (notes_of h room fit) + 1) × (is_room h room ≡ true)
+    × (holds h room from ≡ true) × (is_one_of to (awaited h room) ≡ true) × (fit ≡ present_fit h room)
 
 -- The event's change makes the rows of the grown history.
 abbrev pub FollowsBy : History → Event → Type 0

@@ -23,21 +23,24 @@ room_goes_on h (Install room kind code) r t = key_inserted (rooms h) room kind r
 room_goes_on h _ r t = t
 
 -- what is no room after a room was added
-pub not_added : (h : History) (room r code : ℕ) (kind : List ℕ) → is_room (h ▷ Install room kind code) r ≡ false → ((room == r) ≡ false) × (is_room h r ≡ false)
+pub not_added : (h : History) (room r code : ℕ) (kind : List ℕ)
+    → is_room (h ▷ Install room kind code) r ≡ false → ((room == r) ≡ false) × (is_room h r ≡ false)
 not_added h room r code kind e = or_false (room == r) (is_room h r) (sym (key_inserted (rooms h) room kind r) ∙ e)
 
 -- where there is no room nobody is registered
 abbrev pub NobodyElsewhere : History → Type 0
 NobodyElsewhere h = (r : ℕ) → is_room h r ≡ false → registered h r ≡ None
 
-home_by : (h : History) (party room : ℕ) → HomesMatch h → NobodyElsewhere h → room_of h party ≡ Some room → is_room h room ≡ true
+home_by : (h : History) (party room : ℕ)
+    → HomesMatch h → NobodyElsewhere h → room_of h party ≡ Some room → is_room h room ≡ true
 home_by h party room m nobody e = by (is_room h room) refl
   where
     by : (b : Bool) → is_room h room ≡ b → is_room h room ≡ true
     by true t = t
     by false f = let w : ◌≡◌ {A = Option ℕ} (Some party) None = sym (m.back room party e) ∙ nobody room f in cc
 
-comes_by : (h : History) (party room : ℕ) → HomesMatch h → NobodyElsewhere h → OrAtHome h party room (is_room h room ≡ true) → is_room h room ≡ true
+comes_by : (h : History) (party room : ℕ)
+    → HomesMatch h → NobodyElsewhere h → OrAtHome h party room (is_room h room ≡ true) → is_room h room ≡ true
 comes_by h party room m nobody (inl there) = there
 comes_by h party room m nobody (inr home) = home_by h party room m nobody home
 
@@ -45,7 +48,8 @@ pub nobody_registered : (h : History) → Reached h → (r : ℕ) → is_room h 
 nobody_registered (start t) ok r e = nobody_at_start t r e
 nobody_registered (h ▷ Install room kind code) ok r e = nobody_registered h ok.0 r (not_added h room r code kind e).1
 nobody_registered (h ▷ Issue party room number code) ok r e =
-    ap (λ b. when b (λ _. Some party) (other_than party (registered h r))) (apart_rooms h room r (comes_by h party room (homes_match h ok.0) (nobody_registered h ok.0) (may_follow h (Issue party room number code) ok).0) e)
+    ap (λ b. when b (λ _. Some party) (other_than party (registered h r))) (apart_rooms h room r (comes_by h party room
+    (homes_match h ok.0) (nobody_registered h ok.0) (may_follow h (Issue party room number code) ok).0) e)
     ∙ ap (other_than party) (nobody_registered h ok.0 r e)
 nobody_registered (h ▷ CheckOut party) ok r e = ap (other_than party) (nobody_registered h ok.0 r e)
 nobody_registered (h ▷ _) ok r e = nobody_registered h ok.0 r e
@@ -55,5 +59,6 @@ pub home_is_room : (h : History) (party room : ℕ) → Reached h → room_of h 
 home_is_room h party room ok e = home_by h party room (homes_match h ok) (nobody_registered h ok) e
 
 -- So is the one to which a party comes.
-pub comes_to_room : (h : History) (party room : ℕ) → Reached h → OrAtHome h party room (is_room h room ≡ true) → is_room h room ≡ true
+pub comes_to_room : (h : History) (party room : ℕ)
+    → Reached h → OrAtHome h party room (is_room h room ≡ true) → is_room h room ≡ true
 comes_to_room h party room ok o = comes_by h party room (homes_match h ok) (nobody_registered h ok) o

@@ -18,11 +18,14 @@ nothing_noted (start t) ok r e = nothing_noted_at_start t ok r e
 nothing_noted (h ▷ Install room kind code) ok r e = nothing_noted h ok.0 r (not_added h room r code kind e).1
 nothing_noted (h ▷ Entered room fit count number link at) ok r e =
     let note : Note = note_from room fit count (act.Entered number link) at in
-    ap (λ b. when b (and_last note) (notes h r)) (apart_rooms h room r (may_follow h (Entered room fit count number link at) ok).1 e) ∙ nothing_noted h ok.0 r e
+    ap (λ b. when b (and_last note) (notes h r))
+    (apart_rooms h room r (may_follow h (Entered room fit count number link at) ok).1 e) ∙ nothing_noted h ok.0 r e
 nothing_noted (h ▷ Left room fit count number link at) ok r e =
     let note : Note = note_from room fit count (act.Left number link) at in
-    ap (λ b. when b (and_last note) (notes h r)) (apart_rooms h room r (may_follow h (Left room fit count number link at) ok).1 e) ∙ nothing_noted h ok.0 r e
+    ap (λ b. when b (and_last note) (notes h r))
+    (apart_rooms h room r (may_follow h (Left room fit count number link at) ok).1 e) ∙ nothing_noted h ok.0 r e
 nothing_noted (h ▷ Recoded room fit count from to at) ok r e =
     let note : Note = note_from room fit count (act.Recoded from to) at in
-    ap (λ b. when b (and_last note) (notes h r)) (apart_rooms h room r (may_follow h (Recoded room fit count from to at) ok).1 e) ∙ nothing_noted h ok.0 r e
+    ap (λ b. when b (and_last note) (notes h r))
+    (apart_rooms h room r (may_follow h (Recoded room fit count from to at) ok).1 e) ∙ nothing_noted h ok.0 r e
 nothing_noted (h ▷ _) ok r e = nothing_noted h ok.0 r e

@@ -9,7 +9,8 @@ use Rattle.hotel_model.proofs.{Facts.CodeFacts.CardsCount, Facts.CodeFacts.Stays
 use Rattle.hotel_model.proofs.{OfTables.Counting.next_is_free, OfTables.Grown.may_follow}
 use Rattle.hotel_model.proofs.Starts.StartNumbers.{cards_count_at_start, stays_count_at_start}
 
-keys_by : (b : Bool) (e : ℕ × Stay) (s : Stay) (es later : List (ℕ × Stay)) → keys_of later ≡ keys_of es → keys_of (cond b ((e.0, s) ∷ es) (e ∷ later)) ≡ e.0 ∷ keys_of es
+keys_by : (b : Bool) (e : ℕ × Stay) (s : Stay) (es later : List (ℕ × Stay))
+    → keys_of later ≡ keys_of es → keys_of (cond b ((e.0, s) ∷ es) (e ∷ later)) ≡ e.0 ∷ keys_of es
 keys_by true e s es later same = refl
 keys_by false e s es later same = ap (λ ks. e.0 ∷ ks) same
 
@@ -23,32 +24,39 @@ pub same_length : (party : ℕ) (to : StayState) (es : List (ℕ × Stay)) → l
 same_length party to [] = refl
 same_length party to (e ∷ es) = by (e.0 == party) (same_length party to es)
   where
-    by : (b : Bool) → length (in_state party to es) ≡ length es → length (cond b ((e.0, now_is to e.1) ∷ es) (e ∷ in_state party to es)) ≡ length (e ∷ es)
+    by : (b : Bool) → length (in_state party to es) ≡ length es
+        → length (cond b ((e.0, now_is to e.1) ∷ es) (e ∷ in_state party to es)) ≡ length (e ∷ es)
     by true ih = refl
     by false ih = omega arith
 
-counted_still : (party : ℕ) (to : StayState) (es : List (ℕ × Stay)) → count_up 1 (keys_of es) ≡ true → count_up 1 (keys_of (in_state party to es)) ≡ true
+counted_still : (party : ℕ) (to : StayState) (es : List (ℕ × Stay))
+    → count_up 1 (keys_of es) ≡ true → count_up 1 (keys_of (in_state party to es)) ≡ true
 counted_still party to es up = ap (λ ks. count_up 1 ks) (same_keys party to es) ∙ up
 
 pub stays_count : (h : History) → Reached h → StaysCount h
 stays_count (start t) ok = stays_count_at_start t ok
 stays_count (h ▷ Reserved party guest kind arrive depart) ok =
-    (counts_more (stays h) party (record { party = party; guest = guest; kind = kind; arrive = arrive; depart = depart; state = state.Booked })
+    (counts_more (stays h) party
+    (record { party = party; guest = guest; kind = kind; arrive = arrive; depart = depart; state = state.Booked })
     (stays_count h ok.0) (may_follow h (Reserved party guest kind arrive depart) ok).1).0
 stays_count (h ▷ Cancelled party) ok = counted_still party state.Cancelled (stays h) (stays_count h ok.0)
-stays_count (h ▷ Issue party room number code) ok = counted_still party (state.InHouse room) (stays h) (stays_count h ok.0)
+stays_count (h ▷ Issue party room number code) ok =
+    counted_still party (state.InHouse room) (stays h) (stays_count h ok.0)
 stays_count (h ▷ CheckOut party) ok = counted_still party state.Done (stays h) (stays_count h ok.0)
 stays_count (h ▷ _) ok = stays_count h ok.0
 
-spare_counts : (o : Option Link) (number party : ℕ) (all : List (ℕ × Card)) → number ≡ length all + 1 → count_up 1 (keys_of all) ≡ true → count_up 1 (keys_of (with_spare number party o all)) ≡ true
+spare_counts : (o : Option Link) (number party : ℕ) (all : List (ℕ × Card)) → number ≡ length all + 1
+    → count_up 1 (keys_of all) ≡ true → count_up 1 (keys_of (with_spare number party o all)) ≡ true
 spare_counts (Some link) number party all n up = (counts_more all number (card_of number party link) up n).0
 spare_counts None number party all n up = up
 
 pub cards_count : (h : History) → Reached h → CardsCount h
 cards_count (start t) ok = cards_count_at_start t ok
 cards_count (h ▷ Issue party room number code) ok =
-    (counts_more (cards h) number (card_of number party (link_to h room code)) (cards_count h ok.0) (may_follow h (Issue party room number code) ok).5).0
-cards_count (h ▷ Spare party number) ok = spare_counts (link_of_party h party) number party (cards h) (may_follow h (Spare party number) ok).2 (cards_count h ok.0)
+    (counts_more (cards h) number (card_of number party (link_to h room code)) (cards_count h ok.0)
+    (may_follow h (Issue party room number code) ok).5).0
+cards_count (h ▷ Spare party number) ok = spare_counts (link_of_party h party) number party (cards h)
+    (may_follow h (Spare party number) ok).2 (cards_count h ok.0)
 cards_count (h ▷ _) ok = cards_count h ok.0
 
 -- the next card's number is free

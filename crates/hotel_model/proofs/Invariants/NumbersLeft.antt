@@ -43,44 +43,57 @@ drawn_event : (o : Option ℕ) (f : ℕ → Event) (e : Event) → option_map f 
 drawn_event (Some code) f e h = (code, cc)
 drawn_event None f e h = cc
 
-by_act : (h : History) (note : Note) (its_act : Act) (e : Event) → (told h note its_act).happens ≡ Some e → HasNumber h e
+by_act : (h : History) (note : Note) (its_act : Act) (e : Event)
+    → (told h note its_act).happens ≡ Some e → HasNumber h e
 by_act h note (act.Entered number link) e q =
-    let p = passed_all (needs (is_card h number) NoCard ∷ needs (has_link h number link) CardDiffers ∷ needs (opens h note.room link) LockShut ∷ [])
+    let p = passed_all (needs (is_card h number) NoCard ∷ needs (has_link h number link) CardDiffers
+    ∷ needs (opens h note.room link) LockShut ∷ [])
     (accepted reply.Taken (event.Entered note.room note.fit note.count number link (moment_of note))) e q in
     subst (λ x. HasNumber h x) (same_event p.1) tt
 by_act h note (act.Left number link) e q =
-    let p = passed_all (needs (is_card h number) NoCard ∷ needs (has_link h number link) CardDiffers ∷ needs (is_one_of number (inside h note.room)) NotInside ∷ [])
+    let p = passed_all (needs (is_card h number) NoCard ∷ needs (has_link h number link) CardDiffers
+    ∷ needs (is_one_of number (inside h note.room)) NotInside ∷ [])
     (accepted reply.Taken (event.Left note.room note.fit note.count number link (moment_of note))) e q in
     subst (λ x. HasNumber h x) (same_event p.1) tt
 by_act h note (act.Recoded from to) e q =
-    let p = passed_all (needs (holds h note.room from) HeldDiffers ∷ needs (is_one_of to (awaited h note.room)) NotAwaited ∷ [])
+    let p =
+    passed_all (needs (holds h note.room from) HeldDiffers ∷ needs (is_one_of to (awaited h note.room)) NotAwaited ∷ [])
     (accepted reply.Taken (event.Recoded note.room note.fit note.count from to (moment_of note))) e q in
     subst (λ x. HasNumber h x) (same_event p.1) tt
 
-by_standing : (h : History) (note : Note) (s : Standing) (e : Event) → (reported h note s).happens ≡ Some e → HasNumber h e
+by_standing : (h : History) (note : Note) (s : Standing) (e : Event)
+    → (reported h note s).happens ≡ Some e → HasNumber h e
 by_standing h note Next e q = by_act h note note.act e q
 by_standing h note _ e q = cc
 
-number_if : (h : History) (ahead : List ℕ) (command : Command) (e : Event) → AllPass (checks h command) → (effect h ahead command).happens ≡ Some e → HasNumber h e
+number_if : (h : History) (ahead : List ℕ) (command : Command) (e : Event)
+    → AllPass (checks h command) → (effect h ahead command).happens ≡ Some e → HasNumber h e
 number_if h ahead (command.Begin day) e p q = subst (λ x. HasNumber h x) (same_event q) tt
 number_if h ahead (command.AddKind kind) e p q = subst (λ x. HasNumber h x) (same_event q) tt
 number_if h ahead (command.AddRoom room kind) e p q =
-    let d = drawn_event (draw_from (issued_codes h) ahead).code (λ code. event.Install room kind code) e q in subst (λ x. HasNumber h x) d.1 tt
-number_if h ahead (command.Reserve guest kind arrive nights) e p q = subst (λ x. HasNumber h x) (same_event q) (barred (parties_used_up h) _ p.1.1.1.1.1.0)
+    let d = drawn_event (draw_from (issued_codes h) ahead).code (λ code. event.Install room kind code) e q in
+    subst (λ x. HasNumber h x) d.1 tt
+number_if h ahead (command.Reserve guest kind arrive nights) e p q =
+    subst (λ x. HasNumber h x) (same_event q) (barred (parties_used_up h) _ p.1.1.1.1.1.0)
 number_if h ahead (command.Cancel party) e p q = subst (λ x. HasNumber h x) (same_event q) tt
 number_if h ahead (command.CheckIn party room) e p q =
-    let d = drawn_event (draw_from (issued_codes h) ahead).code (λ code. event.Issue party room (next_card h) code) e q in
+    let d =
+    drawn_event (draw_from (issued_codes h) ahead).code (λ code. event.Issue party room (next_card h) code) e q in
     subst (λ x. HasNumber h x) d.1 (barred (cards_used_up h) _ p.1.1.1.1.1.1.1.1.0)
-number_if h ahead (command.Spare party) e p q = subst (λ x. HasNumber h x) (same_event q) (barred (cards_used_up h) _ p.1.1.1.0)
+number_if h ahead (command.Spare party) e p q =
+    subst (λ x. HasNumber h x) (same_event q) (barred (cards_used_up h) _ p.1.1.1.0)
 number_if h ahead (command.Reissue party) e p q =
-    let d = drawn_event (draw_from (issued_codes h) ahead).code (λ code. event.Issue party (own_room h party) (next_card h) code) e q in
+    let d = drawn_event (draw_from (issued_codes h) ahead).code
+    (λ code. event.Issue party (own_room h party) (next_card h) code) e q in
     subst (λ x. HasNumber h x) d.1 (barred (cards_used_up h) _ p.1.1.1.0)
 number_if h ahead (command.Transfer party room) e p q =
-    let d = drawn_event (draw_from (issued_codes h) ahead).code (λ code. event.Issue party room (next_card h) code) e q in
+    let d =
+    drawn_event (draw_from (issued_codes h) ahead).code (λ code. event.Issue party room (next_card h) code) e q in
     subst (λ x. HasNumber h x) d.1 (barred (cards_used_up h) _ p.1.1.1.1.1.1.1.0)
 number_if h ahead (command.CheckOut party) e p q = subst (λ x. HasNumber h x) (same_event q) tt
 number_if h ahead (command.Refit room) e p q =
-    let d = drawn_event (draw_from (issued_codes h) ahead).code (λ code. event.Refitted room (next_fit h room) code) e q in
+    let d =
+    drawn_event (draw_from (issued_codes h) ahead).code (λ code. event.Refitted room (next_fit h room) code) e q in
     subst (λ x. HasNumber h x) d.1 (barred (fits_used_up h room) _ p.1.1.1.0)
 number_if h ahead command.NextDay e p q = subst (λ x. HasNumber h x) (same_event q) tt
 number_if h ahead (command.Reported note) e p q = by_standing h note (standing h note) e q
@@ -94,20 +107,25 @@ fits_more : (n m : ℕ) → m ≡ n + 1 → nat_le 9999999 n ≡ false → m ≤
 fits_more n m e f = let lt : n < 9999999 = leb-false 9999999 n f in omega arith
 
 -- how many cards there are with one more
-pub one_more_card : (h : History) → Reached h → (number : ℕ) (card : Card) → number ≡ next_card h → length (insert_entry nat_cmp (cards h) number card) ≡ length (cards h) + 1
+pub one_more_card : (h : History) → Reached h → (number : ℕ) (card : Card)
+    → number ≡ next_card h → length (insert_entry nat_cmp (cards h) number card) ≡ length (cards h) + 1
 one_more_card h ok number card n = (counts_more (cards h) number card (cards_count h ok) n).1
 
-spare_fits : (o : Option Link) (h : History) (party number : ℕ) → Reached h → number ≡ next_card h → cards_used_up h ≡ false → length (cards h) ≤ 9999999 → length (with_spare number party o (cards h)) ≤ 9999999
-spare_fits (Some link) h party number ok n left few = fits_more (length (cards h)) _ (one_more_card h ok number (card_of number party link) n) left
+spare_fits : (o : Option Link) (h : History) (party number : ℕ) → Reached h → number ≡ next_card h
+    → cards_used_up h ≡ false → length (cards h) ≤ 9999999 → length (with_spare number party o (cards h)) ≤ 9999999
+spare_fits (Some link) h party number ok n left few =
+    fits_more (length (cards h)) _ (one_more_card h ok number (card_of number party link) n) left
 spare_fits None h party number ok n left few = few
 
 -- There are at most as many cards as numbers.
 pub cards_fit : (h : History) → Reached h → CardsFit h
 cards_fit (start t) ok = cards_fit_at_start t ok
 cards_fit (h ▷ event.Issue party room number code) ok =
-    fits_more (length (cards h)) _ (one_more_card h ok.0 number (card_of number party (link_to h room code)) (may_follow h (event.Issue party room number code) ok).5) (has_number h (event.Issue party room number code) ok)
+    fits_more (length (cards h)) _ (one_more_card h ok.0 number (card_of number party (link_to h room code))
+    (may_follow h (event.Issue party room number code) ok).5) (has_number h (event.Issue party room number code) ok)
 cards_fit (h ▷ event.Spare party number) ok =
-    spare_fits (link_of_party h party) h party number ok.0 (may_follow h (event.Spare party number) ok).2 (has_number h (event.Spare party number) ok) (cards_fit h ok.0)
+    spare_fits (link_of_party h party) h party number ok.0 (may_follow h (event.Spare party number) ok).2
+    (has_number h (event.Spare party number) ok) (cards_fit h ok.0)
 cards_fit (h ▷ _) ok = cards_fit h ok.0
 
 -- There are at most as many stays as numbers.
@@ -115,37 +133,59 @@ pub stays_fit : (h : History) → Reached h → StaysFit h
 stays_fit (start t) ok = stays_fit_at_start t ok
 stays_fit (h ▷ event.Reserved party guest kind arrive depart) ok =
     fits_more (length (stays h)) _
-    (counts_more (stays h) party (record { party = party; guest = guest; kind = kind; arrive = arrive; depart = depart; state = state.Booked }) (stays_count h ok.0) (may_follow h (event.Reserved party guest kind arrive depart) ok).1).1
+    (counts_more (stays h) party (record {
+      party = party;
+      guest = guest;
+      kind = kind;
+      arrive = arrive;
+      depart = depart;
+      state = state.Booked;
+    }) (stays_count h ok.0) (may_follow h (event.Reserved party guest kind arrive depart) ok).1).1
     (has_number h (event.Reserved party guest kind arrive depart) ok)
-stays_fit (h ▷ event.Cancelled party) ok = let few = stays_fit h ok.0 in let same = same_length party state.Cancelled (stays h) in omega arith
-stays_fit (h ▷ event.Issue party room number code) ok = let few = stays_fit h ok.0 in let same = same_length party (state.InHouse room) (stays h) in omega arith
-stays_fit (h ▷ event.CheckOut party) ok = let few = stays_fit h ok.0 in let same = same_length party state.Done (stays h) in omega arith
+stays_fit (h ▷ event.Cancelled party) ok =
+    let few = stays_fit h ok.0 in let same = same_length party state.Cancelled (stays h) in omega arith
+stays_fit (h ▷ event.Issue party room number code) ok =
+    let few = stays_fit h ok.0 in let same = same_length party (state.InHouse room) (stays h) in omega arith
+stays_fit (h ▷ event.CheckOut party) ok =
+    let few = stays_fit h ok.0 in let same = same_length party state.Done (stays h) in omega arith
 stays_fit (h ▷ _) ok = stays_fit h ok.0
 
 -- a code that begins a fit
-begun_fits : (b : Bool) (codes : List ℕ) (code n : ℕ) (fs fs' : List FitRow) (row : FitRow) → fs' ≡ when b (and_last row) fs → length codes ≤ n + length fs → length (when b (and_last code) codes) ≤ n + length fs'
-begun_fits true codes code n fs fs' row e few = let l = length_more codes code in let m = ap (λ (gs : List FitRow). length gs) e in omega (arith, m, length-append fs (row ∷ []))
+begun_fits : (b : Bool) (codes : List ℕ) (code n : ℕ) (fs fs' : List FitRow) (row : FitRow)
+    → fs' ≡ when b (and_last row) fs → length codes ≤ n + length fs
+    → length (when b (and_last code) codes) ≤ n + length fs'
+begun_fits true codes code n fs fs' row e few =
+    let l = length_more codes code in let m = ap (λ (gs : List FitRow). length gs) e in
+    omega (arith, m, length-append fs (row ∷ []))
 begun_fits false codes code n fs fs' row e few = let m = ap (λ (gs : List FitRow). length gs) e in omega arith
 
-next_fits : (b : Bool) (codes : List ℕ) (code n m k : ℕ) → m ≡ n + 1 → length codes ≤ n + k → length (when b (and_last code) codes) ≤ m + k
+next_fits : (b : Bool) (codes : List ℕ) (code n m k : ℕ)
+    → m ≡ n + 1 → length codes ≤ n + k → length (when b (and_last code) codes) ≤ m + k
 next_fits true codes code n m k e few = let l = length_more codes code in omega arith
 next_fits false codes code n m k e few = omega arith
 
-with_spare_more : (o : Option Link) (h : History) (party number : ℕ) → Reached h → number ≡ next_card h → length (cards h) ≤ length (with_spare number party o (cards h))
-with_spare_more (Some link) h party number ok n = let e = one_more_card h ok number (card_of number party link) n in omega arith
+with_spare_more : (o : Option Link) (h : History) (party number : ℕ)
+    → Reached h → number ≡ next_card h → length (cards h) ≤ length (with_spare number party o (cards h))
+with_spare_more (Some link) h party number ok n =
+    let e = one_more_card h ok number (card_of number party link) n in omega arith
 with_spare_more None h party number ok n = omega arith
 
 -- A room has at most as many codes as there are cards, and those that its fits begin with.
 pub codes_fit : (h : History) → Reached h → CodesFit h
 codes_fit (start t) ok r = codes_fit_at_start t ok r
 codes_fit (h ▷ event.Install room kind code) ok r =
-    begun_fits (room == r) (issued h r) code (length (cards h)) (fits_at (fits h) r) _ (fit_row room 1 0 0) (fits_installed h room code kind r ok) (codes_fit h ok.0 r)
+    begun_fits (room == r) (issued h r) code (length (cards h)) (fits_at (fits h) r) _ (fit_row room 1 0 0)
+    (fits_installed h room code kind r ok) (codes_fit h ok.0 r)
 codes_fit (h ▷ event.Refitted room fit code) ok r =
-    begun_fits (room == r) (issued h r) code (length (cards h)) (fits_at (fits h) r) _ (fit_row room fit (length (issued h room)) (length (notes h room))) (fits_refitted h room fit code r ok) (codes_fit h ok.0 r)
+    begun_fits (room == r) (issued h r) code (length (cards h)) (fits_at (fits h) r) _ (fit_row room fit
+    (length (issued h room)) (length (notes h room))) (fits_refitted h room fit code r ok) (codes_fit h ok.0 r)
 codes_fit (h ▷ event.Issue party room number code) ok r =
-    next_fits (room == r) (issued h r) code (length (cards h)) _ (length (fits_at (fits h) r)) (one_more_card h ok.0 number (card_of number party (link_to h room code)) (may_follow h (event.Issue party room number code) ok).5) (codes_fit h ok.0 r)
+    next_fits (room == r) (issued h r) code (length (cards h)) _ (length (fits_at (fits h) r))
+    (one_more_card h ok.0 number (card_of number party (link_to h room code))
+    (may_follow h (event.Issue party room number code) ok).5) (codes_fit h ok.0 r)
 codes_fit (h ▷ event.Spare party number) ok r =
     let few = codes_fit h ok.0 r in
-    let more = with_spare_more (link_of_party h party) h party number ok.0 (may_follow h (event.Spare party number) ok).2 in
+    let more =
+    with_spare_more (link_of_party h party) h party number ok.0 (may_follow h (event.Spare party number) ok).2 in
     omega arith
 codes_fit (h ▷ _) ok r = codes_fit h ok.0 r

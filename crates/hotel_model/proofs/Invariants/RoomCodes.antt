@@ -11,11 +11,14 @@ use Rattle.hotel_model.proofs.{Starts.StartLedger.rooms_have_codes_at_start}
 use Rattle.hotel_model.proofs.{Starts.StartLedger.others_have_none_at_start}
 
 -- one more code at another room
-no_code_here : (b : Bool) (h : History) (code r : ℕ) → b ≡ false → issued h r ≡ [] → when b (and_last code) (issued h r) ≡ []
+no_code_here : (b : Bool) (h : History) (code r : ℕ)
+    → b ≡ false → issued h r ≡ [] → when b (and_last code) (issued h r) ≡ []
 no_code_here b h code r f e = ap (λ t. when t (and_last code) (issued h r)) f ∙ e
 
-issue_elsewhere : (h : History) (room code r : ℕ) → is_room h room ≡ true → is_room h r ≡ false → (issued h r ≡ []) × (passed h r ≡ []) × (awaited h r ≡ [])
-    → (when (room == r) (and_last code) (issued h r) ≡ []) × (passed h r ≡ []) × (when (room == r) (and_last code) (awaited h r) ≡ [])
+issue_elsewhere : (h : History) (room code r : ℕ)
+    → is_room h room ≡ true → is_room h r ≡ false → (issued h r ≡ []) × (passed h r ≡ []) × (awaited h r ≡ [])
+    → (when (room == r) (and_last code) (issued h r) ≡ []) × (passed h r ≡ [])
+    × (when (room == r) (and_last code) (awaited h r) ≡ [])
 issue_elsewhere h room code r t f none =
     let b = not_here (room == r) h room r (eq_from room r) t f in
     (no_code_here (room == r) h code r b none.0, none.1, ap (λ x. when x (and_last code) (awaited h r)) b ∙ none.2)
@@ -28,7 +31,8 @@ others_have_none (h ▷ Install room kind code) ok r e =
     let none = others_have_none h ok.0 r f.1 in
     (no_code_here (room == r) h code r f.0 none.0, none.1, none.2)
 others_have_none (h ▷ Issue party room number code) ok r e =
-    issue_elsewhere h room code r (comes_to_room h party room ok.0 (may_follow h (Issue party room number code) ok).0) e (others_have_none h ok.0 r e)
+    issue_elsewhere h room code r (comes_to_room h party room ok.0 (may_follow h (Issue party room number code) ok).0)
+    e (others_have_none h ok.0 r e)
 others_have_none (h ▷ Refitted room fit code) ok r e =
     let none = others_have_none h ok.0 r e in
     let b = not_here (room == r) h room r (eq_from room r) (may_follow h (Refitted room fit code) ok).0 e in (
@@ -38,14 +42,16 @@ others_have_none (h ▷ Refitted room fit code) ok r e =
     )
 others_have_none (h ▷ Entered room fit count number link at) ok r e =
     let none = others_have_none h ok.0 r e in
-    let b = not_here (room == r) h room r (eq_from room r) (may_follow h (Entered room fit count number link at) ok).1 e in (
+    let b =
+    not_here (room == r) h room r (eq_from room r) (may_follow h (Entered room fit count number link at) ok).1 e in (
       none.0,
       ap (λ x. when (x && turns h room link) (and_last link.old_code) (passed h r)) b ∙ none.1,
       ap (λ x. when (x && turns h room link) (without link.new_code) (awaited h r)) b ∙ none.2,
     )
 others_have_none (h ▷ Recoded room fit count from to at) ok r e =
     let none = others_have_none h ok.0 r e in
-    let b = not_here (room == r) h room r (eq_from room r) (may_follow h (Recoded room fit count from to at) ok).1 e in (
+    let b =
+    not_here (room == r) h room r (eq_from room r) (may_follow h (Recoded room fit count from to at) ok).1 e in (
       none.0,
       ap (λ x. when x (λ codes. codes ++ from ∷ before to (awaited h r)) (passed h r)) b ∙ none.1,
       ap (λ x. when x (after to) (awaited h r)) b ∙ none.2,
@@ -72,6 +78,8 @@ rooms_have_codes (h ▷ Install room kind code) ok r e =
       | inl t ↦ first_code (room == r) code (issued h r) t
       | inr t ↦ still_codes (room == r) code (issued h r) (rooms_have_codes h ok.0 r t)
     ]
-rooms_have_codes (h ▷ Issue party room number code) ok r e = still_codes (room == r) code (issued h r) (rooms_have_codes h ok.0 r e)
-rooms_have_codes (h ▷ Refitted room fit code) ok r e = still_codes (room == r) code (issued h r) (rooms_have_codes h ok.0 r e)
+rooms_have_codes (h ▷ Issue party room number code) ok r e =
+    still_codes (room == r) code (issued h r) (rooms_have_codes h ok.0 r e)
+rooms_have_codes (h ▷ Refitted room fit code) ok r e =
+    still_codes (room == r) code (issued h r) (rooms_have_codes h ok.0 r e)
 rooms_have_codes (h ▷ _) ok r e = rooms_have_codes h ok.0 r e

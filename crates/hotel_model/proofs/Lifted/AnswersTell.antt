@@ -32,7 +32,8 @@ full_tell : (o : Option ℕ) → Tells (option_map KindFull o)
 full_tell None = tt
 full_tell (Some day) = refl
 
-unless_tell : (checks : List (Option Refusal)) (o : Outcome Event) → AllTell checks → is_failed o.reply ≡ false → is_failed (unless checks o).reply ≡ false
+unless_tell : (checks : List (Option Refusal)) (o : Outcome Event)
+    → AllTell checks → is_failed o.reply ≡ false → is_failed (unless checks o).reply ≡ false
 unless_tell [] o a e = e
 unless_tell (Some refusal ∷ checks) o a e = a.0
 unless_tell (None ∷ checks) o a e = unless_tell checks o a.1 e
@@ -41,33 +42,69 @@ checks_tell : (h : History) (command : Command) → AllTell (checks h command)
 checks_tell h (command.Begin day) = (bars_tell _ _ refl, tt)
 checks_tell h (command.AddKind kind) = (needs_tell _ _ refl, (bars_tell _ _ refl, tt))
 checks_tell h (command.AddRoom room kind) = (needs_tell _ _ refl, (needs_tell _ _ refl, (bars_tell _ _ refl, tt)))
-checks_tell h (command.Reserve guest kind arrive nights) =
-    (needs_tell _ _ refl, (needs_tell _ _ refl, (bars_tell _ _ refl, (bars_tell _ _ refl, (full_tell (first_full h kind arrive nights), (bars_tell _ _ refl, tt))))))
+checks_tell h (command.Reserve guest kind arrive nights) = (
+  needs_tell _ _ refl,
+  (
+    needs_tell _ _ refl,
+    (bars_tell _ _ refl, (bars_tell _ _ refl, (full_tell (first_full h kind arrive nights), (bars_tell _ _ refl, tt)))),
+  ),
+)
 checks_tell h (command.Cancel party) = (needs_tell _ _ refl, (needs_tell _ _ refl, (needs_tell _ _ refl, tt)))
-checks_tell h (command.CheckIn party room) =
-    (needs_tell _ _ refl, (needs_tell _ _ refl, (needs_tell _ _ refl, (needs_tell _ _ refl, (bars_tell _ _ refl, (bars_tell _ _ refl, (needs_tell _ _ refl, (bars_tell _ _ refl, (bars_tell _ _ refl, tt)))))))))
-checks_tell h (command.Spare party) = (needs_tell _ _ refl, (needs_tell _ _ refl, (needs_tell _ _ refl, (bars_tell _ _ refl, tt))))
-checks_tell h (command.Reissue party) = (needs_tell _ _ refl, (needs_tell _ _ refl, (needs_tell _ _ refl, (bars_tell _ _ refl, tt))))
-checks_tell h (command.Transfer party room) =
-    (needs_tell _ _ refl, (needs_tell _ _ refl, (needs_tell _ _ refl, (needs_tell _ _ refl, (needs_tell _ _ refl, (bars_tell _ _ refl, (bars_tell _ _ refl, (bars_tell _ _ refl, tt))))))))
+checks_tell h (command.CheckIn party room) = (
+  needs_tell _ _ refl,
+  (
+    needs_tell _ _ refl,
+    (
+      needs_tell _ _ refl,
+      (
+        needs_tell _ _ refl,
+        (
+          bars_tell _ _ refl,
+          (bars_tell _ _ refl, (needs_tell _ _ refl, (bars_tell _ _ refl, (bars_tell _ _ refl, tt)))),
+        ),
+      ),
+    ),
+  ),
+)
+checks_tell h (command.Spare party) =
+    (needs_tell _ _ refl, (needs_tell _ _ refl, (needs_tell _ _ refl, (bars_tell _ _ refl, tt))))
+checks_tell h (command.Reissue party) =
+    (needs_tell _ _ refl, (needs_tell _ _ refl, (needs_tell _ _ refl, (bars_tell _ _ refl, tt))))
+checks_tell h (command.Transfer party room) = (
+  needs_tell _ _ refl,
+  (
+    needs_tell _ _ refl,
+    (
+      needs_tell _ _ refl,
+      (
+        needs_tell _ _ refl,
+        (needs_tell _ _ refl, (bars_tell _ _ refl, (bars_tell _ _ refl, (bars_tell _ _ refl, tt)))),
+      ),
+    ),
+  ),
+)
 checks_tell h (command.CheckOut party) = (needs_tell _ _ refl, (needs_tell _ _ refl, (needs_tell _ _ refl, tt)))
-checks_tell h (command.Refit room) = (needs_tell _ _ refl, (needs_tell _ _ refl, (bars_tell _ _ refl, (bars_tell _ _ refl, tt))))
+checks_tell h (command.Refit room) =
+    (needs_tell _ _ refl, (needs_tell _ _ refl, (bars_tell _ _ refl, (bars_tell _ _ refl, tt))))
 checks_tell h command.NextDay = (needs_tell _ _ refl, (needs_tell _ _ refl, tt))
 checks_tell h (command.Reported note) = (needs_tell _ _ refl, (needs_tell _ _ refl, (needs_tell _ _ refl, tt)))
 
-draw_tells : (o : Option ℕ) (f : ℕ → Reply) → ((code : ℕ) → is_failed (f code) ≡ false) → is_failed (said_of o (reply.Refused NoFreshCode) f) ≡ false
+draw_tells : (o : Option ℕ) (f : ℕ → Reply)
+    → ((code : ℕ) → is_failed (f code) ≡ false) → is_failed (said_of o (reply.Refused NoFreshCode) f) ≡ false
 draw_tells None f e = refl
 draw_tells (Some code) f e = e code
 
 -- the next note, where what it says passes its needs or not
-needs_told : (a b c : Bool) (r q p : Refusal) (e : Event) → is_failed (reply.Refused r) ≡ false → is_failed (reply.Refused q) ≡ false → is_failed (reply.Refused p) ≡ false
+needs_told : (a b c : Bool) (r q p : Refusal) (e : Event)
+    → is_failed (reply.Refused r) ≡ false → is_failed (reply.Refused q) ≡ false → is_failed (reply.Refused p) ≡ false
     → is_failed (unless (needs a r ∷ needs b q ∷ needs c p ∷ []) (accepted reply.Taken e)).reply ≡ false
 needs_told false b c r q p e f g k = f
 needs_told true false c r q p e f g k = g
 needs_told true true false r q p e f g k = k
 needs_told true true true r q p e f g k = refl
 
-needs_told_two : (a b : Bool) (r q : Refusal) (e : Event) → is_failed (reply.Refused r) ≡ false → is_failed (reply.Refused q) ≡ false
+needs_told_two : (a b : Bool) (r q : Refusal) (e : Event)
+    → is_failed (reply.Refused r) ≡ false → is_failed (reply.Refused q) ≡ false
     → is_failed (unless (needs a r ∷ needs b q ∷ []) (accepted reply.Taken e)).reply ≡ false
 needs_told_two false b r q e f g = f
 needs_told_two true false r q e f g = g
@@ -75,11 +112,14 @@ needs_told_two true true r q e f g = refl
 
 note_told : (h : History) (note : Note) (what : Act) → is_failed (told h note what).reply ≡ false
 note_told h note (act.Entered number link) =
-    needs_told (is_card h number) (has_link h number link) (opens h note.room link) NoCard CardDiffers LockShut (event.Entered note.room note.fit note.count number link (moment_of note)) refl refl refl
+    needs_told (is_card h number) (has_link h number link) (opens h note.room link) NoCard CardDiffers LockShut
+    (event.Entered note.room note.fit note.count number link (moment_of note)) refl refl refl
 note_told h note (act.Left number link) =
-    needs_told (is_card h number) (has_link h number link) (is_one_of number (inside h note.room)) NoCard CardDiffers NotInside (event.Left note.room note.fit note.count number link (moment_of note)) refl refl refl
+    needs_told (is_card h number) (has_link h number link) (is_one_of number (inside h note.room)) NoCard CardDiffers
+    NotInside (event.Left note.room note.fit note.count number link (moment_of note)) refl refl refl
 note_told h note (act.Recoded from to) =
-    needs_told_two (holds h note.room from) (is_one_of to (awaited h note.room)) HeldDiffers NotAwaited (event.Recoded note.room note.fit note.count from to (moment_of note)) refl refl
+    needs_told_two (holds h note.room from) (is_one_of to (awaited h note.room)) HeldDiffers NotAwaited
+    (event.Recoded note.room note.fit note.count from to (moment_of note)) refl refl
 
 note_reported : (h : History) (note : Note) (s : Standing) → is_failed (reported h note s).reply ≡ false
 note_reported h note Next = note_told h note note.act
@@ -94,6 +134,8 @@ effect_tells h ahead (command.Refit room) = draw_tells (draw_from (issued_codes 
 effect_tells h ahead (command.Reported note) = note_reported h note (standing h note)
 effect_tells h ahead _ = refl
 
-pub answers_tell : (h : History) (ahead : List ℕ) (command : Command) → is_failed (answer_to h ahead command).reply ≡ false
+pub answers_tell : (h : History) (ahead : List ℕ) (command : Command)
+    → is_failed (answer_to h ahead command).reply ≡ false
 unfolding answer_to
-answers_tell h ahead command = unless_tell (checks h command) (effect h ahead command) (checks_tell h command) (effect_tells h ahead command)
+answers_tell h ahead command =
+    unless_tell (checks h command) (effect h ahead command) (checks_tell h command) (effect_tells h ahead command)

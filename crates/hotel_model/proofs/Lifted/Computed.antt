@@ -35,7 +35,8 @@ fewer h ahead (c ∷ commands) =
     let o = answer_to h (take 64 ahead) c in
     omega (arith, fewer (grown h o.happens) (drop o.examined ahead) commands, length-drop o.examined ahead)
 
-pub runs_compute : (h : History) (s : Stream) (n : ℕ) (commands : List Command) → 64 ≤ length (run_on h (words n s) commands).ahead → IsRun h s commands (run_on h (words n s) commands)
+pub runs_compute : (h : History) (s : Stream) (n : ℕ) (commands : List Command)
+    → 64 ≤ length (run_on h (words n s) commands).ahead → IsRun h s commands (run_on h (words n s) commands)
 runs_compute h s n [] e = (s, n, (refl, refl), refl, tt)
 runs_compute h s n (c ∷ commands) e =
     let o : Outcome Event = answer_to h (take 64 (words n s)) c in
@@ -43,11 +44,18 @@ runs_compute h s n (c ∷ commands) e =
     let later = grown h o.happens in
     let ran : Ran = run_on later (drop k (words n s)) commands in
     let left : drop k (words n s) ≡ words (n - k) (past k s) = words_dropped k n s in
-    let many : 64 ≤ n = omega (arith, e, fewer later (drop k (words n s)) commands, length-drop k (words n s), words_many n s) in
+    let many : 64 ≤ n =
+    omega (arith, e, fewer later (drop k (words n s)) commands, length-drop k (words n s), words_many n s) in
     let same : o ≡ answered h s c = ap (λ ws. answer_to h ws c) (words_taken 64 n s many) in
-    let rest = runs_compute later (past k s) (n - k) commands (subst (λ ws. 64 ≤ length (run_on later ws commands).ahead) left e) in
-    let r : IsRun later (past k s) commands ran = subst (λ ws. IsRun later (past k s) commands (run_on later ws commands)) (sym left) rest in
+    let rest = runs_compute later (past k s) (n - k) commands
+    (subst (λ ws. 64 ≤ length (run_on later ws commands).ahead) left e) in
+    let r : IsRun later (past k s) commands ran =
+    subst (λ ws. IsRun later (past k s) commands (run_on later ws commands)) (sym left) rest in
     let tells : is_failed o.reply ≡ false = answers_tell h (take 64 (words n s)) c in
     let step : Steps h s c o.reply later (past k s) =
-    subst (λ b. StepsIf b h s c o.reply later (past k s)) (sym tells) (ap (λ (x : Outcome Event). x.reply) same, ap (λ (x : Outcome Event). grown h x.happens) same, ap (λ (x : Outcome Event). past x.examined s) same) in
+    subst (λ b. StepsIf b h s c o.reply later (past k s)) (sym tells) (
+      ap (λ (x : Outcome Event). x.reply) same,
+      ap (λ (x : Outcome Event). grown h x.happens) same,
+      ap (λ (x : Outcome Event). past x.examined s) same,
+    ) in
     (r.0, r.1, (later, past k s, step, r.2), r.3, (tells, r.4))

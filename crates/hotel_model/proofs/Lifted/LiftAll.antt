@@ -17,8 +17,10 @@ answers_lift_where h (command.Reserve guest kind arrive nights) ok found n = res
 answers_lift_where h (command.Cancel party) ok found n = cancel_lifts h party
 answers_lift_where h (command.CheckIn party room) ok found n = check_in_lifts h party room found.current
 answers_lift_where h (command.Spare party) ok found n = spare_lifts h party found.home_link
-answers_lift_where h (command.Reissue party) ok found n = reissue_lifts h party found.current (λ room. home_is_room h party room ok)
-answers_lift_where h (command.Transfer party room) ok found n = transfer_lifts h party room found.current (homes_match h ok).back
+answers_lift_where h (command.Reissue party) ok found n =
+    reissue_lifts h party found.current (λ room. home_is_room h party room ok)
+answers_lift_where h (command.Transfer party room) ok found n =
+    transfer_lifts h party room found.current (homes_match h ok).back
 answers_lift_where h (command.CheckOut party) ok found n = check_out_lifts h party
 answers_lift_where h (command.Refit room) ok found n = refit_lifts h room
 answers_lift_where h command.NextDay ok found n = next_day_lifts h

@@ -15,7 +15,8 @@ CurrentFound h = (r : ℕ) → is_room h r ≡ true → code_at (rows_of h) r (l
 
 -- a party in house has the link of its room's last two codes
 abbrev pub HomeLink : History → Type 0
-HomeLink h = (party room : ℕ) → room_of h party ≡ Some room → link_of_party h party ≡ Some (home_link_on (rows_of h) party)
+HomeLink h = (party room : ℕ)
+    → room_of h party ≡ Some room → link_of_party h party ≡ Some (home_link_on (rows_of h) party)
 
 -- a party in house is registered at its room
 abbrev pub AtHome : History → Type 0
@@ -23,21 +24,25 @@ AtHome h = (room party : ℕ) → room_of h party ≡ Some room → registered h
 
 -- after an entry the lock stands at the place of the link's new code
 abbrev pub EnteredPlace : History → Type 0
-EnteredPlace h = (room fit count number : ℕ) (link : Link) (at : Moment) → is_room h room ≡ true → is_card h number ≡ true → has_link h number link ≡ true → opens h room link ≡ true
+EnteredPlace h = (room fit count number : ℕ) (link : Link) (at : Moment)
+    → is_room h room ≡ true → is_card h number ≡ true → has_link h number link ≡ true → opens h room link ≡ true
     → place_on (rows_of h) link.new_code ≡ length (passed (h ▷ Entered room fit count number link at) room)
 
 -- of a card that opens the room, the new code is the current one exactly where it stands last
 abbrev pub EnteredCurrent : History → Type 0
-EnteredCurrent h = (room number : ℕ) (link : Link) → is_room h room ≡ true → is_card h number ≡ true → has_link h number link ≡ true → opens h room link ≡ true
+EnteredCurrent h = (room number : ℕ) (link : Link)
+    → is_room h room ≡ true → is_card h number ≡ true → has_link h number link ≡ true → opens h room link ≡ true
     → (place_on (rows_of h) link.new_code + 1 == length (issued h room)) ≡ (link.new_code == current h room)
 
 -- a code is awaited exactly where it stands at the room after the one that the lock holds
 abbrev pub AwaitedFound : History → Type 0
-AwaitedFound h = (room code : ℕ) → is_room h room ≡ true → is_awaited_on (rows_of h) room code ≡ is_one_of code (awaited h room)
+AwaitedFound h = (room code : ℕ)
+    → is_room h room ≡ true → is_awaited_on (rows_of h) room code ≡ is_one_of code (awaited h room)
 
 -- after a recoding the lock stands at the place of the code that it was recoded to
 abbrev pub RecodedPlace : History → Type 0
-RecodedPlace h = (room fit count from to : ℕ) (at : Moment) → is_room h room ≡ true → holds h room from ≡ true → is_one_of to (awaited h room) ≡ true
+RecodedPlace h = (room fit count from to : ℕ) (at : Moment)
+    → is_room h room ≡ true → holds h room from ≡ true → is_one_of to (awaited h room) ≡ true
     → place_on (rows_of h) to ≡ length (passed (h ▷ Recoded room fit count from to at) room)
 
 -- What look-ups of codes find.

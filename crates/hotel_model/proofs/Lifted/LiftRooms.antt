@@ -14,14 +14,16 @@ none_after false c n f g = sym (g refl)
 
 -- no number is after 9,999,999
 pub last_number : (n : ℕ) → is_none (number_after n) ≡ nat_le 9999999 n
-last_number n = none_after (nat_lt n 9999999) (nat_le 9999999 n) (n + 1) (λ t. grind (arith, nat_tests)) (λ t. grind (arith, nat_tests))
+last_number n = none_after (nat_lt n 9999999) (nat_le 9999999 n) (n + 1) (λ t. grind (arith, nat_tests))
+    (λ t. grind (arith, nat_tests))
 
 -- how many codes the row of a room says
 pub codes_said : (h : History) (room : ℕ) → is_room h room ≡ true → codes_of (rows_of h) room ≡ length (issued h room)
 codes_said h room e = ap (λ o. said_of o 0 (λ row. row.codes)) (room_there h room e).2
 
 -- at which place the row of a room says that the lock stands
-pub place_said : (h : History) (room : ℕ) → is_room h room ≡ true → lock_place_of (rows_of h) room ≡ length (passed h room)
+pub place_said : (h : History) (room : ℕ)
+    → is_room h room ≡ true → lock_place_of (rows_of h) room ≡ length (passed h room)
 place_said h room e = ap (λ o. said_of o 0 (λ row. row.lock_place)) (room_there h room e).2
 
 pub fit_said : (h : History) (room : ℕ) → is_room h room ≡ true → present_fit_on (rows_of h) room ≡ present_fit h room
@@ -30,13 +32,16 @@ fit_said h room e = ap (λ o. said_of o 0 (λ row. row.fit)) (room_there h room 
 pub secured_said : (h : History) (room : ℕ) → is_room h room ≡ true → secured_on (rows_of h) room ≡ secured h room
 secured_said h room e = ap (λ o. said_of o false (λ row. row.secured)) (room_there h room e).2
 
-pub taken_said : (h : History) (room : ℕ) → is_room h room ≡ true → room_is (rows_of h) room (λ row. is_some row.party) ≡ is_taken h room
+pub taken_said : (h : History) (room : ℕ)
+    → is_room h room ≡ true → room_is (rows_of h) room (λ row. is_some row.party) ≡ is_taken h room
 taken_said h room e = ap (λ o. said_of o false (λ row. is_some row.party)) (room_there h room e).2
 
-pub home_said : (h : History) (room party : ℕ) → is_room h room ≡ true → room_is (rows_of h) room (λ row. is_that row.party party) ≡ is_home h room party
+pub home_said : (h : History) (room party : ℕ)
+    → is_room h room ≡ true → room_is (rows_of h) room (λ row. is_that row.party party) ≡ is_home h room party
 home_said h room party e = ap (λ o. said_of o false (λ row. is_that row.party party)) (room_there h room e).2
 
-kind_by : (h : History) (room : ℕ) (o : Option (List ℕ)) (s : Option Stay) → said_of s false (λ stay. said_of (option_map (λ kind. room_row h room kind) o) false (λ row. bytes_eq row.kind stay.kind))
+kind_by : (h : History) (room : ℕ) (o : Option (List ℕ)) (s : Option Stay) → said_of s false (λ stay. said_of
+    (option_map (λ kind. room_row h room kind) o) false (λ row. bytes_eq row.kind stay.kind))
     ≡ said_of s false (λ stay. said_of o false (λ kind. bytes_eq kind stay.kind))
 kind_by h room None s = refl
 kind_by h room (Some kind) s = refl
@@ -44,11 +49,13 @@ kind_by h room (Some kind) s = refl
 -- the row's kind is the room's
 pub kind_said : (h : History) (room party : ℕ) → kinds_agree_on (rows_of h) room party ≡ is_of_kind h room party
 kind_said h room party =
-    ap (λ o. said_of (at_number (stays h) party) false (λ stay. said_of o false (λ row. bytes_eq row.kind stay.kind))) (room_found h room)
+    ap (λ o. said_of (at_number (stays h) party) false (λ stay. said_of o false (λ row. bytes_eq row.kind stay.kind)))
+    (room_found h room)
     ∙ kind_by h room (at_number (rooms h) room) (at_number (stays h) party)
 
 -- the link that a new code makes has the room's current code
-pub link_said : (h : History) (room code : ℕ) → CurrentFound h → is_room h room ≡ true → link_on (rows_of h) room code ≡ link_to h room code
+pub link_said : (h : History) (room code : ℕ)
+    → CurrentFound h → is_room h room ≡ true → link_on (rows_of h) room code ≡ link_to h room code
 link_said h room code found e =
     ap (λ n. record (link_to h room code) { old_code = said_code_at (rows_of h) room (n - 1) }) (codes_said h room e)
     ∙ ap (λ o. record (link_to h room code) { old_code = said_of o 0 (λ c. c) }) (found room e)

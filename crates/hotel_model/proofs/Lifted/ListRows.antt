@@ -26,48 +26,68 @@ room_by_room : {R : Type 0} (h : History) (f : RoomRow → Option R) (k : ℕ �
     → filter_map f (values_of (map (λ e. (e.0, room_row h e.0 e.1)) es)) ≡ filter_map k (keys_of es)
 room_by_room h f k [] same = refl
 room_by_room h f k (e ∷ es) same =
-    ap (λ o. cons_option o (filter_map f (values_of (map (λ e. (e.0, room_row h e.0 e.1)) es)))) (same e.0 e.1 (ap (λ b. b || is_one_of e.0 (keys_of es)) (eq_self e.0)))
-    ∙ ap (cons_option (k e.0)) (room_by_room h f k es (λ r kind t. same r kind (or_right (e.0 == r) (is_one_of r (keys_of es)) t)))
+    ap (λ o. cons_option o (filter_map f (values_of (map (λ e. (e.0, room_row h e.0 e.1)) es))))
+    (same e.0 e.1 (ap (λ b. b || is_one_of e.0 (keys_of es)) (eq_self e.0)))
+    ∙ ap (cons_option (k e.0))
+    (room_by_room h f k es (λ r kind t. same r kind (or_right (e.0 == r) (is_one_of r (keys_of es)) t)))
 
 made_of : {A B : Type 0} (f : A → B) (o : Option A) → option_map f o ≡ said_of o None (λ a. Some (f a))
 made_of f (Some a) = refl
 made_of f None = refl
 
 house_by : (h : History) (r : ℕ) (kind : List ℕ) (o : Option ℕ)
-    → said_of o None (λ party. option_map (housed (room_row h r kind)) (at_number (stays h) party)) ≡ said_of o None (λ party. said_of (at_number (stays h) party) None (λ stay. Some (house_row_of h r stay)))
+    → said_of o None (λ party. option_map (housed (room_row h r kind)) (at_number (stays h) party))
+    ≡ said_of o None (λ party. said_of (at_number (stays h) party) None (λ stay. Some (house_row_of h r stay)))
 house_by h r kind (Some party) = made_of (housed (room_row h r kind)) (at_number (stays h) party)
 house_by h r kind None = refl
 
 -- the rooms in which a party is registered
 pub in_house_same : (h : History) → in_house_on (rows_of h) ≡ in_house h
-in_house_same h = room_by_room h (house_row_on (rows_of h)) (house_row h) (rooms h) (λ r kind t. house_by h r kind (registered h r))
+in_house_same h =
+    room_by_room h (house_row_on (rows_of h)) (house_row h) (rooms h) (λ r kind t. house_by h r kind (registered h r))
 
 -- how many codes are awaited
-awaited_many : (h : History) → Reached h → (r : ℕ) (kind : List ℕ) → is_room h r ≡ true → awaited_on (room_row h r kind) ≡ length (awaited h r)
+awaited_many : (h : History) → Reached h → (r : ℕ) (kind : List ℕ)
+    → is_room h r ≡ true → awaited_on (room_row h r kind) ≡ length (awaited h r)
 awaited_many h ok r kind there =
-    let n : length (issued h r) ≡ length (passed h r) + (length (awaited h r) + 1) = ap (λ (cs : List ℕ). length cs) (sym (ledger_holds h ok r there)) ∙ length-append (passed h r) (held h r ∷ awaited h r) ∙ omega arith in
+    let n : length (issued h r) ≡ length (passed h r) + (length (awaited h r) + 1) =
+    ap (λ (cs : List ℕ). length cs) (sym (ledger_holds h ok r there))
+    ∙ length-append (passed h r) (held h r ∷ awaited h r) ∙ omega arith in
     omega (arith, n)
 
-behind_same : (h : History) → Reached h → (r : ℕ) (kind : List ℕ) → is_room h r ≡ true → behind_row_on (rows_of h) (room_row h r kind) ≡ behind_row h r
+behind_same : (h : History) → Reached h → (r : ℕ) (kind : List ℕ)
+    → is_room h r ≡ true → behind_row_on (rows_of h) (room_row h r kind) ≡ behind_row h r
 behind_same h ok r kind there =
     rw (held_found h ok r there, current_found h ok r there)
-    (ap (λ n. if nat_le 2 n then (let row : BehindRow = record { room = r; held = held h r; current = current h r; awaited = n } in Some row) else None) (awaited_many h ok r kind there))
+    (ap (λ n. if nat_le 2 n then (let row : BehindRow = record {
+      room = r;
+      held = held h r;
+      current = current h r;
+      awaited = n;
+    } in Some row) else None) (awaited_many h ok r kind there))
 
 -- the rooms that are left behind
 pub left_behind_same : (h : History) → Reached h → left_behind_on (rows_of h) ≡ left_behind h
-left_behind_same h ok = room_by_room h (behind_row_on (rows_of h)) (behind_row h) (rooms h) (λ r kind t. behind_same h ok r kind t)
+left_behind_same h ok =
+    room_by_room h (behind_row_on (rows_of h)) (behind_row h) (rooms h) (λ r kind t. behind_same h ok r kind t)
 
 -- the codes at some places of a room, which are in one state
-at_places : (h : History) → Reached h → (r : ℕ) (kind : List ℕ) (before codes later : List ℕ) (state : CodeState) → issued h r ≡ before ++ (codes ++ later)
-    → ((place : ℕ) → length before ≤ place → place < length before + length codes → state_at (length (passed h r)) place ≡ state)
-    → filter_map (chain_row_on (rows_of h) (room_row h r kind)) (range_with_len (length before) (length codes)) ≡ in_places (length before) state codes
+at_places : (h : History) → Reached h → (r : ℕ) (kind : List ℕ) (before codes later : List ℕ) (state : CodeState)
+    → issued h r ≡ before ++ (codes ++ later)
+    → ((place : ℕ) → length before ≤ place → place < length before + length codes
+    → state_at (length (passed h r)) place ≡ state)
+    → filter_map (chain_row_on (rows_of h) (room_row h r kind)) (range_with_len (length before) (length codes))
+    ≡ in_places (length before) state codes
 at_places h ok r kind before [] later state e s = refl
 at_places h ok r kind before (c ∷ codes) later state e s =
     let f = chain_row_on (rows_of h) (room_row h r kind) in
     let found = codes_are_found h ok r before c (codes ++ later) e in
-    let one : f (length before) ≡ Some (record { place = length before; code = c; state = state }) = rw (found, s (length before) (omega arith) (omega arith)) refl in
+    let one : f (length before) ≡ Some (record { place = length before; code = c; state = state }) =
+    rw (found, s (length before) (omega arith) (omega arith)) refl in
     let more : length (before ++ c ∷ []) ≡ length before + 1 = length-append before (c ∷ []) in
-    let later_ones = at_places h ok r kind (before ++ c ∷ []) codes later state (e ∙ sym (append_assoc before (c ∷ []) (codes ++ later))) (λ place m n. s place (omega (arith, more)) (omega (arith, more))) in
+    let later_ones =
+    at_places h ok r kind (before ++ c ∷ []) codes later state (e ∙ sym (append_assoc before (c ∷ []) (codes ++ later)))
+    (λ place m n. s place (omega (arith, more)) (omega (arith, more))) in
     ap (λ o. cons_option o (filter_map f (range_with_len (length before + 1) (length codes)))) one
     ∙ ap (λ rows. record { place = length before; code = c; state = state } ∷ rows) (rw more at later_ones)
 
@@ -81,7 +101,9 @@ range_parts a (suc m) n b e =
     ap (range_with_len a) z ∙ ap (λ ns. a ∷ ns) (range_parts (a + 1) m n b (omega (arith, e)))
 
 passed_place : (lock place : ℕ) → place < lock → state_at lock place ≡ Passed
-passed_place lock place n = let t : nat_lt place lock ≡ true = grind (arith, nat_tests) in ap (λ b. if b then Passed else if place == lock then Held else Awaited) t
+passed_place lock place n =
+    let t : nat_lt place lock ≡ true = grind (arith, nat_tests) in
+    ap (λ b. if b then Passed else if place == lock then Held else Awaited) t
 
 held_place : (lock place : ℕ) → lock ≤ place → place < lock + 1 → state_at lock place ≡ Held
 held_place lock place m n =
@@ -109,17 +131,24 @@ chain_same h ok r there =
     let b = length later in
     let whole : before ++ (one ++ later) ≡ issued h r = ledger_holds h ok r there in
     let longer : length (before ++ one) ≡ a + 1 = length-append before one in
-    let many : length (issued h r) ≡ a + (1 + b) = ap (λ (cs : List ℕ). length cs) (sym whole) ∙ length-append before (one ++ later) ∙ omega arith in
-    let first = at_places h ok r found.0 [] before (one ++ later) Passed (sym whole) (λ place m n. passed_place a place (omega (arith, n))) in
-    let second = at_places h ok r found.0 before one later Held (sym whole) (λ place m n. held_place a place m (omega (arith, n))) in
-    let rest : issued h r ≡ (before ++ one) ++ (later ++ []) = sym whole ∙ sym (append_assoc before one later) ∙ ap (λ cs. (before ++ one) ++ cs) (sym (append-nil later)) in
-    let third = at_places h ok r found.0 (before ++ one) later [] Awaited rest (λ place m n. awaited_place a place (omega (arith, m, longer))) in
-    let parts : range_with_len 0 (a + (1 + b)) ≡ range_with_len 0 a ++ (range_with_len a 1 ++ range_with_len (a + 1) b) =
+    let many : length (issued h r) ≡ a + (1 + b) =
+    ap (λ (cs : List ℕ). length cs) (sym whole) ∙ length-append before (one ++ later) ∙ omega arith in
+    let first = at_places h ok r found.0 [] before (one ++ later) Passed (sym whole)
+    (λ place m n. passed_place a place (omega (arith, n))) in
+    let second =
+    at_places h ok r found.0 before one later Held (sym whole) (λ place m n. held_place a place m (omega (arith, n))) in
+    let rest : issued h r ≡ (before ++ one) ++ (later ++ []) =
+    sym whole ∙ sym (append_assoc before one later) ∙ ap (λ cs. (before ++ one) ++ cs) (sym (append-nil later)) in
+    let third = at_places h ok r found.0 (before ++ one) later [] Awaited rest
+    (λ place m n. awaited_place a place (omega (arith, m, longer))) in
+    let parts : range_with_len 0 (a + (1 + b))
+    ≡ range_with_len 0 a ++ (range_with_len a 1 ++ range_with_len (a + 1) b) =
     range_parts 0 a (1 + b) a (omega arith) ∙ ap (λ ns. range_with_len 0 a ++ ns) (range_parts a 1 b (a + 1) refl) in
     ap (λ o. said_of o [] (λ row. filter_map (chain_row_on rows row) (range_with_len 0 row.codes))) found.2
     ∙ ap (λ n. filter_map f (range_with_len 0 n)) many ∙ ap (filter_map f) parts
     ∙ filter_map-append f (range_with_len 0 a) (range_with_len a 1 ++ range_with_len (a + 1) b)
-    ∙ ap (λ rs. filter_map f (range_with_len 0 a) ++ rs) (filter_map-append f (range_with_len a 1) (range_with_len (a + 1) b))
+    ∙ ap (λ rs. filter_map f (range_with_len 0 a) ++ rs)
+    (filter_map-append f (range_with_len a 1) (range_with_len (a + 1) b))
     ∙ ap (λ rs. rs ++ (filter_map f (range_with_len a 1) ++ filter_map f (range_with_len (a + 1) b))) first
     ∙ ap (λ rs. in_places 0 Passed before ++ (rs ++ filter_map f (range_with_len (a + 1) b))) second
     ∙ ap (λ rs. in_places 0 Passed before ++ (in_places a Held one ++ rs)) (rw longer at third)

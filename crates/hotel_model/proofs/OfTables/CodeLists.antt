@@ -9,7 +9,8 @@ nothing_in_nil [] c back e = cc
 nothing_in_nil (f ∷ fs) c back e = cc
 
 -- in a list with one more code, a code is that one or stood there
-pub snoc_split : (xs : List ℕ) (y : ℕ) (front : List ℕ) (c : ℕ) (back : List ℕ) → xs ++ y ∷ [] ≡ front ++ c ∷ back → ((front ≡ xs) × (c ≡ y)) ⊎ ((rest : List ℕ) × (xs ≡ front ++ c ∷ rest))
+pub snoc_split : (xs : List ℕ) (y : ℕ) (front : List ℕ) (c : ℕ) (back : List ℕ)
+    → xs ++ y ∷ [] ≡ front ++ c ∷ back → ((front ≡ xs) × (c ≡ y)) ⊎ ((rest : List ℕ) × (xs ≡ front ++ c ∷ rest))
 snoc_split [] y [] c back e = inl (refl, cc)
 snoc_split [] y (f ∷ fs) c back e = absurd (nothing_in_nil fs c back cc)
 snoc_split (x ∷ xs) y [] c back e = inr (xs, (let q : x ≡ c = cc in ap (λ z. z ∷ xs) q))
@@ -48,15 +49,18 @@ pub first_out : (c : ℕ) (later : List ℕ) → without c (c ∷ later) ≡ lat
 first_out c later = ap (λ b. cond b later (c ∷ without c later)) (eq_self c)
 
 -- the same of the list's numbers after its first, parted at a place
-parted_by : (b : Bool) (n x : ℕ) (xs : List ℕ) (place : ℕ) → (b ≡ true → x ≡ n) → (b ≡ false → take place xs ++ n ∷ drop (place + 1) xs ≡ xs)
+parted_by : (b : Bool) (n x : ℕ) (xs : List ℕ) (place : ℕ)
+    → (b ≡ true → x ≡ n) → (b ≡ false → take place xs ++ n ∷ drop (place + 1) xs ≡ xs)
     → (let k : ℕ = cond (not b) (1 + place) 0 in take k (x ∷ xs) ++ n ∷ drop (k + 1) (x ∷ xs)) ≡ x ∷ xs
 parted_by true n x xs place here ih = ap (λ z. z ∷ xs) (sym (here refl))
 parted_by false n x xs place here ih =
     let k : suc place ≡ 1 + place = omega arith in
     let l : suc (place + 1) ≡ 1 + place + 1 = omega arith in
-    subst (λ m. take m (x ∷ xs) ++ n ∷ drop (1 + place + 1) (x ∷ xs) ≡ x ∷ xs) k (subst (λ m. x ∷ take place xs ++ n ∷ drop m (x ∷ xs) ≡ x ∷ xs) l (ap (λ zs. x ∷ zs) (ih refl)))
+    subst (λ m. take m (x ∷ xs) ++ n ∷ drop (1 + place + 1) (x ∷ xs) ≡ x ∷ xs) k
+    (subst (λ m. x ∷ take place xs ++ n ∷ drop m (x ∷ xs) ≡ x ∷ xs) l (ap (λ zs. x ∷ zs) (ih refl)))
 
 -- a list is what comes before one of its numbers, that number, and what comes after it
 pub parted : (n : ℕ) (xs : List ℕ) → is_one_of n xs ≡ true → before n xs ++ n ∷ after n xs ≡ xs
 parted n [] e = absurd (false≢true e)
-parted n (x ∷ xs) e = parted_by (x == n) n x xs (position_or_len (λ m. m == n) xs) (eq_from x n) (λ f. parted n xs (or_second (x == n) (is_one_of n xs) f e))
+parted n (x ∷ xs) e = parted_by (x == n) n x xs (position_or_len (λ m. m == n) xs) (eq_from x n)
+    (λ f. parted n xs (or_second (x == n) (is_one_of n xs) f e))

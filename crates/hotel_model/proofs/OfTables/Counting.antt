@@ -9,7 +9,8 @@ pub greater_is : (k n : ℕ) → n < k → nat_cmp k n ≡ Greater
 greater_is k n lt = grind (arith, nat_tests)
 
 -- A row with the next number comes at the end.
-pub comes_last : {X : Type 0} (n : ℕ) (es : List (ℕ × X)) (k : ℕ) (v : X) → count_up n (keys_of es) ≡ true → k ≡ n + length es → insert_entry nat_cmp es k v ≡ es ++ (k, v) ∷ []
+pub comes_last : {X : Type 0} (n : ℕ) (es : List (ℕ × X)) (k : ℕ) (v : X)
+    → count_up n (keys_of es) ≡ true → k ≡ n + length es → insert_entry nat_cmp es k v ≡ es ++ (k, v) ∷ []
 comes_last n [] k v up e = refl
 comes_last n (x ∷ es) k v up e =
     let t = and_true (x.0 == n) (count_up (n + 1) (keys_of es)) up in
@@ -21,14 +22,16 @@ comes_last n (x ∷ es) k v up e =
 both : (a b : Bool) → a ≡ true → b ≡ true → (a && b) ≡ true
 both a b s t = ap (λ z. z && b) s ∙ t
 
-pub counts_on : {X : Type 0} (n : ℕ) (es : List (ℕ × X)) (k : ℕ) (v : X) → count_up n (keys_of es) ≡ true → k ≡ n + length es → count_up n (keys_of (es ++ (k, v) ∷ [])) ≡ true
+pub counts_on : {X : Type 0} (n : ℕ) (es : List (ℕ × X)) (k : ℕ) (v : X)
+    → count_up n (keys_of es) ≡ true → k ≡ n + length es → count_up n (keys_of (es ++ (k, v) ∷ [])) ≡ true
 counts_on n [] k v up e = let same : k ≡ n = omega arith in both (k == n) true (ap (λ z. z == n) same ∙ eq_self n) refl
 counts_on n (x ∷ es) k v up e =
     let t = and_true (x.0 == n) (count_up (n + 1) (keys_of es)) up in
     both (x.0 == n) _ t.0 (counts_on (n + 1) es k v t.1 (omega arith))
 
 -- numbers before the first or past the last one are no keys
-pub not_counted : {X : Type 0} (n : ℕ) (es : List (ℕ × X)) (q : ℕ) → count_up n (keys_of es) ≡ true → (q < n) ⊎ (n + length es ≤ q) → is_one_of q (keys_of es) ≡ false
+pub not_counted : {X : Type 0} (n : ℕ) (es : List (ℕ × X)) (q : ℕ)
+    → count_up n (keys_of es) ≡ true → (q < n) ⊎ (n + length es ≤ q) → is_one_of q (keys_of es) ≡ false
 not_counted n [] q up out = refl
 not_counted n (x ∷ es) q up out =
     let t = and_true (x.0 == n) (count_up (n + 1) (keys_of es)) up in
@@ -51,7 +54,8 @@ not_counted n (x ∷ es) q up out =
     later (inr le) = inr (omega arith)
 
 -- the next number has no row
-pub next_is_free : {X : Type 0} (es : List (ℕ × X)) → count_up 1 (keys_of es) ≡ true → at_number es (length es + 1) ≡ None
+pub next_is_free : {X : Type 0} (es : List (ℕ × X))
+    → count_up 1 (keys_of es) ≡ true → at_number es (length es + 1) ≡ None
 next_is_free es up = no_key es (length es + 1) (not_counted 1 es (length es + 1) up (inr (omega arith)))
 
 pub length_snoc : {X : Type 0} (xs : List X) (x : X) → length (xs ++ x ∷ []) ≡ length xs + 1
@@ -60,8 +64,11 @@ length_snoc (y ∷ ys) x = let p = length_snoc ys x in omega arith
 
 -- the table with a row of the next number: it counts on, and is one longer
 pub counts_more : {X : Type 0} (es : List (ℕ × X)) (k : ℕ) (v : X) → count_up 1 (keys_of es) ≡ true → k ≡ length es + 1
-    → (count_up 1 (keys_of (insert_entry nat_cmp es k v)) ≡ true) × (length (insert_entry nat_cmp es k v) ≡ length es + 1)
+    → (count_up 1 (keys_of (insert_entry nat_cmp es k v)) ≡ true)
+    × (length (insert_entry nat_cmp es k v) ≡ length es + 1)
 counts_more es k v up e =
     let next : k ≡ 1 + length es = omega arith in
-    let last = comes_last 1 es k v up next in
-    (ap (λ zs. count_up 1 (keys_of zs)) last ∙ counts_on 1 es k v up next, ap (λ zs. length zs) last ∙ length_snoc es (k, v))
+    let last = comes_last 1 es k v up next in (
+      ap (λ zs. count_up 1 (keys_of zs)) last ∙ counts_on 1 es k v up next,
+      ap (λ zs. length zs) last ∙ length_snoc es (k, v),
+    )

@@ -26,38 +26,46 @@ less a b l = grind (arith, nat_tests)
 less_from : (a b : ℕ) → is_lt (nat_cmp a b) ≡ true → a < b
 less_from a b e = grind (arith, nat_tests)
 
-places_more : (fs : List FitRow) (x : FitRow) → are_in_order nat_cmp (map (λ (f : FitRow). f.place) fs) ≡ true → ((f : FitRow) → last_fit fs ≡ Some f → f.place < x.place)
+places_more : (fs : List FitRow) (x : FitRow) → are_in_order nat_cmp (map (λ (f : FitRow). f.place) fs) ≡ true
+    → ((f : FitRow) → last_fit fs ≡ Some f → f.place < x.place)
     → are_in_order nat_cmp (map (λ (f : FitRow). f.place) (fs ++ x ∷ [])) ≡ true
 places_more [] x o l = refl
 places_more (a ∷ []) x o l = both _ _ (less a.place x.place (l a refl)) refl
 places_more (a ∷ b ∷ fs) x o l =
-    let p = and_true (is_lt (nat_cmp a.place b.place)) (are_in_order nat_cmp (map (λ (f : FitRow). f.place) (b ∷ fs))) o in
+    let p =
+    and_true (is_lt (nat_cmp a.place b.place)) (are_in_order nat_cmp (map (λ (f : FitRow). f.place) (b ∷ fs))) o in
     both _ _ p.0 (places_more (b ∷ fs) x p.1 l)
 
-rise_more : (fs : List FitRow) (x : FitRow) → none_fall (notes_before_each fs) ≡ true → ((f : FitRow) → last_fit fs ≡ Some f → f.before ≤ x.before) → none_fall (notes_before_each (fs ++ x ∷ [])) ≡ true
+rise_more : (fs : List FitRow) (x : FitRow) → none_fall (notes_before_each fs) ≡ true
+    → ((f : FitRow) → last_fit fs ≡ Some f → f.before ≤ x.before) → none_fall (notes_before_each (fs ++ x ∷ [])) ≡ true
 rise_more [] x o l = refl
 rise_more (a ∷ []) x o l = both _ _ (le_tested a.before x.before (l a refl)) refl
 rise_more (a ∷ b ∷ fs) x o l =
     let p = and_true (nat_le a.before b.before) (none_fall (notes_before_each (b ∷ fs))) o in
     both _ _ p.0 (rise_more (b ∷ fs) x p.1 l)
 
-few_more : (fs : List FitRow) (x : FitRow) (n : ℕ) → rise_by_few (notes_before_each fs ++ x.before ∷ []) ≡ true → n - x.before ≤ 9999999 → rise_by_few (notes_before_each (fs ++ x ∷ []) ++ n ∷ []) ≡ true
+few_more : (fs : List FitRow) (x : FitRow) (n : ℕ) → rise_by_few (notes_before_each fs ++ x.before ∷ []) ≡ true
+    → n - x.before ≤ 9999999 → rise_by_few (notes_before_each (fs ++ x ∷ []) ++ n ∷ []) ≡ true
 few_more [] x n o l = both _ _ (le_tested (n - x.before) 9999999 l) refl
 few_more (a ∷ []) x n o l =
     let p = and_true (nat_le (x.before - a.before) 9999999) true o in
     both _ _ p.0 (both _ _ (le_tested (n - x.before) 9999999 l) refl)
 few_more (a ∷ b ∷ fs) x n o l =
-    let p = and_true (nat_le (b.before - a.before) 9999999) (rise_by_few (notes_before_each (b ∷ fs) ++ x.before ∷ [])) o in
+    let p =
+    and_true (nat_le (b.before - a.before) 9999999) (rise_by_few (notes_before_each (b ∷ fs) ++ x.before ∷ [])) o in
     both _ _ p.0 (few_more (b ∷ fs) x n p.1 l)
 
-few_to : (fs : List FitRow) (n m : ℕ) → rise_by_few (notes_before_each fs ++ n ∷ []) ≡ true → ((f : FitRow) → last_fit fs ≡ Some f → m - f.before ≤ 9999999) → rise_by_few (notes_before_each fs ++ m ∷ []) ≡ true
+few_to : (fs : List FitRow) (n m : ℕ) → rise_by_few (notes_before_each fs ++ n ∷ []) ≡ true
+    → ((f : FitRow) → last_fit fs ≡ Some f → m - f.before ≤ 9999999)
+    → rise_by_few (notes_before_each fs ++ m ∷ []) ≡ true
 few_to [] n m o l = refl
 few_to (a ∷ []) n m o l = both _ _ (le_tested (m - a.before) 9999999 (l a refl)) refl
 few_to (a ∷ b ∷ fs) n m o l =
     let p = and_true (nat_le (b.before - a.before) 9999999) (rise_by_few (notes_before_each (b ∷ fs) ++ n ∷ [])) o in
     both _ _ p.0 (few_to (b ∷ fs) n m p.1 l)
 
-first_more : (fs : List FitRow) (x : FitRow) → 1 ≤ length fs → first_is_first fs ≡ true → first_is_first (fs ++ x ∷ []) ≡ true
+first_more : (fs : List FitRow) (x : FitRow)
+    → 1 ≤ length fs → first_is_first fs ≡ true → first_is_first (fs ++ x ∷ []) ≡ true
 first_more [] x l e = absurd (omega arith)
 first_more (a ∷ fs) x l e = e
 
@@ -72,7 +80,8 @@ pub record FitsFor (fs : List FitRow) (present before passed taken : ℕ) : Type
   pub places : are_in_order nat_cmp (map (λ (f : FitRow). f.place) fs) ≡ true
   pub rise : none_fall (notes_before_each fs) ≡ true
   pub few : rise_by_few (notes_before_each fs ++ taken ∷ []) ≡ true
-  pub last : (f : FitRow) × (last_fit fs ≡ Some f) × (f.fit ≡ present) × (f.before ≡ before) × (f.place ≤ passed) × (f.before ≤ taken)
+  pub last : (f : FitRow) × (last_fit fs ≡ Some f) × (f.fit ≡ present) × (f.before ≡ before)
+      × (f.place ≤ passed) × (f.before ≤ taken)
 
 -- the fits of a new room
 pub first_fits_for : (room : ℕ) → FitsFor (fit_row room 1 0 0 ∷ []) 1 0 0 0
@@ -92,7 +101,9 @@ same_fit : (o : Option FitRow) (a b : FitRow) → o ≡ Some a → o ≡ Some b 
 same_fit o a b e f = let w : Some a ≡ Some b = sym e ∙ f in cc
 
 -- of the last fit
-pub last_so : (fs : List FitRow) (present before passed taken : ℕ) → FitsFor fs present before passed taken → (f : FitRow) → last_fit fs ≡ Some f → (f.fit ≡ present) × (f.before ≡ before) × (f.place ≤ passed) × (f.before ≤ taken)
+pub last_so : (fs : List FitRow) (present before passed taken : ℕ)
+    → FitsFor fs present before passed taken → (f : FitRow)
+    → last_fit fs ≡ Some f → (f.fit ≡ present) × (f.before ≡ before) × (f.place ≤ passed) × (f.before ≤ taken)
 last_so fs present before passed taken s f e =
     let same : s.last.0 ≡ f = same_fit (last_fit fs) s.last.0 f s.last.1 e in
     let place : s.last.0.place ≡ f.place = ap (λ (x : FitRow). x.place) same in
@@ -102,7 +113,8 @@ last_so fs present before passed taken s f e =
     (ap (λ (x : FitRow). x.fit) (sym same) ∙ s.last.2, sym notes ∙ s.last.3, omega arith, omega arith)
 
 -- with the next fit
-pub refit_for : (fs : List FitRow) (present before passed taken room place : ℕ) → FitsFor fs present before passed taken → passed < place → present < 99
+pub refit_for : (fs : List FitRow) (present before passed taken room place : ℕ)
+    → FitsFor fs present before passed taken → passed < place → present < 99
     → FitsFor (fs ++ fit_row room (present + 1) place taken ∷ []) (present + 1) taken place taken
 refit_for fs present before passed taken room place s l n =
     let x = fit_row room (present + 1) place taken in
@@ -110,19 +122,23 @@ refit_for fs present before passed taken room place s l n =
     let same = length_mapped (λ (f : FitRow). f.fit) fs in
     let next : present + 1 ≡ 1 + length (map (λ (f : FitRow). f.fit) fs) = omega arith in
     record {
-      numbers = ap (λ ns. count_up 1 ns) (map_more (λ (f : FitRow). f.fit) fs x) ∙ counts_next 1 (map (λ (f : FitRow). f.fit) fs) (present + 1) s.numbers next;
+      numbers = ap (λ ns. count_up 1 ns) (map_more (λ (f : FitRow). f.fit) fs x)
+          ∙ counts_next 1 (map (λ (f : FitRow). f.fit) fs) (present + 1) s.numbers next;
       many = omega (arith, many, length-append fs (x ∷ []));
       least = omega (arith, length-append fs (x ∷ []));
       most = omega (arith, many, length-append fs (x ∷ []));
       first = first_more fs x s.least s.first;
-      places = places_more fs x s.places (λ f e. let p = (last_so fs present before passed taken s f e).2 in omega arith);
+      places =
+          places_more fs x s.places (λ f e. let p = (last_so fs present before passed taken s f e).2 in omega arith);
       rise = rise_more fs x s.rise (λ f e. (last_so fs present before passed taken s f e).3);
       few = few_more fs x taken s.few (omega arith);
       last = (x, last_more fs x, refl, refl, omega arith, omega arith);
     }
 
 -- with a note, or without one
-pub noted_for : (fs : List FitRow) (present before passed passed' taken taken' : ℕ) → FitsFor fs present before passed taken → passed ≤ passed' → taken ≤ taken' → taken' - before ≤ 9999999 → FitsFor fs present before passed' taken'
+pub noted_for : (fs : List FitRow) (present before passed passed' taken taken' : ℕ)
+    → FitsFor fs present before passed taken → passed ≤ passed' → taken ≤ taken' → taken' - before ≤ 9999999
+    → FitsFor fs present before passed' taken'
 noted_for fs present before passed passed' taken taken' s p t few = record {
   numbers = s.numbers;
   many = s.many;
@@ -132,32 +148,41 @@ noted_for fs present before passed passed' taken taken' s p t few = record {
   places = s.places;
   rise = s.rise;
   few = few_to fs taken taken' s.few (λ f e. let b = (last_so fs present before passed taken s f e).1 in omega arith);
-  last = let place = s.last.4 in let notes = s.last.5 in (s.last.0, s.last.1, s.last.2, s.last.3, omega arith, omega arith);
+  last =
+      let place = s.last.4 in let notes = s.last.5 in
+      (s.last.0, s.last.1, s.last.2, s.last.3, omega arith, omega arith);
 }
 
 -- few notes are of the present fit
-pub few_for : (fs : List FitRow) (present before passed taken : ℕ) → FitsFor fs present before passed taken → taken - before ≤ 9999999
+pub few_for : (fs : List FitRow) (present before passed taken : ℕ)
+    → FitsFor fs present before passed taken → taken - before ≤ 9999999
 few_for fs present before passed taken s = by fs s.last.0 s.last.1 s.few s.last.3
   where
-    by : (gs : List FitRow) (f : FitRow) → last_fit gs ≡ Some f → rise_by_few (notes_before_each gs ++ taken ∷ []) ≡ true → f.before ≡ before → taken - before ≤ 9999999
+    by : (gs : List FitRow) (f : FitRow) → last_fit gs ≡ Some f
+        → rise_by_few (notes_before_each gs ++ taken ∷ []) ≡ true → f.before ≡ before → taken - before ≤ 9999999
     by [] f e o b = cc
     by (a ∷ []) f e o b =
         let same : a ≡ f = same_fit (Some a) a f refl e in
         let first : a.before ≡ f.before = ap (λ (x : FitRow). x.before) same in
         let l = le_from (taken - a.before) 9999999 (and_true (nat_le (taken - a.before) 9999999) true o).0 in
         omega arith
-    by (a ∷ c ∷ gs) f e o b = by (c ∷ gs) f e (and_true (nat_le (c.before - a.before) 9999999) (rise_by_few (notes_before_each (c ∷ gs) ++ taken ∷ [])) o).1 b
+    by (a ∷ c ∷ gs) f e o b = by (c ∷ gs) f e
+        (and_true (nat_le (c.before - a.before) 9999999) (rise_by_few (notes_before_each (c ∷ gs) ++ taken ∷ [])) o).1 b
 
 -- where codes go on, the notes stay
-pub passed_for : (fs : List FitRow) (present before passed passed' taken : ℕ) → FitsFor fs present before passed taken → passed ≤ passed' → FitsFor fs present before passed' taken
-passed_for fs present before passed passed' taken s p = noted_for fs present before passed passed' taken taken s p (omega arith) (few_for fs present before passed taken s)
+pub passed_for : (fs : List FitRow) (present before passed passed' taken : ℕ)
+    → FitsFor fs present before passed taken → passed ≤ passed' → FitsFor fs present before passed' taken
+passed_for fs present before passed passed' taken s p =
+    noted_for fs present before passed passed' taken taken s p (omega arith) (few_for fs present before passed taken s)
 
 -- no fit begins at a place past that of the last one
-pub none_begins : (fs : List FitRow) (place : ℕ) → are_in_order nat_cmp (map (λ (f : FitRow). f.place) fs) ≡ true → ((f : FitRow) → last_fit fs ≡ Some f → f.place < place) → list_any (λ (f : FitRow). f.place == place) fs ≡ false
+pub none_begins : (fs : List FitRow) (place : ℕ) → are_in_order nat_cmp (map (λ (f : FitRow). f.place) fs) ≡ true
+    → ((f : FitRow) → last_fit fs ≡ Some f → f.place < place) → list_any (λ (f : FitRow). f.place == place) fs ≡ false
 none_begins [] place o l = refl
 none_begins (a ∷ []) place o l = ap (λ z. z || false) (not_higher a.place place (l a refl))
 none_begins (a ∷ b ∷ fs) place o l =
-    let p = and_true (is_lt (nat_cmp a.place b.place)) (are_in_order nat_cmp (map (λ (f : FitRow). f.place) (b ∷ fs))) o in
+    let p =
+    and_true (is_lt (nat_cmp a.place b.place)) (are_in_order nat_cmp (map (λ (f : FitRow). f.place) (b ∷ fs))) o in
     let later = none_begins (b ∷ fs) place p.1 l in
     let low = less_from a.place b.place p.0 in
     let last = under_last b fs p.1 in
@@ -166,10 +191,12 @@ none_begins (a ∷ b ∷ fs) place o l =
     let apart : (a.place == place) ≡ false = not_higher a.place place (omega arith) in
     ap (λ z. z || list_any (λ (f : FitRow). f.place == place) (b ∷ fs)) apart ∙ later
   where
-    under_last : (c : FitRow) (gs : List FitRow) → are_in_order nat_cmp (map (λ (f : FitRow). f.place) (c ∷ gs)) ≡ true → (f : FitRow) × (last_fit (c ∷ gs) ≡ Some f) × (c.place ≤ f.place)
+    under_last : (c : FitRow) (gs : List FitRow) → are_in_order nat_cmp (map (λ (f : FitRow). f.place) (c ∷ gs)) ≡ true
+        → (f : FitRow) × (last_fit (c ∷ gs) ≡ Some f) × (c.place ≤ f.place)
     under_last c [] o = (c, refl, omega arith)
     under_last c (d ∷ gs) o =
-        let q = and_true (is_lt (nat_cmp c.place d.place)) (are_in_order nat_cmp (map (λ (f : FitRow). f.place) (d ∷ gs))) o in
+        let q =
+        and_true (is_lt (nat_cmp c.place d.place)) (are_in_order nat_cmp (map (λ (f : FitRow). f.place) (d ∷ gs))) o in
         let m = under_last d gs q.1 in
         let lt = less_from c.place d.place q.0 in
         let le = m.2 in
@@ -185,4 +212,5 @@ last_is_at (a ∷ b ∷ fs) f e =
 
 -- No note is of a later fit than the present one, and those of the present one are the ones after so many.
 abbrev pub NotesFor : ℕ → ℕ → List Note → Type 0
-NotesFor present before taken = (list_all (λ (note : Note). nat_le note.fit present) taken ≡ true) × (before + length (filter (λ (note : Note). note.fit == present) taken) ≡ length taken)
+NotesFor present before taken = (list_all (λ (note : Note). nat_le note.fit present) taken ≡ true)
+    × (before + length (filter (λ (note : Note). note.fit == present) taken) ≡ length taken)

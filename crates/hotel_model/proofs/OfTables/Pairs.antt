@@ -14,7 +14,8 @@ both_equal Greater b = refl
 
 -- the test of a pair
 pub pair_is : (a b : ℕ) (e : ℕ × ℕ) → is_eq (pair_cmp (a, b) e) ≡ ((e.0 == a) && (e.1 == b))
-pair_is a b e = both_equal (nat_cmp a e.0) (nat_cmp b e.1) ∙ ap (λ t. t && is_eq (nat_cmp b e.1)) (at_is a e.0) ∙ ap (λ t. (e.0 == a) && t) (at_is b e.1)
+pair_is a b e = both_equal (nat_cmp a e.0) (nat_cmp b e.1) ∙ ap (λ t. t && is_eq (nat_cmp b e.1)) (at_is a e.0)
+    ∙ ap (λ t. (e.0 == a) && t) (at_is b e.1)
 
 equal_parts : (a b : Ordering) → ordering_then a b ≡ Equal → (a ≡ Equal) × (b ≡ Equal)
 equal_parts Less b e = cc

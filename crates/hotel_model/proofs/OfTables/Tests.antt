@@ -85,7 +85,8 @@ and_true true b e = (refl, e)
 and_true false b e = not_both false e refl
 
 -- eight tests pass, and so does each of them
-pub eight_true : (a b c d e f g k : Bool) → (a && b && c && d && e && f && g && k) ≡ true → (a ≡ true) × (b ≡ true) × (c ≡ true) × (d ≡ true) × (e ≡ true) × (f ≡ true) × (g ≡ true) × (k ≡ true)
+pub eight_true : (a b c d e f g k : Bool) → (a && b && c && d && e && f && g && k) ≡ true
+    → (a ≡ true) × (b ≡ true) × (c ≡ true) × (d ≡ true) × (e ≡ true) × (f ≡ true) × (g ≡ true) × (k ≡ true)
 eight_true a b c d e f g k t =
     let o = and_true (a && b && c && d && e && f && g) k t in
     let p = and_true (a && b && c && d && e && f) g o.0 in

@@ -17,14 +17,18 @@ follows_where h (Kind kind) ok n = refl
 follows_where h (Install room kind code) ok n = install_follows h room code kind ok n.1
 follows_where h (Reserved party guest kind arrive depart) ok n = refl
 follows_where h (Cancelled party) ok n = refl
-follows_where h (Issue party room number code) ok n = issue_follows h party room number code ok (comes_to_room h party room ok n.0)
+follows_where h (Issue party room number code) ok n =
+    issue_follows h party room number code ok (comes_to_room h party room ok n.0)
 follows_where h (Spare party number) ok n = spare_follows h party number (in_house_has_link h ok party n.1)
 follows_where h (CheckOut party) ok n = check_out_follows h party ok n.1
 follows_where h (Refitted room fit code) ok n = refit_follows h room fit code ok n.0
 follows_where h NextDay ok n = next_day_follows h n.0
-follows_where h (Entered room fit count number link at) ok n = entered_follows h room fit count number link at ok n.1 (next_number h ok room fit count n.0 n.5)
-follows_where h (Left room fit count number link at) ok n = left_follows h room fit count number link at (rooms_once h ok) n.1 (next_number h ok room fit count n.0 n.5)
-follows_where h (Recoded room fit count from to at) ok n = recoded_follows h room fit count from to at ok n.1 (next_number h ok room fit count n.0 n.4)
+follows_where h (Entered room fit count number link at) ok n =
+    entered_follows h room fit count number link at ok n.1 (next_number h ok room fit count n.0 n.5)
+follows_where h (Left room fit count number link at) ok n =
+    left_follows h room fit count number link at (rooms_once h ok) n.1 (next_number h ok room fit count n.0 n.5)
+follows_where h (Recoded room fit count from to at) ok n =
+    recoded_follows h room fit count from to at ok n.1 (next_number h ok room fit count n.0 n.4)
 
 -- The rows after one more event are those that its change makes.
 pub made_follow : (h : History) (event : Event) → Reached (h ▷ event) → FollowsBy h event

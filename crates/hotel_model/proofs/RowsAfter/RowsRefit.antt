@@ -11,12 +11,14 @@ use Rattle.hotel_model.proofs.{Invariants.LedgerOrder.ledger_holds, OfTables.Tes
 
 -- the row of a room with a new lock
 abbrev pub refitted_row : ℕ → RoomRow → RoomRow
-refitted_row fit row = record row { lock_place = row.codes; codes = row.codes + 1; secured = false; fit = fit; before = row.notes }
+refitted_row fit row =
+    record row { lock_place = row.codes; codes = row.codes + 1; secured = false; fit = fit; before = row.notes }
 
 notes_said : (h : History) (room : ℕ) → is_room h room ≡ true → notes_in (rows_of h) room ≡ length (notes h room)
 notes_said h room e = ap (λ o. said_of o 0 (λ row. row.notes)) (room_there h room e).2
 
-row_refitted : (h : History) (room fit code : ℕ) (k : List ℕ) → Reached h → is_room h room ≡ true → room_row (h ▷ Refitted room fit code) room k ≡ refitted_row fit (room_row h room k)
+row_refitted : (h : History) (room fit code : ℕ) (k : List ℕ) → Reached h → is_room h room ≡ true
+    → room_row (h ▷ Refitted room fit code) room k ≡ refitted_row fit (room_row h room k)
 row_refitted h room fit code k ok there =
     ap (λ b. record (room_row h room k) {
       lock_place = length (when b (λ codes. codes ++ held h room ∷ awaited h room) (passed h room));
@@ -25,11 +27,24 @@ row_refitted h room fit code k ok there =
       fit = when b (λ _. fit) (present_fit h room);
       before = when b (λ _. length (notes h room)) (notes_before h room);
     }) (eq_self room)
-    ∙ ap (λ (zs : List ℕ). record (room_row h room k) { lock_place = length zs; codes = length (issued h room ++ code ∷ []); secured = false; fit = fit; before = length (notes h room) }) (ledger_holds h ok room there)
-    ∙ ap (λ n. record (room_row h room k) { lock_place = length (issued h room); codes = n; secured = false; fit = fit; before = length (notes h room) }) (length_more (issued h room) code)
+    ∙ ap (λ (zs : List ℕ). record (room_row h room k) {
+      lock_place = length zs;
+      codes = length (issued h room ++ code ∷ []);
+      secured = false;
+      fit = fit;
+      before = length (notes h room);
+    }) (ledger_holds h ok room there)
+    ∙ ap (λ n. record (room_row h room k) {
+      lock_place = length (issued h room);
+      codes = n;
+      secured = false;
+      fit = fit;
+      before = length (notes h room);
+    }) (length_more (issued h room) code)
 
 -- a lock is replaced
-pub refit_follows : (h : History) (room fit code : ℕ) → Reached h → is_room h room ≡ true → FollowsBy h (Refitted room fit code)
+pub refit_follows : (h : History) (room fit code : ℕ)
+    → Reached h → is_room h room ≡ true → FollowsBy h (Refitted room fit code)
 refit_follows h room fit code ok there =
     let h' : History = h ▷ Refitted room fit code in
     let rs = room_changed room (refitted_row fit) (rows_of h).rooms in

@@ -69,7 +69,8 @@ rows_sound h ok = record {
 }
 
 -- The change of an event makes the rows of the grown history, and fits.
-pub rows_follow : (h : History) (event : Event) → Reached (h ▷ event) → (rows_of (h ▷ event) ≡ made (change_of h event) (rows_of h)) × Fits (change_of h event) (rows_of h)
+pub rows_follow : (h : History) (event : Event) → Reached (h ▷ event)
+    → (rows_of (h ▷ event) ≡ made (change_of h event) (rows_of h)) × Fits (change_of h event) (rows_of h)
 rows_follow h event ok =
     let same = made_follow h event ok in
     (same, (changes_have_rows h event ok, subst IsSound same (rows_sound (h ▷ event) ok)))

@@ -6,7 +6,8 @@ use Rattle.hotel_model.proofs.Names.{Reached, is_day, day_in_range, day_before_k
 use Rattle.hotel_model.proofs.{OfTables.Grown.may_follow, OfTables.Tests.le_tested}
 use Rattle.hotel_model.proofs.{Invariants.EventRanges.last_in_range, OfTables.RowTests.or_first}
 
-next_by : (o : Option ℕ) → nat_lt (said_of o 0 (λ d. d)) 36524 ≡ true → said_of (option_map (λ d. d + 1) o) true is_day ≡ true
+next_by : (o : Option ℕ) → nat_lt (said_of o 0 (λ d. d)) 36524 ≡ true
+    → said_of (option_map (λ d. d + 1) o) true is_day ≡ true
 next_by (Some d) h = grind (arith, nat_tests)
 next_by None h = refl
 

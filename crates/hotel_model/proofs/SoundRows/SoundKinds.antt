@@ -12,10 +12,12 @@ use Rattle.hotel_model.proofs.SoundRows.RowsPass.{rooms_pass, stays_pass}
 -- Each kind reads as a code.
 pub kinds_are_read : (h : History) → Reached h → kinds_read (rows_of h) ≡ true
 kinds_are_read (start t) ok = ok.kind_reads
-kinds_are_read (h ▷ Kind kind) ok = all_keys_inserted (slice_cmp nat_cmp) nights.is_kind kind (kinds h) (last_in_range h (Kind kind) ok) (kinds_are_read h ok.0)
+kinds_are_read (h ▷ Kind kind) ok = all_keys_inserted (slice_cmp nat_cmp) nights.is_kind kind (kinds h)
+    (last_in_range h (Kind kind) ok) (kinds_are_read h ok.0)
 kinds_are_read (h ▷ _) ok = kinds_are_read h ok.0
 
-any_by : {K : Type 0} (cmp : K → K → Ordering) (t : K → Bool) (o : Ordering) (k x : K) (xs : List K) → (t x || list_any t xs) ≡ true → (list_any t xs ≡ true → list_any t (insert_key cmp xs k) ≡ true)
+any_by : {K : Type 0} (cmp : K → K → Ordering) (t : K → Bool) (o : Ordering) (k x : K) (xs : List K)
+    → (t x || list_any t xs) ≡ true → (list_any t xs ≡ true → list_any t (insert_key cmp xs k) ≡ true)
     → list_any t (match_ordering o (k ∷ x ∷ xs) (x ∷ xs) (x ∷ insert_key cmp xs k)) ≡ true
 any_by cmp t Less k x xs h ih = or_later (t k) _ h
 any_by cmp t Equal k x xs h ih = h
@@ -26,7 +28,8 @@ any_by {K} cmp t Greater k x xs h ih = by (t x) h
     by false e = ih e
 
 -- what some key passed, some key passes where one more was added
-pub any_key_inserted : {K : Type 0} (cmp : K → K → Ordering) (t : K → Bool) (k : K) (xs : List K) → list_any t xs ≡ true → list_any t (insert_key cmp xs k) ≡ true
+pub any_key_inserted : {K : Type 0} (cmp : K → K → Ordering) (t : K → Bool) (k : K) (xs : List K)
+    → list_any t xs ≡ true → list_any t (insert_key cmp xs k) ≡ true
 any_key_inserted cmp t k [] h = cc
 any_key_inserted cmp t k (x ∷ xs) h = any_by cmp t (cmp k x) k x xs h (any_key_inserted cmp t k xs)
 
@@ -39,10 +42,12 @@ kind_stays h _ kind e = e
 pub room_kinds : (h : History) → Reached h → room_kinds_there (rows_of h) ≡ true
 room_kinds h ok =
     all_mapped _ (λ e. (e.0, room_row h e.0 e.1)) (rooms h)
-    ∙ rooms_pass (λ h e. is_kind h e.1) (λ h event e ok. kind_stays h event e.1) (λ s ok. all_mapped _ (λ e. (e.0, e.1.kind)) s.rooms ∙ ok.room_kind) (λ h room code kind ok. (may_follow h (Install room kind code) ok).0) h ok
+    ∙ rooms_pass (λ h e. is_kind h e.1) (λ h event e ok. kind_stays h event e.1) (λ s ok. all_mapped _ (λ e.
+    (e.0, e.1.kind)) s.rooms ∙ ok.room_kind) (λ h room code kind ok. (may_follow h (Install room kind code) ok).0) h ok
 
 -- The kind of each stay is there.
 pub stay_kinds : (h : History) → Reached h → stay_kinds_there (rows_of h) ≡ true
 stay_kinds h ok =
-    stays_pass (λ h e. is_kind h e.1.kind) (λ h event e ok. kind_stays h event e.1.kind) (λ s ok. ok.stay_kind) (λ h x s e. e)
+    stays_pass (λ h e. is_kind h e.1.kind) (λ h event e ok. kind_stays h event e.1.kind)
+    (λ s ok. ok.stay_kind) (λ h x s e. e)
     (λ h party guest kind arrive depart ok. (may_follow h (Reserved party guest kind arrive depart) ok).0) h ok

@@ -28,7 +28,8 @@ first_night_fits rows e =
     nat_le (nights_taken (values_of rows.stays) e.1.kind e.1.arrive) (rooms_of_kind rows.rooms e.1.kind)
 
 -- each first night of a stay fits, where all nights do
-begins_by : (rows : Rows) → ((kind : List ℕ) (d : ℕ) → NightFits rows kind d) → (es : List (ℕ × Stay)) → list_all (first_night_fits rows) es ≡ true
+begins_by : (rows : Rows) → ((kind : List ℕ) (d : ℕ) → NightFits rows kind d) → (es : List (ℕ × Stay))
+    → list_all (first_night_fits rows) es ≡ true
 begins_by rows fit [] = refl
 begins_by rows fit (e ∷ es) = both _ _ (le_tested _ _ (fit e.1.kind e.1.arrive)) (begins_by rows fit es)
 
@@ -50,9 +51,11 @@ begun_fits rows kind d (e ∷ es) all any =
     here : begins kind d e ≡ true → first_night_fits rows e ≡ true → NightFits rows kind d
     here t le =
         let q = and_true (takes kind d e.1) (e.1.arrive == d) t in
-        let k = and_true (is_standing e.1.state) (bytes_eq e.1.kind kind) (and_true (is_of_kind kind e.1) (nat_le e.1.arrive d && nat_lt d e.1.depart) q.0).0 in
+        let k = and_true (is_standing e.1.state) (bytes_eq e.1.kind kind)
+        (and_true (is_of_kind kind e.1) (nat_le e.1.arrive d && nat_lt d e.1.depart) q.0).0 in
         let fits : NightFits rows e.1.kind e.1.arrive = le_from _ _ le in
-        subst (λ z. NightFits rows kind z) (eq_from e.1.arrive d q.1) (subst (λ z. NightFits rows z e.1.arrive) ((bytes_eq-Decides e.1.kind kind).0 k.1) fits)
+        subst (λ z. NightFits rows kind z) (eq_from e.1.arrive d q.1)
+        (subst (λ z. NightFits rows z e.1.arrive) ((bytes_eq-Decides e.1.kind kind).0 k.1) fits)
 
     by : (b : Bool) → begins kind d e ≡ b → (b || list_any (begins kind d) es) ≡ true → first_night_fits rows e ≡ true
         → (list_any (begins kind d) es ≡ true → NightFits rows kind d) → NightFits rows kind d
@@ -64,14 +67,16 @@ not_first true b t e = e
 not_first false b t e = not_both false t refl
 
 -- a stay that takes the night and doesn't begin on it takes the night before
-took_before : (kind : List ℕ) (d : ℕ) (e : ℕ × Stay) → begins kind (suc d) e ≡ false → takes kind (suc d) e.1 ≡ true → takes kind d e.1 ≡ true
+took_before : (kind : List ℕ) (d : ℕ) (e : ℕ × Stay)
+    → begins kind (suc d) e ≡ false → takes kind (suc d) e.1 ≡ true → takes kind d e.1 ≡ true
 took_before kind d e f t =
     let later = not_first (takes kind (suc d) e.1) (e.1.arrive == suc d) t f in
     let p = and_true (is_of_kind kind e.1) (nat_le e.1.arrive (suc d) && nat_lt (suc d) e.1.depart) t in
     let q = and_true (nat_le e.1.arrive (suc d)) (nat_lt (suc d) e.1.depart) p.1 in
     let low = q.0 in
     let high = q.1 in
-    both _ _ p.0 (both (nat_le e.1.arrive d) (nat_lt d e.1.depart) (grind (arith, nat_tests)) (grind (arith, nat_tests)))
+    both _ _ p.0
+    (both (nat_le e.1.arrive d) (nat_lt d e.1.depart) (grind (arith, nat_tests)) (grind (arith, nat_tests)))
 
 at_most : (a b : Bool) → (a ≡ true → b ≡ true) → cond a 1 0 ≤ cond b 1 0
 at_most true true f = omega arith
@@ -80,7 +85,8 @@ at_most false true f = omega arith
 at_most false false f = omega arith
 
 -- where no stay begins on the night, it is no fuller than the one before
-no_fuller : (kind : List ℕ) (d : ℕ) (es : List (ℕ × Stay)) → list_any (begins kind (suc d)) es ≡ false → nights_taken (values_of es) kind (suc d) ≤ nights_taken (values_of es) kind d
+no_fuller : (kind : List ℕ) (d : ℕ) (es : List (ℕ × Stay)) → list_any (begins kind (suc d)) es ≡ false
+    → nights_taken (values_of es) kind (suc d) ≤ nights_taken (values_of es) kind d
 unfolding nights_taken
 no_fuller kind d [] none = omega arith
 no_fuller kind d (e ∷ es) none =
@@ -88,7 +94,8 @@ no_fuller kind d (e ∷ es) none =
     let now = count_more (takes kind (suc d)) e.1 (values_of es) in
     let was = count_more (takes kind d) e.1 (values_of es) in
     let one = at_most (takes kind (suc d) e.1) (takes kind d e.1) (took_before kind d e p.0) in
-    let rest : count_by (takes kind (suc d)) (values_of es) ≤ count_by (takes kind d) (values_of es) = no_fuller kind d es p.1 in
+    let rest : count_by (takes kind (suc d)) (values_of es) ≤ count_by (takes kind d) (values_of es) =
+    no_fuller kind d es p.1 in
     omega arith
 
 begins_at_zero : (kind : List ℕ) (e : ℕ × Stay) → takes kind 0 e.1 ≡ true → begins kind 0 e ≡ true
@@ -98,13 +105,15 @@ begins_at_zero kind e t =
     both _ _ t (grind (arith, nat_tests))
 
 -- where no stay begins on the first night of all, none takes it
-empty_first : (kind : List ℕ) (es : List (ℕ × Stay)) → list_any (begins kind 0) es ≡ false → nights_taken (values_of es) kind 0 ≤ 0
+empty_first : (kind : List ℕ) (es : List (ℕ × Stay))
+    → list_any (begins kind 0) es ≡ false → nights_taken (values_of es) kind 0 ≤ 0
 unfolding nights_taken
 empty_first kind [] none = omega arith
 empty_first kind (e ∷ es) none =
     let p = or_false (begins kind 0 e) (list_any (begins kind 0) es) none in
     let now = count_more (takes kind 0) e.1 (values_of es) in
-    let one : cond (takes kind 0 e.1) 1 0 ≤ 0 = at_most (takes kind 0 e.1) false (λ t. sym p.0 ∙ begins_at_zero kind e t) in
+    let one : cond (takes kind 0 e.1) 1 0 ≤ 0 =
+    at_most (takes kind 0 e.1) false (λ t. sym p.0 ∙ begins_at_zero kind e t) in
     let rest : count_by (takes kind 0) (values_of es) ≤ 0 = empty_first kind es p.1 in
     omega arith
 
@@ -115,16 +124,27 @@ all_nights_fit rows all kind zero = by (list_any (begins kind 0) rows.stays) ref
     by : (b : Bool) → list_any (begins kind 0) rows.stays ≡ b → NightFits rows kind 0
     by true t = begun_fits rows kind 0 rows.stays all t
     by false f = let none = empty_first kind rows.stays f in omega arith
-all_nights_fit rows all kind (suc d) = by (list_any (begins kind (suc d)) rows.stays) refl (all_nights_fit rows all kind d)
+all_nights_fit rows all kind (suc d) =
+    by (list_any (begins kind (suc d)) rows.stays) refl (all_nights_fit rows all kind d)
   where
-    by : (b : Bool) → list_any (begins kind (suc d)) rows.stays ≡ b → NightFits rows kind d → NightFits rows kind (suc d)
+    by : (b : Bool) → list_any (begins kind (suc d)) rows.stays ≡ b
+        → NightFits rows kind d → NightFits rows kind (suc d)
     by true t ih = begun_fits rows kind (suc d) rows.stays all t
     by false f ih = let no_more = no_fuller kind d rows.stays f in omega arith
 
 -- Sound rows pass the test.
 pub sound_pass : (rows : Rows) → IsSound rows → passes_rules rows ≡ true
 sound_pass rows s =
-    both _ _ (both _ _ (both _ _ (both _ _ (both _ _ (both _ _ (both _ _ (both _ _ (both _ _ (both _ _ (both _ _ (both _ _ (both _ _ (both _ _ (both _ _ (both _ _ (both _ _ (both _ _ (both _ _ (both _ _ (both _ _ (both _ _ (both _ _ (both _ _ (both _ _ (both _ _ (both _ _ (both _ _ (both _ _ (both _ _ (both _ _ (both _ _ (both _ _ (both _ _ (both _ _ (both _ _ (both _ _ (both _ _ (both _ _ (both _ _ s.keys s.meta_day) s.meta_kinds) s.kind_reads) s.room_number) s.room_lock_place) s.room_kind) s.room_codes) s.room_notes) s.room_party) s.room_secured) s.stay_number) s.stay_guest) s.stay_kind) s.stay_day) s.stay_room) (nights_pass rows s.stay_nights)) s.code_range) s.code_room) s.code_places) s.card_number) s.card_party) s.card_link) s.card_one_party) s.card_neighbours) s.card_fits) s.card_newest) s.card_last) s.inside_fits) s.note_counted) s.note_fits) s.note_of_fit) s.fit_room) s.fit_number) s.fit_first) s.fit_places) s.fit_notes) s.fit_held) s.fit_noted) s.fit_few) s.fit_of_room
+    both _ _ (both _ _ (both _ _ (both _ _ (both _ _ (both _ _ (both _ _ (both _ _ (both _ _ (both _ _ (both _ _ (both _
+    _ (both _ _ (both _ _ (both _ _ (both _ _ (both _ _ (both _ _ (both _ _ (both _ _ (both _ _ (both _ _ (both _ _
+    (both _ _ (both _ _ (both _ _
+    (both _ _ (both _ _ (both _ _ (both _ _ (both _ _ (both _ _ (both _ _ (both _ _ (both _ _ (both _ _ (both _ _
+    (both _ _ (both _ _ (both _ _ s.keys s.meta_day) s.meta_kinds) s.kind_reads) s.room_number) s.room_lock_place)
+    s.room_kind) s.room_codes) s.room_notes) s.room_party) s.room_secured) s.stay_number) s.stay_guest) s.stay_kind)
+    s.stay_day) s.stay_room) (nights_pass rows s.stay_nights)) s.code_range) s.code_room) s.code_places) s.card_number)
+    s.card_party) s.card_link) s.card_one_party) s.card_neighbours) s.card_fits) s.card_newest) s.card_last)
+    s.inside_fits) s.note_counted) s.note_fits) s.note_of_fit) s.fit_room) s.fit_number) s.fit_first) s.fit_places)
+    s.fit_notes) s.fit_held) s.fit_noted) s.fit_few) s.fit_of_room
 
 -- Rows that pass the test are sound.
 pub passing_are_sound : (rows : Rows) → passes_rules rows ≡ true → IsSound rows

@@ -44,7 +44,8 @@ orders t s =
 -- a room's row has its number
 pub room_is : (t : Rows) → IsSound t → (r : ℕ) (row : RoomRow) → at_number t.rooms r ≡ Some row → row.room ≡ r
 room_is t s r row e =
-    let a = found_passes (λ (e : ℕ × RoomRow). (e.1.room == e.0) && nat_le 1 e.0 && nat_le e.0 9999) t.rooms r row s.room_number e in
+    let a = found_passes (λ (e : ℕ × RoomRow). (e.1.room == e.0) && nat_le 1 e.0 && nat_le e.0 9999)
+    t.rooms r row s.room_number e in
     let b = and_true ((row.room == r) && nat_le 1 r) (nat_le r 9999) a in
     eq_from row.room r (and_true (row.room == r) (nat_le 1 r) b.0).0
 
@@ -56,19 +57,28 @@ pub record Counted (t : Rows) (r : ℕ) (row : RoomRow) : Type 0 where
 
 pub counted : (t : Rows) → IsSound t → (r : ℕ) (row : RoomRow) → at_number t.rooms r ≡ Some row → Counted t r row
 counted t s r row e =
-    let a = found_passes (λ (e : ℕ × RoomRow). count_up 0 (keys_of (codes_by_place t.codes e.1.room)) && (length (codes_at t e.1.room) == e.1.codes) && (codes_listed t e.1.room == e.1.codes)) t.rooms r row s.code_places e in
-    let b = and_true (count_up 0 (keys_of (codes_by_place t.codes row.room)) && (length (codes_at t row.room) == row.codes)) (codes_listed t row.room == row.codes) a in
-    let c = and_true (count_up 0 (keys_of (codes_by_place t.codes row.room))) (length (codes_at t row.room) == row.codes) b.0 in
-    subst (λ z. Counted t z row) (room_is t s r row e) (record { up = c.0; many = eq_from _ _ c.1; listed = eq_from _ _ b.1 })
+    let a = found_passes (λ (e : ℕ × RoomRow). count_up 0 (keys_of (codes_by_place t.codes e.1.room))
+    && (length (codes_at t e.1.room) == e.1.codes) && (codes_listed t e.1.room == e.1.codes))
+    t.rooms r row s.code_places e in
+    let b =
+    and_true (count_up 0 (keys_of (codes_by_place t.codes row.room)) && (length (codes_at t row.room) == row.codes))
+    (codes_listed t row.room == row.codes) a in
+    let c =
+    and_true (count_up 0 (keys_of (codes_by_place t.codes row.room))) (length (codes_at t row.room) == row.codes) b.0 in
+    subst (λ z. Counted t z row) (room_is t s r row e)
+    (record { up = c.0; many = eq_from _ _ c.1; listed = eq_from _ _ b.1 })
 
 -- where there is no room there are no codes
-none_by : (t : Rows) (r : ℕ) → at_number t.rooms r ≡ None → (es : List (ℕ × CodeRow)) → list_all (λ (e : ℕ × CodeRow). is_some (at_number t.rooms e.1.room)) es ≡ true → codes_by_place es r ≡ []
+none_by : (t : Rows) (r : ℕ) → at_number t.rooms r ≡ None → (es : List (ℕ × CodeRow))
+    → list_all (λ (e : ℕ × CodeRow). is_some (at_number t.rooms e.1.room)) es ≡ true → codes_by_place es r ≡ []
 none_by t r n [] a = refl
 none_by t r n (e ∷ es) a =
     let p = and_true (is_some (at_number t.rooms e.1.room)) _ a in
-    skip (e.1.room == r) e (codes_by_place es r) (λ q. not_both _ p.0 (ap (λ z. is_some (at_number t.rooms z)) (eq_from e.1.room r q) ∙ ap is_some n)) (none_by t r n es p.1)
+    skip (e.1.room == r) e (codes_by_place es r) (λ q. not_both _ p.0
+    (ap (λ z. is_some (at_number t.rooms z)) (eq_from e.1.room r q) ∙ ap is_some n)) (none_by t r n es p.1)
   where
-    skip : (b : Bool) (e : ℕ × CodeRow) (ps : List (ℕ × ℕ)) → (b ≡ true → ⊥) → ps ≡ [] → when b (λ placed. insert_entry nat_cmp placed e.1.place e.0) ps ≡ []
+    skip : (b : Bool) (e : ℕ × CodeRow) (ps : List (ℕ × ℕ))
+        → (b ≡ true → ⊥) → ps ≡ [] → when b (λ placed. insert_entry nat_cmp placed e.1.place e.0) ps ≡ []
     skip true e ps f n = absurd (f refl)
     skip false e ps f n = n
 
@@ -76,11 +86,13 @@ none_listed_by : (b : Bool) (n m : ℕ) → m ≡ cond b 1 0 + n → (b ≡ true
 none_listed_by true n m e f z = absurd (f refl)
 none_listed_by false n m e f z = omega arith
 
-none_listed : (t : Rows) (r : ℕ) → at_number t.rooms r ≡ None → (es : List (ℕ × CodeRow)) → list_all (λ (e : ℕ × CodeRow). is_some (at_number t.rooms e.1.room)) es ≡ true → listed es r ≡ 0
+none_listed : (t : Rows) (r : ℕ) → at_number t.rooms r ≡ None → (es : List (ℕ × CodeRow))
+    → list_all (λ (e : ℕ × CodeRow). is_some (at_number t.rooms e.1.room)) es ≡ true → listed es r ≡ 0
 none_listed t r n [] a = refl
 none_listed t r n (e ∷ es) a =
     let p = and_true (is_some (at_number t.rooms e.1.room)) _ a in
-    none_listed_by (e.1.room == r) (listed es r) _ (one_listed e es r) (λ q. not_both _ p.0 (ap (λ z. is_some (at_number t.rooms z)) (eq_from e.1.room r q) ∙ ap is_some n)) (none_listed t r n es p.1)
+    none_listed_by (e.1.room == r) (listed es r) _ (one_listed e es r) (λ q. not_both _ p.0
+    (ap (λ z. is_some (at_number t.rooms z)) (eq_from e.1.room r q) ∙ ap is_some n)) (none_listed t r n es p.1)
 
 pub no_codes_at : (t : Rows) → IsSound t → (r : ℕ) → at_number t.rooms r ≡ None → codes_at t r ≡ []
 no_codes_at t s r n = ap values_of (none_by t r n t.codes s.code_room)
@@ -104,26 +116,33 @@ has_no_row t r e = by (at_number t.rooms r) e
     by None e = refl
 
 -- a code's room is there
-code_has_room : (t : Rows) → IsSound t → (code : ℕ) (row : CodeRow) → at_number t.codes code ≡ Some row → (room : RoomRow) × (at_number t.rooms row.room ≡ Some room)
-code_has_room t s code row e = some_of (at_number t.rooms row.room) (found_passes (λ (e : ℕ × CodeRow). is_some (at_number t.rooms e.1.room)) t.codes code row s.code_room e)
+code_has_room : (t : Rows) → IsSound t → (code : ℕ) (row : CodeRow)
+    → at_number t.codes code ≡ Some row → (room : RoomRow) × (at_number t.rooms row.room ≡ Some room)
+code_has_room t s code row e = some_of (at_number t.rooms row.room)
+    (found_passes (λ (e : ℕ × CodeRow). is_some (at_number t.rooms e.1.room)) t.codes code row s.code_room e)
 
 -- Each row of the table of codes tells the place of its code.
-pub row_is_place : (t : Rows) → IsSound t → (code : ℕ) (row : CodeRow) → at_number t.codes code ≡ Some row → SplitsAt (codes_at t row.room) code row.place
+pub row_is_place : (t : Rows) → IsSound t → (code : ℕ) (row : CodeRow)
+    → at_number t.codes code ≡ Some row → SplitsAt (codes_at t row.room) code row.place
 row_is_place t s code row e =
     let room = code_has_room t s code row e in
     let c = counted t s row.room room.0 room.1 in
     split_at (codes_by_place t.codes row.room) row.place code c.up
-    (is_placed t.codes row.room code row (sym (length_values (codes_by_place t.codes row.room)) ∙ c.many ∙ sym c.listed) refl e)
+    (is_placed t.codes row.room code row
+    (sym (length_values (codes_by_place t.codes row.room)) ∙ c.many ∙ sym c.listed) refl e)
 
 -- Each place of a code at a room has its row in the table of codes.
-pub place_is_row : (t : Rows) → IsSound t → (r : ℕ) (before : List ℕ) (code : ℕ) (later : List ℕ) → codes_at t r ≡ before ++ code ∷ later → at_number t.codes code ≡ Some (record { room = r; place = length before })
+pub place_is_row : (t : Rows) → IsSound t → (r : ℕ) (before : List ℕ) (code : ℕ) (later : List ℕ)
+    → codes_at t r ≡ before ++ code ∷ later → at_number t.codes code ≡ Some (record { room = r; place = length before })
 place_is_row t s r before code later e =
     by (is_some (at_number t.rooms r)) refl
   where
-    by : (b : Bool) → is_some (at_number t.rooms r) ≡ b → at_number t.codes code ≡ Some (record { room = r; place = length before })
+    by : (b : Bool) → is_some (at_number t.rooms r) ≡ b
+        → at_number t.codes code ≡ Some (record { room = r; place = length before })
     by true q =
         let row = some_of (at_number t.rooms r) q in
-        placed_back t.codes r (length before) code (orders t s).codes (found_at (codes_by_place t.codes r) before code later (counted t s r row.0 row.1).up e)
+        placed_back t.codes r (length before) code (orders t s).codes
+        (found_at (codes_by_place t.codes r) before code later (counted t s r row.0 row.1).up e)
     by false q = absurd (nothing_in_nil before code later (sym (no_codes_at t s r (has_no_row t r q)) ∙ e))
 
 -- The places of each room's codes are 0 and on.
@@ -132,7 +151,8 @@ places_count_up t s r = by (is_some (at_number t.rooms r)) refl
   where
     by : (b : Bool) → is_some (at_number t.rooms r) ≡ b → count_up 0 (keys_of (codes_by_place t.codes r)) ≡ true
     by true q = let row = some_of (at_number t.rooms r) q in (counted t s r row.0 row.1).up
-    by false q = ap (λ (ps : List (ℕ × ℕ)). count_up 0 (keys_of ps)) (none_by t r (has_no_row t r q) t.codes s.code_room)
+    by false q =
+        ap (λ (ps : List (ℕ × ℕ)). count_up 0 (keys_of ps)) (none_by t r (has_no_row t r q) t.codes s.code_room)
 
 -- The table has as many codes of each room as stand there.
 pub listed_at_start : (t : Rows) → IsSound t → (r : ℕ) → listed t.codes r ≡ length (codes_at t r)
@@ -140,7 +160,8 @@ listed_at_start t s r = by (is_some (at_number t.rooms r)) refl
   where
     by : (b : Bool) → is_some (at_number t.rooms r) ≡ b → listed t.codes r ≡ length (codes_at t r)
     by true q = let row = some_of (at_number t.rooms r) q in let c = counted t s r row.0 row.1 in c.listed ∙ sym c.many
-    by false q = none_listed t r (has_no_row t r q) t.codes s.code_room ∙ ap (λ (zs : List ℕ). length zs) (sym (no_codes_at t s r (has_no_row t r q)))
+    by false q = none_listed t r (has_no_row t r q) t.codes s.code_room
+        ∙ ap (λ (zs : List ℕ). length zs) (sym (no_codes_at t s r (has_no_row t r q)))
 
 pub places_at_start : (t : Rows) → IsSound t → CodesHavePlaces (start t)
 places_at_start t s r before code later e = place_is_row t s r before code later e
@@ -149,8 +170,10 @@ pub rows_at_start : (t : Rows) → IsSound t → PlacesHaveCodes (start t)
 rows_at_start t s code row e = row_is_place t s code row e
 
 -- the place of a room's lock is one of its codes'
-pub lock_within : (t : Rows) → IsSound t → (r : ℕ) (row : RoomRow) → at_number t.rooms r ≡ Some row → (lock_place_of t r ≡ row.lock_place) × (row.lock_place < length (codes_at t r))
+pub lock_within : (t : Rows) → IsSound t → (r : ℕ) (row : RoomRow)
+    → at_number t.rooms r ≡ Some row → (lock_place_of t r ≡ row.lock_place) × (row.lock_place < length (codes_at t r))
 lock_within t s r row e =
-    let l = lt_from row.lock_place row.codes (found_passes (λ (e : ℕ × RoomRow). nat_lt e.1.lock_place e.1.codes) t.rooms r row s.room_lock_place e) in
+    let l = lt_from row.lock_place row.codes
+    (found_passes (λ (e : ℕ × RoomRow). nat_lt e.1.lock_place e.1.codes) t.rooms r row s.room_lock_place e) in
     let c = (counted t s r row e).many in
     (ap (λ o. said_of o 0 (λ row. row.lock_place)) e, omega arith)

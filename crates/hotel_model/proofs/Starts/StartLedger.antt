@@ -15,7 +15,8 @@ cut_at k [] l = absurd (omega arith)
 cut_at zero (x ∷ xs) l = refl
 cut_at (suc k) (x ∷ xs) l =
     let e : suc k + 1 ≡ suc (k + 1) = omega arith in
-    ap (λ m. x ∷ (take k xs ++ first_of (drop k xs) ∷ drop m (x ∷ xs))) e ∙ ap (λ zs. x ∷ zs) (cut_at k xs (omega arith))
+    ap (λ m. x ∷ (take k xs ++ first_of (drop k xs) ∷ drop m (x ∷ xs))) e
+    ∙ ap (λ zs. x ∷ zs) (cut_at k xs (omega arith))
 
 -- At each room the passed codes, the held one and the awaited ones are its codes.
 pub ledger_at_start : (t : Rows) → IsSound t → LedgerHolds (start t)
@@ -49,17 +50,23 @@ not_there t r e = has_no_row t r (sym (room_there_is t r) ∙ e)
 -- Where there is no room there is no code.
 pub others_have_none_at_start : (t : Rows) → IsSound t → OthersHaveNone (start t)
 others_have_none_at_start t s r e =
-    let none = no_codes_at t s r (not_there t r e) in
-    (none, ap (take (lock_place_of t r)) none ∙ take_none (lock_place_of t r), ap (drop (lock_place_of t r + 1)) none ∙ drop_none (lock_place_of t r + 1))
+    let none = no_codes_at t s r (not_there t r e) in (
+      none,
+      ap (take (lock_place_of t r)) none ∙ take_none (lock_place_of t r),
+      ap (drop (lock_place_of t r + 1)) none ∙ drop_none (lock_place_of t r + 1),
+    )
 
 -- A room has at most as many codes as there are cards, and those that its fits begin with.
 pub codes_fit_at_start : (t : Rows) → IsSound t → CodesFit (start t)
 codes_fit_at_start t s r = by (is_some (at_number t.rooms r)) refl
   where
-    by : (b : Bool) → is_some (at_number t.rooms r) ≡ b → length (codes_at t r) ≤ length t.cards + length (fits_at t.fits r)
+    by : (b : Bool) → is_some (at_number t.rooms r) ≡ b
+        → length (codes_at t r) ≤ length t.cards + length (fits_at t.fits r)
     by true q =
         let row = some_of (at_number t.rooms r) q in
-        let few = le_from row.0.codes (length t.cards + length (fits_at t.fits row.0.room)) (found_passes (λ (e : ℕ × RoomRow). nat_le e.1.codes (length t.cards + length (fits_at t.fits e.1.room))) t.rooms r row.0 s.room_codes row.1) in
+        let few = le_from row.0.codes (length t.cards + length (fits_at t.fits row.0.room))
+        (found_passes (λ (e : ℕ × RoomRow). nat_le e.1.codes (length t.cards + length (fits_at t.fits e.1.room)))
+        t.rooms r row.0 s.room_codes row.1) in
         let same = ap (λ z. length (fits_at t.fits z)) (room_is t s r row.0 row.1) in
         let many = (counted t s r row.0 row.1).many in
         omega arith

@@ -32,25 +32,31 @@ rooms_once_at_start t s = once_from t.rooms (orders t s).rooms
 
 -- a row of these columns
 abbrev row_by : ℕ → List ℕ → ℕ → ℕ → Bool → Option ℕ → ℕ → ℕ → ℕ → RoomRow
-row_by r k l c s p n f o = record { room = r; kind = k; lock_place = l; codes = c; secured = s; party = p; notes = n; fit = f; before = o }
+row_by r k l c s p n f o =
+    record { room = r; kind = k; lock_place = l; codes = c; secured = s; party = p; notes = n; fit = f; before = o }
 
-pub notes_counted : (t : Rows) → IsSound t → (r : ℕ) (row : RoomRow) → at_number t.rooms r ≡ Some row → length (notes_at t.notes r) ≡ row.notes
+pub notes_counted : (t : Rows) → IsSound t → (r : ℕ) (row : RoomRow)
+    → at_number t.rooms r ≡ Some row → length (notes_at t.notes r) ≡ row.notes
 notes_counted t s r row e =
     sym (as_many_numbers t.notes r) ∙ (numbers_said t s r row e).1
 
-weaker : (e : ℕ × RoomRow) → ((e.1.room == e.0) && nat_le 1 e.0 && nat_le e.0 9999) ≡ true → ((e.0 == e.0) && nat_le 1 e.0 && nat_le e.0 9999) ≡ true
+weaker : (e : ℕ × RoomRow) → ((e.1.room == e.0) && nat_le 1 e.0 && nat_le e.0 9999) ≡ true
+    → ((e.0 == e.0) && nat_le 1 e.0 && nat_le e.0 9999) ≡ true
 weaker e t =
     let p = and_true ((e.1.room == e.0) && nat_le 1 e.0) (nat_le e.0 9999) t in
     let q = and_true (e.1.room == e.0) (nat_le 1 e.0) p.0 in
     both ((e.0 == e.0) && nat_le 1 e.0) _ (both (e.0 == e.0) _ (eq_self e.0) q.1) p.1
 
 -- The rooms' numbers are 1 to 9999.
-pub rooms_numbered_at_start : (t : Rows) → IsSound t → list_all (λ (e : ℕ × RoomRow). (e.0 == e.0) && nat_le 1 e.0 && nat_le e.0 9999) t.rooms ≡ true
+pub rooms_numbered_at_start : (t : Rows)
+    → IsSound t → list_all (λ (e : ℕ × RoomRow). (e.0 == e.0) && nat_le 1 e.0 && nat_le e.0 9999) t.rooms ≡ true
 rooms_numbered_at_start t s =
-    all_weaker (λ (e : ℕ × RoomRow). (e.1.room == e.0) && nat_le 1 e.0 && nat_le e.0 9999) (λ (e : ℕ × RoomRow). (e.0 == e.0) && nat_le 1 e.0 && nat_le e.0 9999) weaker t.rooms s.room_number
+    all_weaker (λ (e : ℕ × RoomRow). (e.1.room == e.0) && nat_le 1 e.0 && nat_le e.0 9999)
+    (λ (e : ℕ × RoomRow). (e.0 == e.0) && nat_le 1 e.0 && nat_le e.0 9999) weaker t.rooms s.room_number
 
 -- as many codes are passed as the lock's place says
-pub lock_is : (t : Rows) → IsSound t → (r : ℕ) (row : RoomRow) → at_number t.rooms r ≡ Some row → length (take (lock_place_of t r) (codes_at t r)) ≡ row.lock_place
+pub lock_is : (t : Rows) → IsSound t → (r : ℕ) (row : RoomRow)
+    → at_number t.rooms r ≡ Some row → length (take (lock_place_of t r) (codes_at t r)) ≡ row.lock_place
 lock_is t s r row e =
     let l = lock_within t s r row e in
     ap (λ z. length (take z (codes_at t r))) l.0 ∙ length-take-le row.lock_place (codes_at t r) (below l.1)
@@ -59,7 +65,8 @@ lock_is t s r row e =
     below l = omega arith
 
 -- a room's row, read off the start, is its row
-row_back : (t : Rows) → IsSound t → (r : ℕ) (row : RoomRow) → at_number t.rooms r ≡ Some row → room_row (start t) r row.kind ≡ row
+row_back : (t : Rows) → IsSound t → (r : ℕ) (row : RoomRow)
+    → at_number t.rooms r ≡ Some row → room_row (start t) r row.kind ≡ row
 row_back t s r row e =
     let c = length (codes_at t r) in
     let l = length (take (lock_place_of t r) (codes_at t r)) in
@@ -71,13 +78,19 @@ row_back t s r row e =
     ap (λ z. row_by z row.kind l c b p n f o) (sym (room_is t s r row e))
     ∙ ap (λ z. row_by row.room row.kind z c b p n f o) (lock_is t s r row e)
     ∙ ap (λ z. row_by row.room row.kind row.lock_place z b p n f o) (counted t s r row e).many
-    ∙ ap (λ z. row_by row.room row.kind row.lock_place row.codes z p n f o) (ap (λ x. said_of x false (λ row. row.secured)) e)
-    ∙ ap (λ z. row_by row.room row.kind row.lock_place row.codes row.secured z n f o) (ap (λ x. said_of x None (λ row. row.party)) e)
-    ∙ ap (λ z. row_by row.room row.kind row.lock_place row.codes row.secured row.party z f o) (notes_counted t s r row e)
-    ∙ ap (λ z. row_by row.room row.kind row.lock_place row.codes row.secured row.party row.notes z o) (ap (λ x. said_of x 0 (λ row. row.fit)) e)
-    ∙ ap (λ z. row_by row.room row.kind row.lock_place row.codes row.secured row.party row.notes row.fit z) (ap (λ x. said_of x 0 (λ row. row.before)) e)
+    ∙ ap (λ z. row_by row.room row.kind row.lock_place row.codes z p n f o)
+    (ap (λ x. said_of x false (λ row. row.secured)) e)
+    ∙ ap (λ z. row_by row.room row.kind row.lock_place row.codes row.secured z n f o)
+    (ap (λ x. said_of x None (λ row. row.party)) e)
+    ∙ ap (λ z. row_by row.room row.kind row.lock_place row.codes row.secured row.party z f o)
+    (notes_counted t s r row e)
+    ∙ ap (λ z. row_by row.room row.kind row.lock_place row.codes row.secured row.party row.notes z o)
+    (ap (λ x. said_of x 0 (λ row. row.fit)) e)
+    ∙ ap (λ z. row_by row.room row.kind row.lock_place row.codes row.secured row.party row.notes row.fit z)
+    (ap (λ x. said_of x 0 (λ row. row.before)) e)
 
-all_back : (f : ℕ → List ℕ → RoomRow) (es : List (ℕ × RoomRow)) → InOrder nat_cmp (keys_of es) → ((r : ℕ) (row : RoomRow) → at_number es r ≡ Some row → f r row.kind ≡ row)
+all_back : (f : ℕ → List ℕ → RoomRow) (es : List (ℕ × RoomRow))
+    → InOrder nat_cmp (keys_of es) → ((r : ℕ) (row : RoomRow) → at_number es r ≡ Some row → f r row.kind ≡ row)
     → map (λ e. (e.0, f e.0 e.1)) (with_kind es) ≡ es
 all_back f [] s back = refl
 all_back f (e ∷ es) s back =
@@ -87,12 +100,16 @@ all_back f (e ∷ es) s back =
 
 -- The rows that stand for a start are the start's rows.
 pub rows_of_start : (t : Rows) → IsSound t → rows_of (start t) ≡ t
-rows_of_start t s = ap (λ rs. record t { rooms = rs }) (all_back (room_row (start t)) t.rooms (orders t s).rooms (row_back t s))
+rows_of_start t s =
+    ap (λ rs. record t { rooms = rs }) (all_back (room_row (start t)) t.rooms (orders t s).rooms (row_back t s))
 
-kinds_counted : (kind : List ℕ) (es : List (ℕ × RoomRow)) → count_by (λ (row : RoomRow). bytes_eq row.kind kind) (values_of es) ≡ count_by (λ k. bytes_eq k kind) (values_of (with_kind es))
+kinds_counted : (kind : List ℕ) (es : List (ℕ × RoomRow))
+    → count_by (λ (row : RoomRow). bytes_eq row.kind kind) (values_of es)
+    ≡ count_by (λ k. bytes_eq k kind) (values_of (with_kind es))
 kinds_counted kind [] = refl
 kinds_counted kind (e ∷ es) =
-    count_first (λ (row : RoomRow). bytes_eq row.kind kind) e.1 (values_of es) ∙ ap (λ n. cond (bytes_eq e.1.kind kind) 1 0 + n) (kinds_counted kind es)
+    count_first (λ (row : RoomRow). bytes_eq row.kind kind) e.1 (values_of es)
+    ∙ ap (λ n. cond (bytes_eq e.1.kind kind) 1 0 + n) (kinds_counted kind es)
     ∙ sym (count_first (λ k. bytes_eq k kind) e.1.kind (values_of (with_kind es)))
 
 -- A start has as many rooms of a kind as its rows.

@@ -4,11 +4,13 @@ use Rattle.hotel_model.proofs.{Names.Link, Names.said_of, Names.is_that, Names.s
 use Rattle.hotel_model.proofs.{OfTables.Tests.and_true, OfTables.Tests.not_both}
 
 -- what is said of a value that is there
-pub said_true : {X : Type 0} (o : Option X) (f : X → Bool) → said_of o false f ≡ true → (x : X) × (o ≡ Some x) × (f x ≡ true)
+pub said_true : {X : Type 0} (o : Option X) (f : X → Bool)
+    → said_of o false f ≡ true → (x : X) × (o ≡ Some x) × (f x ≡ true)
 said_true (Some x) f e = (x, refl, e)
 said_true None f e = not_both false e refl
 
-pub said_at : {X : Type 0} (o : Option X) (otherwise : Bool) (f : X → Bool) (x : X) → o ≡ Some x → said_of o otherwise f ≡ true → f x ≡ true
+pub said_at : {X : Type 0} (o : Option X) (otherwise : Bool) (f : X → Bool) (x : X)
+    → o ≡ Some x → said_of o otherwise f ≡ true → f x ≡ true
 said_at o otherwise f x e t = ap (λ z. said_of z otherwise f) (sym e) ∙ t
 
 pub some_of : {X : Type 0} (o : Option X) → is_some o ≡ true → (x : X) × (o ≡ Some x)

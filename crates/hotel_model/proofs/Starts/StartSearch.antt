@@ -9,27 +9,36 @@ use Rattle.hotel_model.proofs.{OfTables.TableKeys.is_at_self, Starts.StartOrder.
 use Rattle.hotel_model.proofs.{Starts.StartCodes.orders, Starts.StartCodes.row_is_place, Starts.StartCodes.place_is_row}
 use Rattle.hotel_model.proofs.{Starts.StartPlaces.none_or}
 
-here_by : (b : Bool) (e : ℕ × CodeRow) (es : List (ℕ × CodeRow)) (room place code : ℕ) → (b ≡ true → (e.1.room ≡ room) × (e.1.place ≡ place))
-    → (first_code_at es room place ≡ Some code → at_number (e ∷ es) code ≡ Some (record { room = room; place = place })) → cond b (Some e.0) (first_code_at es room place) ≡ Some code
+here_by : (b : Bool) (e : ℕ × CodeRow) (es : List (ℕ × CodeRow)) (room place code : ℕ)
+    → (b ≡ true → (e.1.room ≡ room) × (e.1.place ≡ place))
+    → (first_code_at es room place ≡ Some code → at_number (e ∷ es) code ≡ Some (record { room = room; place = place }))
+    → cond b (Some e.0) (first_code_at es room place) ≡ Some code
     → at_number (e ∷ es) code ≡ Some (record { room = room; place = place })
 here_by true e es room place code here ih f =
     let q : e.0 ≡ code = cc in
     let first : at_number (e ∷ es) e.0 ≡ Some e.1 = ap (λ t. cond t (Some e.1) (at_number es e.0)) (is_at_self e.0) in
     let h = here refl in
-    let w : e.1 ≡ record { room = room; place = place } = ap (λ z. let x : CodeRow = record { room = z; place = e.1.place } in x) h.0 ∙ ap (λ z. let x : CodeRow = record { room = room; place = z } in x) h.1 in
+    let w : e.1 ≡ record { room = room; place = place } =
+    ap (λ z. let x : CodeRow = record { room = z; place = e.1.place } in x) h.0 ∙ ap
+    (λ z. let x : CodeRow = record { room = room; place = z } in x) h.1 in
     ap (at_number (e ∷ es)) (sym q) ∙ first ∙ ap (λ z. Some z) w
 here_by false e es room place code here ih f = ih f
 
 -- a code that a search finds stands at the place
-pub found_is_row : (es : List (ℕ × CodeRow)) (room place code : ℕ) → InOrder nat_cmp (keys_of es) → first_code_at es room place ≡ Some code → at_number es code ≡ Some (record { room = room; place = place })
+pub found_is_row : (es : List (ℕ × CodeRow)) (room place code : ℕ) → InOrder nat_cmp (keys_of es)
+    → first_code_at es room place ≡ Some code → at_number es code ≡ Some (record { room = room; place = place })
 found_is_row [] room place code s f = absurd (let w : ◌≡◌ {A = Option ℕ} None (Some code) = f in cc)
 found_is_row (e ∷ es) room place code s f =
     here_by ((e.1.room == room) && (e.1.place == place)) e es room place code
-    (λ t. let p = and_true (e.1.room == room) (e.1.place == place) t in (eq_from e.1.room room p.0, eq_from e.1.place place p.1))
+    (λ t. let p = and_true (e.1.room == room) (e.1.place == place) t in
+    (eq_from e.1.room room p.0, eq_from e.1.place place p.1))
     (λ g. found_later e es code (record { room = room; place = place }) s.0 (found_is_row es room place code s.1 g)) f
 
-some_by : (b d : Bool) (e : ℕ × CodeRow) (es : List (ℕ × CodeRow)) (room place code : ℕ) → (b ≡ true → e.1 ≡ record { room = room; place = place } → d ≡ true)
-    → (at_number es code ≡ Some (record { room = room; place = place }) → (found : ℕ) × (first_code_at es room place ≡ Some found)) → cond b (Some e.1) (at_number es code) ≡ Some (record { room = room; place = place })
+some_by : (b d : Bool) (e : ℕ × CodeRow) (es : List (ℕ × CodeRow)) (room place code : ℕ)
+    → (b ≡ true → e.1 ≡ record { room = room; place = place } → d ≡ true)
+    → (at_number es code ≡ Some (record { room = room; place = place })
+    → (found : ℕ) × (first_code_at es room place ≡ Some found))
+    → cond b (Some e.1) (at_number es code) ≡ Some (record { room = room; place = place })
     → (found : ℕ) × (cond d (Some e.0) (first_code_at es room place) ≡ Some found)
 some_by b true e es room place code here ih f = (e.0, refl)
 some_by true false e es room place code here ih f =
@@ -38,11 +47,15 @@ some_by true false e es room place code here ih f =
 some_by false false e es room place code here ih f = ih f
 
 -- a search for the place of a code finds one
-some_found : (es : List (ℕ × CodeRow)) (room place code : ℕ) → at_number es code ≡ Some (record { room = room; place = place }) → (found : ℕ) × (first_code_at es room place ≡ Some found)
-some_found [] room place code f = absurd (let w : ◌≡◌ {A = Option CodeRow} None (Some (record { room = room; place = place })) = f in cc)
+some_found : (es : List (ℕ × CodeRow)) (room place code : ℕ)
+    → at_number es code ≡ Some (record { room = room; place = place })
+    → (found : ℕ) × (first_code_at es room place ≡ Some found)
+some_found [] room place code f =
+    absurd (let w : ◌≡◌ {A = Option CodeRow} None (Some (record { room = room; place = place })) = f in cc)
 some_found (e ∷ es) room place code f =
     some_by (is_at (nat_cmp code) e.0) ((e.1.room == room) && (e.1.place == place)) e es room place code
-    (λ t w. ap (λ (x : CodeRow). (x.room == room) && (x.place == place)) w ∙ ap (λ z. z && (place == place)) (eq_self room) ∙ eq_self place)
+    (λ t w. ap (λ (x : CodeRow). (x.room == room) && (x.place == place)) w
+    ∙ ap (λ z. z && (place == place)) (eq_self room) ∙ eq_self place)
     (some_found es room place code) f
 
 -- past the codes of a room no place has a code

@@ -84,7 +84,9 @@ made (CheckedOut party room) rows = record rows {
   stays = in_state party state.Done rows.stays;
 }
 made (Refit room code fit) rows = record rows {
-  rooms = room_changed room (λ row. record row { lock_place = row.codes; codes = row.codes + 1; secured = false; fit = fit; before = row.notes }) rows.rooms;
+  rooms = room_changed room (λ row.
+      record row { lock_place = row.codes; codes = row.codes + 1; secured = false; fit = fit; before = row.notes })
+      rows.rooms;
   codes = insert_entry nat_cmp rows.codes code (record { room = room; place = codes_of rows room });
   inside = those_elsewhere room rows.inside;
   fits = insert_entry pair_cmp rows.fits (room, fit) (fit_row room fit (codes_of rows room) (notes_in rows room));

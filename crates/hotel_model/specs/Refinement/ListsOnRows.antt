@@ -18,7 +18,14 @@ arrivals_on rows day = filter (arrives_on day) (values_of rows.stays)
 
 -- a room with its party's stay
 abbrev pub housed : RoomRow → Stay → HouseRow
-housed row stay = record { room = row.room; party = stay.party; guest = stay.guest; kind = stay.kind; depart = stay.depart; secured = row.secured }
+housed row stay = record {
+  room = row.room;
+  party = stay.party;
+  guest = stay.guest;
+  kind = stay.kind;
+  depart = stay.depart;
+  secured = row.secured;
+}
 
 -- the row of a room's party, where one is registered there
 abbrev pub house_row_on : Rows → RoomRow → Option HouseRow

@@ -205,7 +205,14 @@ effect_on rows ahead (command.AddRoom room kind) =
     with_fresh_on rows ahead (λ code. reply.RoomAdded code) (λ code. change.Room room kind code)
 effect_on rows ahead (command.Reserve guest kind arrive nights) =
     accepted (reply.Reserved (length rows.stays + 1))
-    (change.Reserved (record { party = length rows.stays + 1; guest = guest; kind = kind; arrive = arrive; depart = arrive + nights; state = state.Booked }))
+    (change.Reserved (record {
+      party = length rows.stays + 1;
+      guest = guest;
+      kind = kind;
+      arrive = arrive;
+      depart = arrive + nights;
+      state = state.Booked;
+    }))
 effect_on rows ahead (command.Cancel party) = accepted reply.Cancelled (change.Cancelled party)
 effect_on rows ahead (command.CheckIn party room) = issues_on rows ahead party room None
 effect_on rows ahead (command.Spare party) =

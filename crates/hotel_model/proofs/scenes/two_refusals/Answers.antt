@@ -25,16 +25,29 @@ returns-clause-at_once c = ((refl, refl, refl), refl, refl, refl, refl, refl, re
 
 -- Where the numbers of cards are all that is left to check, and are used up.
 cards_end : (command : Command) (cards : List (ℕ × Card)) → length cards ≡ 9999999
-    → unless (bars (cards_used_up (with_cards cards)) NumbersUsedUp ∷ []) (effect (with_cards cards) busy.ahead command) ≡ refused NumbersUsedUp
-cards_end command cards full = ap (λ b. unless (bars b NumbersUsedUp ∷ []) (effect (with_cards cards) busy.ahead command)) (ap (λ n. nat_le 9999999 n) full)
+    → unless (bars (cards_used_up (with_cards cards)) NumbersUsedUp ∷ []) (effect (with_cards cards) busy.ahead command)
+    ≡ refused NumbersUsedUp
+cards_end command cards full =
+    ap (λ b. unless (bars b NumbersUsedUp ∷ []) (effect (with_cards cards) busy.ahead command))
+    (ap (λ n. nat_le 9999999 n) full)
 
 pub returns-clause-cards_used_up : goal.returns-clause-cards_used_up
 unfolding answer_to draw_from nights_taken first_day is_utf8 chars encode
-returns-clause-cards_used_up c = λ cards full. (refl, cards_end (check_in 6 102) cards full, refl, cards_end (spare 1) cards full, refl, cards_end (reissue 1) cards full, refl, cards_end (transfer 1 102) cards full)
+returns-clause-cards_used_up c = λ cards full. (
+  refl,
+  cards_end (check_in 6 102) cards full,
+  refl,
+  cards_end (spare 1) cards full,
+  refl,
+  cards_end (reissue 1) cards full,
+  refl,
+  cards_end (transfer 1 102) cards full,
+)
 
 -- What is left of a booking's checks: whether a night is full, and then whether the numbers of parties are used up.
 abbrev left : History → Option ℕ → Bool → Outcome Event
-left h night full = unless (option_map KindFull night ∷ bars full NumbersUsedUp ∷ []) (effect h busy.ahead (reserve DBL (may 2) 1 guest))
+left h night full = unless (option_map KindFull night ∷ bars full NumbersUsedUp ∷ [])
+    (effect h busy.ahead (reserve DBL (may 2) 1 guest))
 
 is_left : (stays : List (ℕ × Stay)) → answer_to (with_stays stays) busy.ahead (reserve DBL (may 2) 1 guest)
     ≡ left (with_stays stays) (first_full (with_stays stays) DBL (may 2) 1) (parties_used_up (with_stays stays))
@@ -47,7 +60,9 @@ night_full stays night = is_left stays ∙ ap (λ o. left (with_stays stays) o (
 
 parties_end : (stays : List (ℕ × Stay)) → length stays ≡ 9999999 → first_full (with_stays stays) DBL (may 2) 1 ≡ None
     → answer_to (with_stays stays) busy.ahead (reserve DBL (may 2) 1 guest) ≡ refused NumbersUsedUp
-parties_end stays full free = is_left stays ∙ ap (λ o. left (with_stays stays) o (parties_used_up (with_stays stays))) free ∙ ap (λ n. left (with_stays stays) None (nat_le 9999999 n)) full
+parties_end stays full free =
+    is_left stays ∙ ap (λ o. left (with_stays stays) o (parties_used_up (with_stays stays))) free
+    ∙ ap (λ n. left (with_stays stays) None (nat_le 9999999 n)) full
 
 pub returns-clause-parties_used_up : goal.returns-clause-parties_used_up
 returns-clause-parties_used_up c = λ stays full. (night_full stays, parties_end stays full)
