@@ -124,7 +124,7 @@ of_notes =
     ∷ entered 999 2 1 a0 a1 M ⇒ refused NoRoom  -- Gap
     ∷ entered_by 101 2 1 9 a0 a1 M ⇒ refused NoFit  -- Conflict
     ∷ left_by 101 2 4 9 a0 a1 M ⇒ refused NoFit  -- Gap
-    ∷ left_by 101 99 2 1 a0 a1 M ⇒ refused NoFit  -- the first lock has a note of the same count that is equal but for the lock
+    ∷ left_by 101 99 2 1 a0 a1 M ⇒ refused NoFit  -- equal to a note of the first lock but for the lock
     ∷ recoded_by 103 2 2 d0 d0 M ⇒ refused NoFit  -- HeldDiffers
     ∷ left 101 2 1 a0 a1 M ⇒ seen  -- NotInside
     ∷ recoded 103 1 d0 d1 M ⇒ seen  -- HeldDiffers
