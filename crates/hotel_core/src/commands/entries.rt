@@ -12,8 +12,7 @@ ghost use Rattle.hotel_core.specs.Refinement.StepOnRows.{StepsWithoutWords};
 
 use crate::books::Books;
 use crate::commands::changes::make;
-use crate::commands::lock_codes::{has_inside, is_inside, issued_place, same_link};
-use crate::commands::look_ups::card_there;
+use crate::commands::lock_codes::{has_inside, is_inside, issued_place, noted_card};
 use crate::commands::room_cards::code_in;
 use hotel_model::{Change, InsideMove, Refusal, Reply, RoomRow};
 use keycard_rules::{CardNo, Code, Link, LockNote, RoomNo, turn};
@@ -102,10 +101,7 @@ pub(crate) fn enter<B: Books>(
     ensures { StepsWithoutWords B.Issued B.Books.own (λ rows. told_on rows note.now (act.Entered number link.now))
         books.old books.new (reply_of result) }
 {
-    let card = card_there(books, number)?;
-    if !same_link(&card.link, link) {
-        return Err(Refusal::CardDiffers);
-    }
+    noted_card(books, number, link)?;
     let held = code_in(books, note.room(), row.lock_place)?;
     if !opens(held, link) {
         return Err(Refusal::LockShut);

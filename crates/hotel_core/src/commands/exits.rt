@@ -6,8 +6,7 @@ ghost use Rattle.hotel_core.specs.{Refinement.Finds.reply_of, Refinement.StepOnR
 
 use crate::books::Books;
 use crate::commands::changes::make;
-use crate::commands::lock_codes::{is_inside, same_link};
-use crate::commands::look_ups::card_there;
+use crate::commands::lock_codes::{is_inside, noted_card};
 use hotel_model::{Change, InsideMove, Refusal, Reply, RoomRow};
 use keycard_rules::{CardNo, Link, LockNote};
 
@@ -25,10 +24,7 @@ pub(crate) fn leave<B: Books>(
     ensures { StepsWithoutWords B.Issued B.Books.own (λ rows. told_on rows note.now (act.Left number link.now))
         books.old books.new (reply_of result) }
 {
-    let card = card_there(books, number)?;
-    if !same_link(&card.link, link) {
-        return Err(Refusal::CardDiffers);
-    }
+    noted_card(books, number, link)?;
     if !is_inside(books, note.room(), number)? {
         return Err(Refusal::NotInside);
     }

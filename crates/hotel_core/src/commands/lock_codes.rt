@@ -1,14 +1,17 @@
 //! What a note of a lock is compared with in the books.
-ghost use Rattle.std.specs.Prelude.{◌≡◌, ◌-◌, ◌==◌, ◌&&◌, nat_lt, Option, Some, None, IsSome, not};
-ghost use Rattle.hotel_core.specs.Refinement.Finds.{Finds, AnyRows};
+ghost use Rattle.std.specs.Prelude.{◌≡◌, ◌-◌, ◌==◌, ◌&&◌, nat_lt, Option, Some, None, IsSome, not, is_some, [], ◌∷◌};
+ghost use Rattle.hotel_core.specs.{Refinement.Finds.Finds, Refinement.Finds.AnyRows};
+ghost use Rattle.hotel_core.specs.{Refinement.FindsChecked.FindsChecked};
 ghost use Rattle.hotel_model.specs.{Refinement.Lookups.room_at, Refinement.Lookups.code_place};
 ghost use Rattle.hotel_model.specs.{Refinement.Lookups.inside_at, Refinement.Lookups.note_at, Guests.are_none};
-ghost use Rattle.hotel_model.specs.{Cards.same_link};
+ghost use Rattle.hotel_model.specs.{Cards.same_link, Refinement.Lookups.card_at, Refinement.OnRows.has_link_on};
+ghost use Rattle.hotel_model.specs.{Outcome.needs, declared.reply.Refusal.TheVariants.NoCard};
+ghost use Rattle.hotel_model.specs.{declared.reply.Refusal.TheVariants.CardDiffers};
 ghost use Rattle.hotel_model.specs.{Words.is_one_of, declared.reply.Refusal.TheVariants.NotAwaited};
 ghost use Rattle.hotel_model.specs.{declared.reply.Refusal.TheVariants.Store};
 
 use crate::books::Books;
-use crate::commands::look_ups::{known, there_or};
+use crate::commands::look_ups::{card_there, known, there_or};
 use hotel_model::{CodeRow, Refusal, RoomRow};
 use keycard_rules::{CardNo, Code, Link, LockNote, RoomNo};
 
@@ -92,8 +95,24 @@ pub(crate) fn has_inside<B: Books>(books: &mut B, room: RoomNo) -> Result<bool, 
     known(answer)
 }
 
-pub(crate) fn same_link(a: &Link, b: &Link) -> bool
+fn same_link(a: &Link, b: &Link) -> bool
     ensures { result ≡ same_link a.now b.now }
 {
     a == b
+}
+
+/// The card that a note names is there, with the note's link.
+pub(crate) fn noted_card<B: Books>(
+    books: &mut B,
+    number: CardNo,
+    link: &Link,
+) -> Result<(), Refusal>
+    ensures { FindsChecked B.Issued B.Books.own (λ rows. needs (is_some (card_at rows number)) NoCard
+        ∷ needs (has_link_on rows number link.now) CardDiffers ∷ []) books.old books.new result }
+{
+    let card = card_there(books, number)?;
+    if !same_link(&card.link, link) {
+        return Err(Refusal::CardDiffers);
+    }
+    Ok(())
 }
