@@ -15,9 +15,10 @@ pub(crate) enum Columns {
     WithoutFit,
 }
 
-/// The names of the columns, in their order.
+/// The names of the columns with that of the room's lock, in their order.
 static WITH_FIT: [&str; 8] = ["room", "fit", "count", "kind", "card", "old", "new", "at"];
 
+/// The names of the columns without that of the room's lock.
 static WITHOUT_FIT: [&str; 7] = ["room", "count", "kind", "card", "old", "new", "at"];
 
 /// Whether the fields of the record are these texts and no more.

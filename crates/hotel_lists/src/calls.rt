@@ -27,7 +27,11 @@ impl Model for IoCalls {
 
     ghost Value = { Calls };
 
-    ghost view = { λ c. record { interrupted = c.interrupted; read_failed = c.read_failed; write_failed = c.write_failed } };
+    ghost view = { λ c. record {
+      interrupted = c.interrupted;
+      read_failed = c.read_failed;
+      write_failed = c.write_failed;
+    } };
 
     ghost invariant = { λ c. c.interrupted ≤ LAST_INTERRUPTION };
 }
