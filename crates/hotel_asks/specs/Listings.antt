@@ -1,10 +1,9 @@
 -- The listing of each list that can be asked for.
-use Rattle.std.specs.Prelude.{Option, Some, is_some}
-use Rattle.hotel_model.specs.{Rows.Rows, Refinement.Lookups.room_at, History.History, Cases.is_room}
+use Rattle.std.specs.Prelude.{Option, Some}
+use Rattle.hotel_model.specs.{Rows.Rows, History.History, Cases.is_room, Notes.notes}
 use Rattle.hotel_model.specs.Lists.{arrivals, in_house, chain, left_behind}
-use Rattle.hotel_model.specs.Refinement.ListsOnRows.{arrivals_on, in_house_on, chain_on, left_behind_on}
-use Rattle.hotel_model.specs.{Notes.notes, Rows.notes_at}
-use Rattle.hotel_lists.specs.Listings.{Listing, listing, of_room}
+use Rattle.hotel_lists.specs.Listings.{Listing, listing, of_room, arrivals_listing, in_house_listing, chain_listing}
+use Rattle.hotel_lists.specs.Listings.{left_behind_listing, audit_listing}
 use Rattle.hotel_lists.specs.Lines.{arrivals_header, in_house_header, chain_header, left_behind_header, audit_header}
 use Rattle.hotel_lists.specs.Lines.{arrival_line, house_line, chain_line, behind_line, note_line}
 use Rattle.hotel_asks.specs.declared.lists.ListAsk.{ListAsk}
@@ -20,10 +19,8 @@ listing_over h (AuditOf room) = of_room (is_room h room) (listing audit_header n
 
 -- The same over the rows of the books.
 abbrev pub listing_on : Rows → ListAsk → Option Listing
-listing_on rows (Arrivals day) = Some (listing arrivals_header arrival_line (arrivals_on rows day))
-listing_on rows InHouse = Some (listing in_house_header house_line (in_house_on rows))
-listing_on rows (ChainOf room) =
-    of_room (is_some (room_at rows room)) (listing chain_header chain_line (chain_on rows room))
-listing_on rows LeftBehind = Some (listing left_behind_header behind_line (left_behind_on rows))
-listing_on rows (AuditOf room) =
-    of_room (is_some (room_at rows room)) (listing audit_header note_line (notes_at rows.notes room))
+listing_on rows (Arrivals day) = arrivals_listing rows day
+listing_on rows InHouse = in_house_listing rows
+listing_on rows (ChainOf room) = chain_listing rows room
+listing_on rows LeftBehind = left_behind_listing rows
+listing_on rows (AuditOf room) = audit_listing rows room

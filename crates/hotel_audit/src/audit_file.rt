@@ -1,6 +1,6 @@
 //! Reads an audit file whole.
 
-ghost use Rattle.std.specs.Prelude.{◌≡◌, ◌≢◌, ◌↔◌, ◌<◌, ℕ, length, map, IfOk, IfErr, Ok, Err};
+ghost use Rattle.std.specs.Prelude.{◌≡◌, ◌≢◌, ◌↔◌, ◌<◌, length, map, IfOk, IfErr, Ok, Err};
 ghost use Rattle.csv.specs.Records.{fields_of};
 ghost use Rattle.hotel_audit.specs.AuditFile.{audit_lines, file_records};
 
@@ -43,8 +43,7 @@ fn read_records(alloc: Global, bytes: &[u8]) -> Result<Vec<ByteRecord>, Error>
 
 /// Reads an audit file: at most `AUDIT_BYTES` of CSV. Its first record is `room,fit,count,kind,card,old,new,at`, or the
 /// same without `fit`, where each note is of its room's first lock. The lines are the records after it, in order. A
-/// byte
-/// order mark at the start is dropped.
+/// byte order mark at the start is dropped.
 pub fn read_notes(alloc: Global, bytes: &[u8]) -> Result<Vec<Line>, AuditFault>
     ensures lines { IfOk result (λ v. audit_lines bytes.now ≡ Ok v.items) }
     ensures fault { IfErr result (λ e. e ≢ AuditFault.Memory → audit_lines bytes.now ≡ Err e) }

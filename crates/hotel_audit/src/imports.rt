@@ -46,7 +46,8 @@ fn answer_line<B: Books>(books: &mut B, line: &Line) -> Result<LineAnswer, LookF
     ensures answer { IfOk result (λ answer. IsAnswerTo line.now answer) }
     ensures went { LineGoes B.Issued B.rows books.old line.now result books.new }
     ensures happened { IfOk result (λ answer. B.is_honest books.new →
-        LinesLeadOn (B.is_clean books.old) (B.rows books.old) (line.now ∷ []) (answer ∷ []) (B.is_clean books.new) (B.rows books.new)) }
+        LinesLeadOn (B.is_clean books.old) (B.rows books.old) (line.now ∷ []) (answer ∷ []) (B.is_clean books.new)
+        (B.rows books.new)) }
     ensures vouched { IfOk result (λ answer. B.is_honest books.new → replies_in (answer ∷ []) ≢ []
         → B.is_clean books.new) }
     ensures unasked { IfOk result (λ answer. replies_in (answer ∷ []) ≡ [] → books.new ≡ books.old) }

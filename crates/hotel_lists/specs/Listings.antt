@@ -3,7 +3,11 @@ use Rattle.std.specs.Prelude.{◌≡◌, ◌≢◌, ◌⊎◌, ℕ, Bool, true, 
 use Rattle.std.specs.Prelude.{Result, Ok, Err}
 use Rattle.std.specs.List.{concat}
 use Rattle.std.specs.Io.KnownBytes.{Appends}
+use Rattle.hotel_model.specs.{Rows.Rows, Rows.notes_at, Refinement.Lookups.room_at}
+use Rattle.hotel_model.specs.Refinement.ListsOnRows.{arrivals_on, in_house_on, chain_on, left_behind_on}
 use Rattle.hotel_lists.specs.{Bytes.AppendsFront, declared.fault.ListFault.ListFault}
+use Rattle.hotel_lists.specs.Lines.{arrivals_header, in_house_header, chain_header, left_behind_header, audit_header}
+use Rattle.hotel_lists.specs.Lines.{arrival_line, house_line, chain_line, behind_line, note_line}
 use Rattle.hotel_lists.specs.declared.fault.ListFault.TheVariants as fault
 
 -- A list's header and its lines.
@@ -19,6 +23,24 @@ listing header line rows = record { header = header; lines = map line rows }
 abbrev pub of_room : Bool → Listing → Option Listing
 of_room true its_listing = Some its_listing
 of_room false its_listing = None
+
+-- The listing of each list, of these rows.
+abbrev pub arrivals_listing : Rows → ℕ → Option Listing
+arrivals_listing rows day = Some (listing arrivals_header arrival_line (arrivals_on rows day))
+
+abbrev pub in_house_listing : Rows → Option Listing
+in_house_listing rows = Some (listing in_house_header house_line (in_house_on rows))
+
+abbrev pub chain_listing : Rows → ℕ → Option Listing
+chain_listing rows room =
+    of_room (is_some (room_at rows room)) (listing chain_header chain_line (chain_on rows room))
+
+abbrev pub left_behind_listing : Rows → Option Listing
+left_behind_listing rows = Some (listing left_behind_header behind_line (left_behind_on rows))
+
+abbrev pub audit_listing : Rows → ℕ → Option Listing
+audit_listing rows room =
+    of_room (is_some (room_at rows room)) (listing audit_header note_line (notes_at rows.notes room))
 
 -- A list in full: its header and its lines; where its room isn't there, what is said then.
 abbrev pub in_full : List ℕ → Option Listing → List ℕ

@@ -1,11 +1,7 @@
 //! The five lists as text: a header, and a line for each row.
-ghost use Rattle.std.specs.Prelude.{◌≡◌, [], Some, is_some, Err};
-ghost use Rattle.hotel_model.specs.Refinement.Lookups.{room_at};
-ghost use Rattle.hotel_model.specs.Refinement.ListsOnRows.{arrivals_on, in_house_on, chain_on, left_behind_on};
-ghost use Rattle.hotel_model.specs.Rows.{notes_at};
-ghost use Rattle.hotel_lists.specs.Listings.{ListEnds, listing, of_room};
-ghost use Rattle.hotel_lists.specs.Lines.{LooksAt, arrivals_header, in_house_header, chain_header, left_behind_header};
-ghost use Rattle.hotel_lists.specs.Lines.{audit_header, arrival_line, house_line, chain_line, behind_line, note_line};
+ghost use Rattle.std.specs.Prelude.{◌≡◌, [], Err};
+ghost use Rattle.hotel_lists.specs.Listings.{ListEnds, arrivals_listing, in_house_listing, chain_listing};
+ghost use Rattle.hotel_lists.specs.{Listings.left_behind_listing, Listings.audit_listing, Lines.LooksAt};
 ghost use Rattle.hotel_lists.specs.declared.fault.ListFault.TheVariants.{NoRoom};
 
 use crate::calls::IoCalls;
@@ -26,8 +22,7 @@ pub fn arrivals<B: Walks, W: Write>(
     day: Day,
     writer: &mut W,
 ) -> Result<(), ListFault>
-    ensures text { B.is_honest books.new → ListEnds [] (Some
-        (listing arrivals_header arrival_line (arrivals_on (B.rows books.old) day))) (W.contents writer.old)
+    ensures text { B.is_honest books.new → ListEnds [] (arrivals_listing (B.rows books.old) day) (W.contents writer.old)
         (W.contents writer.new) result }
     ensures no_room { result ≡ Err NoRoom → ⊥ }
     ensures books { LooksAt B.Issued books.old books.new result }
@@ -41,8 +36,7 @@ pub fn in_house<B: Walks, W: Write>(
     books: &mut B,
     writer: &mut W,
 ) -> Result<(), ListFault>
-    ensures text { B.is_honest books.new → ListEnds [] (Some
-        (listing in_house_header house_line (in_house_on (B.rows books.old)))) (W.contents writer.old)
+    ensures text { B.is_honest books.new → ListEnds [] (in_house_listing (B.rows books.old)) (W.contents writer.old)
         (W.contents writer.new) result }
     ensures no_room { result ≡ Err NoRoom → ⊥ }
     ensures books { LooksAt B.Issued books.old books.new result }
@@ -57,8 +51,7 @@ pub fn chain_of<B: Walks, W: Write>(
     room: RoomNo,
     writer: &mut W,
 ) -> Result<(), ListFault>
-    ensures text { B.is_honest books.new → ListEnds [] (of_room (is_some (room_at (B.rows books.old) room))
-        (listing chain_header chain_line (chain_on (B.rows books.old) room))) (W.contents writer.old)
+    ensures text { B.is_honest books.new → ListEnds [] (chain_listing (B.rows books.old) room) (W.contents writer.old)
         (W.contents writer.new) result }
     ensures books { LooksAt B.Issued books.old books.new result }
 {
@@ -71,8 +64,7 @@ pub fn left_behind<B: Walks, W: Write>(
     books: &mut B,
     writer: &mut W,
 ) -> Result<(), ListFault>
-    ensures text { B.is_honest books.new → ListEnds [] (Some
-        (listing left_behind_header behind_line (left_behind_on (B.rows books.old)))) (W.contents writer.old)
+    ensures text { B.is_honest books.new → ListEnds [] (left_behind_listing (B.rows books.old)) (W.contents writer.old)
         (W.contents writer.new) result }
     ensures no_room { result ≡ Err NoRoom → ⊥ }
     ensures books { LooksAt B.Issued books.old books.new result }
@@ -87,8 +79,7 @@ pub fn audit_of<B: Walks, W: Write>(
     room: RoomNo,
     writer: &mut W,
 ) -> Result<(), ListFault>
-    ensures text { B.is_honest books.new → ListEnds [] (of_room (is_some (room_at (B.rows books.old) room))
-        (listing audit_header note_line (notes_at (B.rows books.old).notes room))) (W.contents writer.old)
+    ensures text { B.is_honest books.new → ListEnds [] (audit_listing (B.rows books.old) room) (W.contents writer.old)
         (W.contents writer.new) result }
     ensures books { LooksAt B.Issued books.old books.new result }
 {

@@ -1,14 +1,11 @@
 //! The five lists as text, within a call whose reads and writes are counted. The writes of a list are added to them.
 ghost use Rattle.std.specs.Prelude.{◌≡◌, [], Some, is_some, Err};
 ghost use Rattle.hotel_model.specs.Refinement.Lookups.{room_at};
-ghost use Rattle.hotel_model.specs.Refinement.ListsOnRows.{arrivals_on, in_house_on, chain_on, left_behind_on};
-ghost use Rattle.hotel_model.specs.Rows.{notes_at};
 ghost use Rattle.hotel_lists.specs.Calls.{CountsWrites, OnErrOf};
 ghost use Rattle.hotel_lists.specs.declared.fault.ListFault.TheVariants.{NoRoom, Write};
-ghost use Rattle.hotel_lists.specs.Listings.{ListEnds, listing, of_room};
-ghost use Rattle.hotel_lists.specs.Lines.{LooksAt, FindsRoom, arrivals_header, in_house_header, chain_header};
-ghost use Rattle.hotel_lists.specs.Lines.{left_behind_header, audit_header, arrival_line, house_line, chain_line};
-ghost use Rattle.hotel_lists.specs.Lines.{behind_line, note_line};
+ghost use Rattle.hotel_lists.specs.Listings.{ListEnds, listing, of_room, arrivals_listing, in_house_listing};
+ghost use Rattle.hotel_lists.specs.Listings.{chain_listing, left_behind_listing, audit_listing};
+ghost use Rattle.hotel_lists.specs.Lines.{LooksAt, FindsRoom};
 
 use crate::bytes::write_bytes;
 use crate::calls::IoCalls;
@@ -99,8 +96,7 @@ pub fn write_arrivals<B: Walks, W: Write>(
     writer: &mut W,
     calls: &mut IoCalls,
 ) -> Result<(), ListFault>
-    ensures text { B.is_honest books.new → ListEnds [] (Some
-        (listing arrivals_header arrival_line (arrivals_on (B.rows books.old) day))) (W.contents writer.old)
+    ensures text { B.is_honest books.new → ListEnds [] (arrivals_listing (B.rows books.old) day) (W.contents writer.old)
         (W.contents writer.new) result }
     ensures no_room { result ≡ Err NoRoom → ⊥ }
     ensures books { LooksAt B.Issued books.old books.new result }
@@ -116,8 +112,7 @@ pub fn write_in_house<B: Walks, W: Write>(
     writer: &mut W,
     calls: &mut IoCalls,
 ) -> Result<(), ListFault>
-    ensures text { B.is_honest books.new → ListEnds [] (Some
-        (listing in_house_header house_line (in_house_on (B.rows books.old)))) (W.contents writer.old)
+    ensures text { B.is_honest books.new → ListEnds [] (in_house_listing (B.rows books.old)) (W.contents writer.old)
         (W.contents writer.new) result }
     ensures no_room { result ≡ Err NoRoom → ⊥ }
     ensures books { LooksAt B.Issued books.old books.new result }
@@ -134,8 +129,7 @@ pub fn write_chain_of<B: Walks, W: Write>(
     writer: &mut W,
     calls: &mut IoCalls,
 ) -> Result<(), ListFault>
-    ensures text { B.is_honest books.new → ListEnds [] (of_room (is_some (room_at (B.rows books.old) room))
-        (listing chain_header chain_line (chain_on (B.rows books.old) room))) (W.contents writer.old)
+    ensures text { B.is_honest books.new → ListEnds [] (chain_listing (B.rows books.old) room) (W.contents writer.old)
         (W.contents writer.new) result }
     ensures books { LooksAt B.Issued books.old books.new result }
     ensures calls { CountsWrites calls.old calls.new (OnErrOf result Write) }
@@ -150,8 +144,7 @@ pub fn write_left_behind<B: Walks, W: Write>(
     writer: &mut W,
     calls: &mut IoCalls,
 ) -> Result<(), ListFault>
-    ensures text { B.is_honest books.new → ListEnds [] (Some
-        (listing left_behind_header behind_line (left_behind_on (B.rows books.old)))) (W.contents writer.old)
+    ensures text { B.is_honest books.new → ListEnds [] (left_behind_listing (B.rows books.old)) (W.contents writer.old)
         (W.contents writer.new) result }
     ensures no_room { result ≡ Err NoRoom → ⊥ }
     ensures books { LooksAt B.Issued books.old books.new result }
@@ -168,8 +161,7 @@ pub fn write_audit_of<B: Walks, W: Write>(
     writer: &mut W,
     calls: &mut IoCalls,
 ) -> Result<(), ListFault>
-    ensures text { B.is_honest books.new → ListEnds [] (of_room (is_some (room_at (B.rows books.old) room))
-        (listing audit_header note_line (notes_at (B.rows books.old).notes room))) (W.contents writer.old)
+    ensures text { B.is_honest books.new → ListEnds [] (audit_listing (B.rows books.old) room) (W.contents writer.old)
         (W.contents writer.new) result }
     ensures books { LooksAt B.Issued books.old books.new result }
     ensures calls { CountsWrites calls.old calls.new (OnErrOf result Write) }
