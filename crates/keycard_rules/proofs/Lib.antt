@@ -1,4 +1,5 @@
 pub mod NumeralLemmas
+pub mod Sinces
 pub mod Drawing
 pub mod ListedLemmas
 pub mod ChainLemmas

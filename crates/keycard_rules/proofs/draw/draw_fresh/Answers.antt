@@ -2,14 +2,13 @@ use Rattle.std.proofs.Common.{◌≡◌, ℕ, sym, ap, ◌∙◌, arith, ◌+◌
 use Rattle.keycard_rules.specs.Draw.{Draw}
 use Rattle.keycard_rules.proofs.Drawing.{past-zero, past-next, so_far_none, so_far_more, found, examines, moved_on}
 use Rattle.keycard_rules.proofs.Drawing.{no_more, answer_at, draw_is, drawn-none}
+use Rattle.keycard_rules.proofs.Sinces.{since_refl, since_then}
 use Rattle.keycard_rules.proofs.draw.draw_fresh.Goals as goal
 
 pub loop-init : goal.loop-init
 loop-init g c = record {
   moved = sym (past-zero _);
-  counted = λ why. omega arith;
-  was_clean = λ h. h;
-  was_honest = λ h. h;
+  since = since_refl;
   vouched = λ some honest. absurd (omega arith);
   kept = λ h. g.met.I.Issued.kept_refl _;
   so_far = λ h. so_far_none _ _;
@@ -18,8 +17,8 @@ loop-init g c = record {
 pub returns-in-Ok-false-clause-drawn : goal.returns-in-Ok-false-clause-drawn
 returns-in-Ok-false-clause-drawn g c = λ honest.
     let clean = c.in-Ok-false.ensures.vouched honest in
-    let so_far = c.loop.invariant.so_far (c.is_issued.ensures.was_honest honest) in
-    let before = c.is_issued.ensures.was_clean clean in
+    let so_far = c.loop.invariant.so_far (c.is_issued.ensures.since.was_honest honest) in
+    let before = c.is_issued.ensures.since.was_clean clean in
     let hit = answer_at _ _ _ _ _ _ (c.in-Ok-false.ensures.answer clean) c.in-Ok-false.field-0-test (g.met.I.Issued.kept_issued _ _ (c.loop.invariant.kept before)) c.of_word-code.ensures in
     let d = found _ _ _ _ _ _ so_far c.loop-test.true c.next_u64.ensures hit in
     let m = moved_on _ _ _ _ _ _ so_far c.loop-test.true c.next_u64.ensures in
@@ -27,27 +26,25 @@ returns-in-Ok-false-clause-drawn g c = λ honest.
 
 pub returns-in-Err-Memory-clause-drawn : goal.returns-in-Err-Memory-clause-drawn
 returns-in-Err-Memory-clause-drawn g c = λ honest.
-    let before = c.is_issued.ensures.was_honest honest in
+    let before = c.is_issued.ensures.since.was_honest honest in
     (_, examines _ _ _ _ _ _ (c.loop.invariant.so_far before) c.loop-test.true c.next_u64.ensures, moved_on _ _ _ _ _ _ (c.loop.invariant.so_far before) c.loop-test.true c.next_u64.ensures)
 
 pub returns-in-Err-Store-clause-drawn : goal.returns-in-Err-Store-clause-drawn
 returns-in-Err-Store-clause-drawn g c = λ honest.
-    let before = c.is_issued.ensures.was_honest honest in
+    let before = c.is_issued.ensures.since.was_honest honest in
     (_, examines _ _ _ _ _ _ (c.loop.invariant.so_far before) c.loop-test.true c.next_u64.ensures, moved_on _ _ _ _ _ _ (c.loop.invariant.so_far before) c.loop-test.true c.next_u64.ensures)
 
 pub loop-preserved : goal.loop-preserved
 loop-preserved g c = record {
   moved = past-next _ _ _ _ _ c.loop.invariant.moved c.next_u64.ensures;
-  counted = λ why. omega (arith, c.loop.invariant.counted why, c.is_issued.ensures.counted why);
-  was_clean = λ clean. c.loop.invariant.was_clean (c.is_issued.ensures.was_clean clean);
-  was_honest = λ honest. c.loop.invariant.was_honest (c.is_issued.ensures.was_honest honest);
+  since = since_then c.loop.invariant.since c.is_issued.ensures.since;
   vouched = λ some honest. c.in-Ok-true.ensures.vouched honest;
   kept = λ clean.
-      g.met.I.Issued.kept_trans _ _ _ (c.loop.invariant.kept (c.is_issued.ensures.was_clean clean)) (c.is_issued.ensures.kept clean);
+      g.met.I.Issued.kept_trans _ _ _ (c.loop.invariant.kept (c.is_issued.ensures.since.was_clean clean)) (c.is_issued.ensures.kept clean);
   so_far = λ honest.
       let clean = c.in-Ok-true.ensures.vouched honest in
-      let so_far = c.loop.invariant.so_far (c.is_issued.ensures.was_honest honest) in
-      let before = c.is_issued.ensures.was_clean clean in
+      let so_far = c.loop.invariant.so_far (c.is_issued.ensures.since.was_honest honest) in
+      let before = c.is_issued.ensures.since.was_clean clean in
       let hit = answer_at _ _ _ _ _ _ (c.in-Ok-true.ensures.answer clean) c.in-Ok-true.field-0-test (g.met.I.Issued.kept_issued _ _ (c.loop.invariant.kept before)) c.of_word-code.ensures in
       so_far_more _ _ _ _ _ _ so_far c.loop-test.true c.next_u64.ensures hit;
 }

@@ -1,5 +1,5 @@
 use Rattle.std.proofs.Common.{◌≡◌, ◌≤◌}
-use Rattle.keycard_rules.specs.{Rise.NoFewer, Draw.past}
+use Rattle.keycard_rules.specs.{Since.Since, Draw.past}
 use Rattle.keycard_rules.proofs.Drawing.{SoFar}
 use Rattle.keycard_rules.proofs.draw.draw_fresh.Given as goal
 
@@ -9,12 +9,9 @@ invariant-loop g l =
     let stream = g.R.Rng.stream in
     let is_clean = g.I.Issued.is_clean in
     let is_honest = g.I.Issued.is_honest in
-    let failures = g.I.Issued.failures in
     record {
       moved : stream l.source ≡ past l.counter (stream l.fn.source);
-      counted : NoFewer (failures l.fn.issued) (failures l.issued);
-      was_clean : is_clean l.issued → is_clean l.fn.issued;
-      was_honest : is_honest l.issued → is_honest l.fn.issued;
+      since : Since is_clean is_honest g.I.Issued.failures l.fn.issued l.issued;
       vouched : 1 ≤ l.counter → is_honest l.issued → is_clean l.issued;
       kept : is_clean l.issued → g.I.Issued.is_kept l.fn.issued l.issued;
       so_far : is_honest l.issued → SoFar (issued l.fn.issued) (stream l.fn.source) l.counter (stream l.source);
