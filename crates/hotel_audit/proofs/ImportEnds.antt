@@ -4,7 +4,7 @@ use Rattle.std.proofs.Common.{length, sym, refl, ap, append_assoc}
 use Rattle.std.specs.Prelude.{zip}
 use Rattle.hotel_core.proofs.Names.{Rows}
 use Rattle.hotel_model.proofs.LeadsOn.{leads_of}
-use Rattle.keycard_rules.specs.declared.issued.Issued.{Ghosts as IssuedOf}
+use Rattle.keycard_rules.specs.{Since.Since, declared.issued.Issued.Ghosts as IssuedOf}
 use Rattle.std.proofs.lemmas.List.{take-append-drop}
 use Rattle.hotel_audit.specs.{declared.answer.LineAnswer.LineAnswer, declared.audit_file.AuditFault.AuditFault}
 use Rattle.hotel_audit.specs.{declared.imports.ImportFault.ImportFault, declared.line.Line.Line}
@@ -63,16 +63,16 @@ module _ {B : Type 0} (I : IssuedOf B) (rows : B → Rows) (old new : B) (honest
   next_fails mid lines i next why more fails = (next, drop (i + 1) lines, ap (λ ls. Ok ls) (around lines i next more), fails)
 
   -- a line failed behind the state mid: those before it were answered, and what they led to stands
-  pub answered_before : (mid : B) (lines : List Line) (i : ℕ) (answers : List LineAnswer) (by : LookFault) → AreAnswered (take i lines) answers → (I.is_clean new → I.is_clean mid)
-      → (I.is_honest new → I.is_honest mid) → (I.is_clean mid → I.is_clean old) → (I.is_clean new → rows new ≡ rows mid)
+  pub answered_before : (mid : B) (lines : List Line) (i : ℕ) (answers : List LineAnswer) (by : LookFault) → AreAnswered (take i lines) answers
+      → Since I.is_clean I.is_honest I.failures old mid → Since I.is_clean I.is_honest I.failures mid new → (I.is_clean new → rows new ≡ rows mid)
       → (I.is_honest mid → LinesLeadOn (I.is_clean old) (rows old) (take i lines) answers (I.is_clean mid) (rows mid)) → (I.is_honest mid → replies_in answers ≢ [] → I.is_clean mid)
       → Passes (LineHappens I rows) old (zip (take i lines) answers) mid → NextFails I rows (Ok lines) (take i lines) mid by new
       → Imports I rows (Ok lines) old new (Err (stopped by (length answers) (has_taken answers)))
-  answered_before mid lines i answers by each clean_before honest_before began same happened vouched through fails =
+  answered_before mid lines i answers by each before last same happened vouched through fails =
       ended (Ok lines) (Err (stopped by (length answers) (has_taken answers))) (take i lines) answers each
       (ends_stopped by (Ok lines) (take i lines) answers (length answers) (has_taken answers) (drop i lines, ap (λ ls. Ok ls) (sym (take-append-drop i lines)), refl, refl))
-      (λ now. lead-same (I.is_clean old) (I.is_clean mid) (I.is_clean new) (rows old) (rows mid) (rows new) (take i lines) answers clean_before same (happened (honest_before now)))
-      (λ now noted. began (vouched (honest_before now) noted)) (λ now. tt) tt mid through
+      (λ now. lead-same (I.is_clean old) (I.is_clean mid) (I.is_clean new) (rows old) (rows mid) (rows new) (take i lines) answers last.was_clean same (happened (last.was_honest now)))
+      (λ now noted. before.was_clean (vouched (last.was_honest now) noted)) (λ now. tt) tt mid through
       (leaves_stopped I rows by (Ok lines) (take i lines) mid new (length answers) (has_taken answers) fails)
 
 -- nothing was begun

@@ -1,6 +1,6 @@
 use Rattle.std.proofs.Common.{◌≡◌, ◌≢◌, ◌≤◌, [], take, length, vec_len, vec_capacity}
 use Rattle.std.specs.Prelude.{zip}
-use Rattle.keycard_rules.specs.Rise.{NoFewer}
+use Rattle.keycard_rules.specs.Since.{Since}
 use Rattle.hotel_core.specs.Books.Passes.{Passes}
 use Rattle.hotel_audit.specs.Import.{AreAnswered, LineHappens, LinesLeadOn, replies_in}
 use Rattle.hotel_audit.proofs.imports.import_lines.Given as goal
@@ -11,9 +11,7 @@ invariant-loop-line g l =
     let is_honest = g.B.Issued.is_honest in
     let rows = g.B.Books.rows in
     record {
-      was_clean : is_clean l.books → is_clean l.fn.books;
-      was_honest : is_honest l.books → is_honest l.fn.books;
-      counted : NoFewer (g.B.Issued.failures l.fn.books) (g.B.Issued.failures l.books);
+      since : Since is_clean is_honest g.B.Issued.failures l.fn.books l.books;
       room : length l.lines ≤ vec_capacity l.answers;
       number : vec_len l.answers ≡ l.line-index;
       each : AreAnswered (take l.line-index l.lines) l.answers.items;

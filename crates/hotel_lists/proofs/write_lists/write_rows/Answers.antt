@@ -33,9 +33,7 @@ returns-clause-books g c =
     let walked = c.walk-walked.ensures in
     record {
       kept = walked.kept;
-      was_clean = walked.was_clean;
-      was_honest = walked.was_honest;
+      since = walked.since;
       vouched = λ honest. list_vouches g.W.Write.contents _ _ _ c.walk-walked.result c.finish-end.result c.listed.result (walked.vouched honest) c.finish-end.ensures.ends c.listed.ensures;
-      counted = walked.counted;
       store = λ e. let failed = store_failed g.W.Write.contents _ _ c.walk-walked.result c.finish-end.result c.listed.result c.finish-end.ensures.ends c.listed.ensures e in rw failed at walked.fault;
     }
