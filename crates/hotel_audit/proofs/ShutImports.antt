@@ -1,5 +1,5 @@
 -- Books that were not clean as a line began answer no note.
-use Rattle.std.proofs.Common.{[], Ok, subst, sym}
+use Rattle.std.proofs.Common.{◌∙◌, [], Ok, subst, sym}
 use Rattle.hotel_core.proofs.Names.{Rows, false≢true, is_failed}
 use Rattle.hotel_core.proofs.OfCode.ShutBooks.{happens_shut, passes_shut, reply_fails, tells_shut}
 use Rattle.hotel_core.specs.Books.Shut.{BeganShut}

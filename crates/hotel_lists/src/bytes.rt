@@ -5,6 +5,7 @@ ghost use Rattle.std.specs.Io.KnownBytes.{IsAtEnd};
 ghost use Rattle.hotel_lists.specs.Calls.{CountsReads, OnErrOf};
 ghost use Rattle.hotel_lists.specs.Bytes.{Writes, joined, ReadsOnto, ConsumesAtMost, whole_fault};
 ghost use Rattle.hotel_lists.specs.declared.bytes.ReadFault.TheVariants.{Read, Memory};
+ghost use Rattle.hotel_lists.specs.declared.bytes.TheConstants.{READ_BYTES};
 
 use crate::calls::{IoCalls, ReadFailed, WriteFailed, read_some, write_some};
 use std::alloc::{AllocError, Global};
@@ -67,10 +68,10 @@ impl From<AllocError> for ReadFault {
 }
 
 /// The most bytes that one read asks for.
-const CHUNK: usize = 4096;
+pub const READ_BYTES: usize = 4096;
 
 /// One read, whose bytes are put behind those that are there. It answers how many came: at most
-/// 4,096, and 0 only at the end of the input. After Memory the bytes of that read are lost.
+/// `READ_BYTES`, and 0 only at the end of the input. After Memory the bytes of that read are lost.
 pub fn read_more<R: Read>(
     reader: &mut R,
     bytes: &mut Vec<u8>,
@@ -78,13 +79,13 @@ pub fn read_more<R: Read>(
 ) -> Result<usize, ReadFault>
     ensures ok { IfOk result (λ n. ReadsOnto (R.remaining reader.old)
         (R.remaining reader.new) bytes.old.items bytes.new.items n) }
-    ensures most { IfOk result (λ n. n ≤ 4096) }
+    ensures most { IfOk result (λ n. n ≤ READ_BYTES) }
     ensures end { IfOk result (λ n. n ≡ 0 → IsAtEnd (R.remaining reader.new)) }
-    ensures lost { OnErr result (ConsumesAtMost 4096 (R.remaining reader.old) (R.remaining reader.new)) }
+    ensures lost { OnErr result (ConsumesAtMost READ_BYTES (R.remaining reader.old) (R.remaining reader.new)) }
     ensures err { OnErr result (bytes.new.items ≡ bytes.old.items) }
     ensures calls { CountsReads calls.old calls.new (OnErrOf result Read) }
 {
-    let mut chunk = [0; CHUNK];
+    let mut chunk = [0; READ_BYTES];
     let got = read_some(reader, &mut chunk, calls)?;
     bytes.extend_from_slice(&chunk[..got])?;
     Ok(got)

@@ -3,12 +3,13 @@
 ghost use Rattle.std.specs.Prelude.{◌≡◌, ◌+◌, ◌↔◌, ◌<◌, ◌≤◌, ℕ, true, false, IsTrue, length, take, IfOk, OnErr};
 ghost use Rattle.std.specs.Io.KnownBytes.{Appends, Consumes, IsAtEnd, Keeps};
 ghost use Rattle.hotel_lists.specs.Calls.{Calls, NoneForgotten, CountsReads, CountsWrites};
+ghost use Rattle.hotel_lists.specs.declared.calls.TheConstants.{LAST_INTERRUPTION};
 
 use std::io::{ErrorKind, Read, Write};
 use std::marker::Model;
 
 /// The interrupted reads and writes of one public call together: the one of this number is a fault.
-const LAST_INTERRUPTION: u32 = 1000;
+pub const LAST_INTERRUPTION: u32 = 1000;
 
 /// The reads and writes of one public call: how many were interrupted so far, and whether a read or a
 /// write failed. Each public call begins with none. It can't be copied, so that none is forgotten.
@@ -22,12 +23,13 @@ pub struct IoCalls {
 impl Model for IoCalls {
     ghost use Rattle.std.specs.Prelude.{◌≤◌};
     ghost use Rattle.hotel_lists.specs.Calls.{Calls};
+    ghost use Rattle.hotel_lists.specs.declared.calls.TheConstants.{LAST_INTERRUPTION};
 
     ghost Value = { Calls };
 
     ghost view = { λ c. record { interrupted = c.interrupted; read_failed = c.read_failed; write_failed = c.write_failed } };
 
-    ghost invariant = { λ c. c.interrupted ≤ 1000 };
+    ghost invariant = { λ c. c.interrupted ≤ LAST_INTERRUPTION };
 }
 
 impl IoCalls {
@@ -44,7 +46,7 @@ impl IoCalls {
 
     /// Counts an interrupted call, and says whether it is the last one.
     fn is_last(&mut self) -> bool
-        ensures last { IsTrue result ↔ (999 ≤ self.old.interrupted) }
+        ensures last { IsTrue result ↔ (LAST_INTERRUPTION ≤ self.old.interrupted + 1) }
         ensures counted { result ≡ false → self.new.interrupted ≡ self.old.interrupted + 1 }
         ensures calls { NoneForgotten self.old self.new }
     {

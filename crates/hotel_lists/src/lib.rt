@@ -11,8 +11,10 @@ mod listing;
 mod lists;
 mod write_lists;
 
-pub use bytes::{ReadFault, WholeFault, read_more, read_whole, write_bytes, write_parts};
-pub use calls::{IoCalls, ReadFailed, WriteFailed};
+pub use bytes::{
+    READ_BYTES, ReadFault, WholeFault, read_more, read_whole, write_bytes, write_parts,
+};
+pub use calls::{IoCalls, LAST_INTERRUPTION, ReadFailed, WriteFailed};
 pub use fault::ListFault;
 pub use lists::{arrivals, audit_of, chain_of, in_house, left_behind};
 pub use write_lists::{

@@ -38,7 +38,7 @@ returns-in-Note-clause-went g c =
     rw c.in-Note.is (
       c.report.result,
       c.answer_of.ensures,
-      (λ source. step_happens source source (command.Reported c.in-Note.note) c.report.result g.met.B.Issued.clean_honest f.since.was_clean f.since.was_honest f.since.counted (λ honest. f.happened honest source) f.failed f.vouched),
+      (λ source. step_happens source source (command.Reported c.in-Note.note) c.report.result g.met.B.Issued.clean_honest f.since (λ honest. f.happened honest source) f.failed f.vouched),
     )
 
 pub returns-in-Note-clause-happened : goal.returns-in-Note-clause-happened
