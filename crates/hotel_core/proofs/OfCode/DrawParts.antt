@@ -1,8 +1,8 @@
 -- A draw as a part of a step.
 use Rattle.std.proofs.Common.{ℕ, ◌≡◌, Bool, true, false, Some, None, Result, Ok, Err, IsErrAnd, List, refl, ap, sym}
 use Rattle.std.proofs.Common.{◌∙◌, arith, subst, option_map, IfSome, inr}
-use Rattle.hotel_core.proofs.Names.{false≢true, LookFault, Stream, HasRisen, Since, since_then, Draw, Draws, fault_in, draw_from}
-use Rattle.hotel_core.proofs.Names.{drawn, words, past, Change, Reply, Refused, Refusal, NoFreshCode, said_of, Rows}
+use Rattle.hotel_core.proofs.Names.{false≢true, LookFault, Stream, HasRisen, Since, since_then, Draw, Draws, fault_in}
+use Rattle.hotel_core.proofs.Names.{draw_from, drawn, words, past, Change, Reply, Refused, Refusal, NoFreshCode, said_of, Rows}
 use Rattle.hotel_core.proofs.Names.{codes_in, is_failed, Outcome, accepted, by_draw, made, GoesIf, made_by, AreWhole}
 use Rattle.hotel_core.proofs.Names.{StepsAs, DrawsCode, Drew, DrewNone, drawn_or, has_failed, refusal_of, reply_of}
 use Rattle.hotel_core.proofs.Names.{Ghosts as BooksOf}
@@ -10,7 +10,7 @@ use Rattle.keycard_rules.specs.Draw.{MovedAtMost}
 use Rattle.keycard_rules.specs.declared.issued.LookFault.TheVariants as look
 use Rattle.keycard_rules.specs.{declared.draw.DrawFault.DrawFault, declared.issued.Issued.Ghosts as IssuedOf}
 use Rattle.keycard_rules.specs.declared.draw.DrawFault.TheVariants as fault
-use Rattle.hotel_core.proofs.OfCode.Parts.{SoFar, passed_on, risen_later}
+use Rattle.hotel_core.proofs.OfCode.Parts.{SoFar, passed_on, risen_since}
 
 drew : (found : Result ℕ DrawFault) (issued : List ℕ) (source rest : Stream) → Draws issued source found rest → Drew (draw_from issued (words 64 source)) source rest (drawn_or found)
 unfolding drawn
@@ -102,7 +102,7 @@ undrawn {I = I} {B = B} {start = start} {old = old} {new = new} {source = source
             examined_by (outcome (B.rows start)) (draw_from (codes_in (B.rows old)) (words 64 source)) (draw_from (codes_in (B.rows start)) (words 64 source)) source rest reply_with change_with
                 (h (s.facts_hold before)) (ap (λ rs. draw_from (codes_in rs) (words 64 source)) (s.same before)) (d.moved honest k),
           );
-      fault = λ clean w cause k. risen_later (I.failures start cause) (I.failures old cause) (I.failures new cause) (s.since.counted cause) (d.fault cause (cc)) (d.since.counted cause);
+      fault = λ clean w cause k. risen_since cause s.since d.since (d.fault cause (cc));
     })
 
 made_after : (b : Bool) (o : Outcome Change) (draw : Draw) (code : ℕ) (reply_with : ℕ → Reply) (change_with : ℕ → Change) (rows mid later : Rows) (source rest : Stream) (answer : Reply)
@@ -144,5 +144,5 @@ drawn_ends {I = I} {B = B} {start = start} {old = old} {mid = mid} {new = new} {
   fault = λ clean w cause e.
       let then = t.since.was_clean clean in
       let here = subst AreWhole (sym (d.same then ∙ s.same (d.since.was_clean then))) w in
-      risen_later (I.failures start cause) (I.failures mid cause) (I.failures new cause) ((since_then s.since d.since).counted cause) (t.fault clean here cause e) (t.since.counted cause);
+      risen_since cause (since_then s.since d.since) t.since (t.fault clean here cause e);
 }

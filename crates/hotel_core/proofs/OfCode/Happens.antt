@@ -2,8 +2,8 @@
 use Rattle.std.proofs.Common.{◌≡◌, Bool, true, false, not, List, [], ◌∷◌, ◌++◌, length, zip, refl, ap, arith}
 use Rattle.std.specs.Prelude.{⊤}
 use Rattle.std.proofs.lemmas.Bool.{not-true}
-use Rattle.hotel_core.proofs.Names.{false≢true, Stream, Since, since_refl, since_then, AreCounted, failure_in, is_failed, Steps, Command}
-use Rattle.hotel_core.proofs.Names.{Reply, Refusal, Rows, History}
+use Rattle.hotel_core.proofs.Names.{false≢true, Stream, Since, since_refl, since_then, AreCounted, failure_in}
+use Rattle.hotel_core.proofs.Names.{is_failed, Steps, Command, Reply, Refusal, Rows, History}
 use Rattle.hotel_model.proofs.Invariants.Assurance.{assured}
 use Rattle.hotel_core.proofs.{OfCode.FailuresCounted.none_counted, OfCode.FailuresCounted.counted_join}
 use Rattle.hotel_model.specs.Leads.{LeadsOn}

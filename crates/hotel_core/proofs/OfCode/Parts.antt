@@ -1,8 +1,8 @@
 -- The parts of a step, one after the other.
 use Rattle.std.proofs.Common.{ℕ, ◌≡◌, ◌≤◌, Bool, true, false, Option, Some, None, Result, Ok, Err, refl, ap, sym, ◌∙◌}
 use Rattle.std.proofs.Common.{arith, subst, IsErrAnd, List, [], ◌∷◌, ◌++◌, ◌+◌, ◌⊎◌, inl, inr, nat_lt, cond}
-use Rattle.hotel_core.proofs.Names.{false≢true, Stream, past, HasRisen, LookFault, Since, since_refl, since_then, Change, Reply, Refused}
-use Rattle.hotel_core.proofs.Names.{Refusal, Store, Rows, number_after, is_failed, Outcome, refused, accepted, unless}
+use Rattle.hotel_core.proofs.Names.{false≢true, Stream, past, HasRisen, LookFault, Since, since_refl, since_then}
+use Rattle.hotel_core.proofs.Names.{Change, Reply, Refused, Refusal, Store, Rows, number_after, is_failed, Outcome, refused, accepted, unless}
 use Rattle.hotel_core.proofs.Names.{made, GoesIf, Goes, made_by, AreWhole, StepsAs, Finds, AnyRows, reply_of}
 use Rattle.hotel_core.proofs.Names.{refusal_of, first_refusal, Ghosts as BooksOf}
 use Rattle.keycard_rules.proofs.Drawing.{past-zero}
@@ -55,6 +55,11 @@ then_found {wanted = wanted} s f = record {
 pub risen_later : (a b c : ℕ) → a ≤ b → HasRisen b c → b ≤ c → HasRisen a c
 risen_later a b c h r k = grind arith
 
+-- a failure that was counted later was counted
+pub risen_since : {S : Type 0} {is_clean is_honest : S → Type 0} {failures : S → LookFault → ℕ} {start old new : S} (cause : LookFault)
+    → Since is_clean is_honest failures start old → Since is_clean is_honest failures old new → HasRisen (failures old cause) (failures new cause) → HasRisen (failures start cause) (failures new cause)
+risen_since cause first second risen = risen_later _ _ _ (first.counted cause) risen (second.counted cause)
+
 goes_at : (b : Bool) (o : Outcome Change) (rows later : Rows) (source : Stream) (why : Refusal)
     → (b ≡ false → o ≡ refused why) → later ≡ rows → GoesIf b o rows source (Refused why) later source
 goes_at true o rows later source why h same = (same, (0, omega arith, sym (past-zero source)))
@@ -76,8 +81,9 @@ stopped_where {I = I} {B = B} {are_whole = are_whole} {wanted = wanted} {start =
   since = since_then s.since f.since;
   vouched = λ honest k. f.vouched honest k;
   moved = λ honest k. inl refl;
-  fault = λ clean w cause k. risen_later (I.failures start cause) (I.failures old cause) (I.failures new cause) (s.since.counted cause)
-      (f.fault clean (subst are_whole (sym (s.same (f.since.was_clean clean))) (whole w (s.facts_hold (f.since.was_clean clean)))) cause (cc)) (f.since.counted cause);
+  fault = λ clean w cause k.
+      let before = f.since.was_clean clean in
+      risen_since cause s.since f.since (f.fault clean (subst are_whole (sym (s.same before)) (whole w (s.facts_hold before))) cause (cc));
 }
 
 -- the reply of a refusal that was passed on
@@ -142,7 +148,7 @@ ends {I = I} {B = B} {start = start} {old = old} {new = new} {outcome = outcome}
   moved = λ honest k. moved_as (I.is_clean old) (I.is_clean start) (last (B.rows old)).examined (outcome (B.rows start)).examined source rest
       (λ before. (s.since.was_clean before, ap (λ rs. (last rs).examined) (s.same before) ∙ ap (λ (o : Outcome Change). o.examined) (sym (h (s.facts_hold before))))) (t.moved honest k);
   fault = λ clean w cause e.
-      risen_later (I.failures start cause) (I.failures old cause) (I.failures new cause) (s.since.counted cause) (t.fault clean (subst AreWhole (sym (s.same (t.since.was_clean clean))) w) cause e) (t.since.counted cause);
+      risen_since cause s.since t.since (t.fault clean (subst AreWhole (sym (s.same (t.since.was_clean clean))) w) cause e);
 }
 
 pub only : {A : Type 0} {x y : A} → Some x ≡ Some y → x ≡ y
