@@ -1,4 +1,5 @@
 mod FieldsAt
+mod SameTexts
 mod Records
 mod NoteReplies
 mod ImportEnds

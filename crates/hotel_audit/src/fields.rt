@@ -1,6 +1,6 @@
 //! The fields of an audit file's record.
 
-ghost use Rattle.std.specs.Prelude.{◌≡◌, List, ℕ, option_map};
+ghost use Rattle.std.specs.Prelude.{◌≡◌, option_map};
 ghost use Rattle.csv.specs.Records.{fields_of};
 ghost use Rattle.hotel_audit.specs.Fields.{eight_fields, fields_under, seven_fields, texts_of};
 

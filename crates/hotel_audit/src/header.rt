@@ -1,11 +1,9 @@
 //! The header of an audit file.
 
-ghost use Rattle.std.specs.Prelude.{◌≡◌};
+ghost use Rattle.std.specs.Prelude.{◌≡◌, map};
 ghost use Rattle.csv.specs.Records.{fields_of};
-ghost use Rattle.hotel_audit.specs.Header.{are_same_texts, columns_of, names_of};
-ghost use Rattle.hotel_audit.specs.declared.header.Columns.TheVariants.{WithFit, WithoutFit};
+ghost use Rattle.hotel_audit.specs.Header.{are_same_texts, columns_of};
 
-use crate::fields::{eight_fields, seven_fields};
 use csv::ByteRecord;
 
 /// Which columns the lines of an audit file have.
@@ -17,49 +15,37 @@ pub(crate) enum Columns {
     WithoutFit,
 }
 
-fn is_with_fit(row: &ByteRecord) -> bool
-    ensures { result ≡ are_same_texts (fields_of row.now) (names_of WithFit) }
-{
-    match eight_fields(row) {
-        None => false,
-        Some(fields) => {
-            fields.room == b"room".as_slice()
-                && fields.fit == b"fit".as_slice()
-                && fields.count == b"count".as_slice()
-                && fields.kind == b"kind".as_slice()
-                && fields.card == b"card".as_slice()
-                && fields.old_code == b"old".as_slice()
-                && fields.new_code == b"new".as_slice()
-                && fields.moment == b"at".as_slice()
-        }
-    }
-}
+/// The names of the columns, in their order.
+static WITH_FIT: [&str; 8] = ["room", "fit", "count", "kind", "card", "old", "new", "at"];
 
-fn is_without_fit(row: &ByteRecord) -> bool
-    ensures { result ≡ are_same_texts (fields_of row.now) (names_of WithoutFit) }
+static WITHOUT_FIT: [&str; 7] = ["room", "count", "kind", "card", "old", "new", "at"];
+
+/// Whether the fields of the record are these texts and no more.
+fn has_texts(row: &ByteRecord, texts: &[&str]) -> bool
+    ensures { result ≡ are_same_texts (fields_of row.now) (map (λ text. text.now) texts.now) }
 {
-    match seven_fields(row) {
-        None => false,
-        Some(fields) => {
-            fields.room == b"room".as_slice()
-                && fields.count == b"count".as_slice()
-                && fields.kind == b"kind".as_slice()
-                && fields.card == b"card".as_slice()
-                && fields.old_code == b"old".as_slice()
-                && fields.new_code == b"new".as_slice()
-                && fields.moment == b"at".as_slice()
+    if row.len() != texts.len() {
+        return false;
+    }
+    for (index, text) in texts.iter().enumerate() {
+        let Some(field) = row.get(index) else {
+            return false;
+        };
+        if field != text.as_bytes() {
+            return false;
         }
     }
+    true
 }
 
 /// The columns that the record names, where it is a header.
 pub(crate) fn columns_of(row: &ByteRecord) -> Option<Columns>
     ensures { result ≡ columns_of (fields_of row.now) }
 {
-    if is_with_fit(row) {
+    if has_texts(row, &WITH_FIT) {
         return Some(Columns::WithFit);
     }
-    if is_without_fit(row) {
+    if has_texts(row, &WITHOUT_FIT) {
         return Some(Columns::WithoutFit);
     }
     None

@@ -1,6 +1,6 @@
 //! One line of an audit file: a note, or why it can't be read.
 
-ghost use Rattle.std.specs.Prelude.{◌≡◌, map, option_map};
+ghost use Rattle.std.specs.Prelude.{◌≡◌};
 ghost use Rattle.csv.specs.Records.{fields_of};
 ghost use Rattle.hotel_audit.specs.{Fields.texts_of, Line.act_of, Line.card_in, Line.happening, Line.note_of};
 ghost use Rattle.hotel_audit.specs.{Line.read_line};

@@ -1,6 +1,7 @@
 //! The texts of lines' answers, and of an import that was stopped.
-ghost use Rattle.std.specs.Prelude.{◌≡◌, ℕ, List, [], ◌∷◌, ◌++◌, ◌+◌, ◌≤◌, take, length, codes};
+ghost use Rattle.std.specs.Prelude.{◌≡◌, ◌++◌, ◌+◌, ◌≤◌, length};
 ghost use Rattle.hotel_core.specs.Texts.{reply_text};
+ghost use Rattle.hotel_audit.specs.declared.texts.TheConstants.{ANSWER_BYTES};
 ghost use Rattle.hotel_audit.specs.Answers.{answer_text, cause_name, cause_text, stopped_text};
 
 use crate::answer::LineAnswer;
@@ -8,11 +9,14 @@ use crate::line::Cause;
 use hotel_core::{Reply, reply_text};
 use keycard_rules::{LookFault, ShortText};
 
-/// The text of an answer: at most 85 bytes, the line feed included.
-pub type AnswerText = ShortText<85>;
+/// The most bytes of the text of an answer, the line feed included.
+const ANSWER_BYTES: usize = 85;
+
+/// The text of an answer: at most `ANSWER_BYTES`.
+pub type AnswerText = ShortText<ANSWER_BYTES>;
 
 fn push_reply(text: &mut AnswerText, reply: &Reply)
-    requires { length text.old + 64 ≤ 85 }
+    requires { length text.old + 64 ≤ ANSWER_BYTES }
     ensures { text.new ≡ text.old ++ reply_text reply.now }
 {
     text.push(reply_text(reply).as_bytes());
@@ -55,8 +59,11 @@ pub fn answer_text(number: usize, answer: &LineAnswer) -> AnswerText
     text
 }
 
-/// The text of an import that was stopped: at most 43 bytes, the line feed included.
-pub type StoppedText = ShortText<43>;
+/// The most bytes of what is said of an import that was stopped, the line feed included.
+const STOPPED_BYTES: usize = 43;
+
+/// The text of an import that was stopped: at most `STOPPED_BYTES`.
+pub type StoppedText = ShortText<STOPPED_BYTES>;
 
 /// What stopped an import, and the end of the line.
 const fn cause_text(by: LookFault) -> &'static [u8]

@@ -1,8 +1,8 @@
 //! The reads and writes of one public call. An interrupted one is made again, up to a limit of such calls.
 
-ghost use Rattle.std.specs.Prelude.{◌≡◌, ◌+◌, ◌↔◌, ◌<◌, ◌≤◌, ℕ, true, false, IsTrue, length, take, IfOk, OnErr};
+ghost use Rattle.std.specs.Prelude.{◌≡◌, ◌+◌, ◌↔◌, ◌<◌, ◌≤◌, true, false, IsTrue, length, take, IfOk, OnErr};
 ghost use Rattle.std.specs.Io.KnownBytes.{Appends, Consumes, IsAtEnd, Keeps};
-ghost use Rattle.hotel_lists.specs.Calls.{Calls, NoneForgotten, CountsReads, CountsWrites};
+ghost use Rattle.hotel_lists.specs.Calls.{NoneForgotten, CountsReads, CountsWrites};
 ghost use Rattle.hotel_lists.specs.declared.calls.TheConstants.{LAST_INTERRUPTION};
 
 use std::io::{ErrorKind, Read, Write};

@@ -1,5 +1,5 @@
 //! A sink that writes the lines of a list.
-ghost use Rattle.std.specs.Prelude.{◌≡◌, true, [], OnOk, OnErr};
+ghost use Rattle.std.specs.Prelude.{◌≡◌, [], OnOk, OnErr};
 ghost use Rattle.std.specs.Io.KnownBytes.{Appends};
 ghost use Rattle.hotel_lists.specs.{LineSink.SameEnds, LineSink.StopsAtWrite, LineSink.Finishes, Lines.listed};
 
