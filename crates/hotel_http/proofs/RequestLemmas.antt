@@ -133,21 +133,21 @@ whole_read known mid new n items headers spans is room within (head, at) taken r
     then_behind head known mid new items spans.len (λ more. begins n items more headers spans head is room within at) taken read (ends head at)
 
 -- a head was judged whole, and so was a request read
-pub request_ends : {known mid old new : Option (List ℕ)} {items bytes : List ℕ} {headers : List HeaderSpan} {found : Judged} {spans : RequestSpans}
-    {result : Result (Result Request Rejection) RequestFault} → found ≡ judged.Whole spans → bytes ≡ items → Consumes known mid items
+pub request_ends : (known mid old new : Option (List ℕ)) (result : Result (Result Request Rejection) RequestFault) {items bytes : List ℕ} {headers : List HeaderSpan}
+    {found : Judged} {spans : RequestSpans} → found ≡ judged.Whole spans → bytes ≡ items → Consumes known mid items
     → LiesWithin (take HEAD_BYTES items) headers found → IfSome known (λ input. IsJudged input (take HEAD_BYTES items) headers found)
     → ((head : RequestHead) → IsRequestAt (take HEAD_BYTES bytes) headers spans head → EndsHead head (λ left. drop spans.len (bytes ++ left)) mid old new result)
     → EndsRequest known old new result
-request_ends {known = known} {mid = mid} {old = old} {new = new} {items = items} {headers = headers} {spans = spans} {result = result} is same taken lies judged ends =
+request_ends known mid old new result {items = items} {headers = headers} {spans = spans} is same taken lies judged ends =
     let (within, of) = subst (LiesWithin (take HEAD_BYTES items) headers) is lies in
     let so = subst (λ (j : Judged). IfSome known (λ input. IsJudged input (take HEAD_BYTES items) headers j)) is judged in
     whole_ends known mid old new items (take HEAD_BYTES items) headers spans result taken so of
     (subst (λ (l : List ℕ). (head : RequestHead) → IsRequestAt (take HEAD_BYTES l) headers spans head → EndsHead head (λ left. drop spans.len (l ++ left)) mid old new result) same ends)
 
-pub request_read : {known mid new : Option (List ℕ)} {items bytes : List ℕ} {headers : List HeaderSpan} {found : Judged} {spans : RequestSpans} → length headers ≡ HEAD_FIELDS
+pub request_read : (known mid new : Option (List ℕ)) {items bytes : List ℕ} {headers : List HeaderSpan} {found : Judged} {spans : RequestSpans} → length headers ≡ HEAD_FIELDS
     → found ≡ judged.Whole spans → bytes ≡ items → Consumes known mid items → LiesWithin (take HEAD_BYTES items) headers found → ReadsWhile WantsHead known mid
     → ((head : RequestHead) → IsRequestAt (take HEAD_BYTES bytes) headers spans head → ReadsBehind head spans.len bytes mid new) → ReadsWhile WantsMore known new
-request_read {known = known} {mid = mid} {new = new} {items = items} {headers = headers} {spans = spans} room is same taken lies read behind =
+request_read known mid new {items = items} {headers = headers} {spans = spans} room is same taken lies read behind =
     let (within, of) = subst (LiesWithin (take HEAD_BYTES items) headers) is lies in
     whole_read known mid new HEAD_BYTES items headers spans refl room within of taken read
     (subst (λ (l : List ℕ). (head : RequestHead) → IsRequestAt (take HEAD_BYTES l) headers spans head → ReadsBehind head spans.len l mid new) same behind)

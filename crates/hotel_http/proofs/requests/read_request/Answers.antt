@@ -14,9 +14,11 @@ read_behind_head-requires g c =
 pub returns-clause-ends : goal.returns-clause-ends
 returns-clause-ends g c =
     let read = c.in_ok-read_head.ensures in
-    request_ends c.in-Whole.is c.deref.ensures.value read.taken read.within read.judged c.read_behind_head.ensures.ends
+    request_ends (g.R.Read.remaining c.args.reader.now) (g.R.Read.remaining c.read_head.new.reader) (g.W.Write.contents c.args.writer.now) (g.W.Write.contents c.read_behind_head.new.writer)
+    c.read_behind_head.result c.in-Whole.is c.deref.ensures.value read.taken read.within read.judged c.read_behind_head.ensures.ends
 
 pub returns-clause-wanted : goal.returns-clause-wanted
 returns-clause-wanted g c =
     let read = c.in_ok-read_head.ensures in
-    request_read (omega arith) c.in-Whole.is c.deref.ensures.value read.taken read.within read.wanted c.read_behind_head.ensures.wanted
+    request_read (g.R.Read.remaining c.args.reader.now) (g.R.Read.remaining c.read_head.new.reader) (g.R.Read.remaining c.read_behind_head.new.reader) (omega arith) c.in-Whole.is
+    c.deref.ensures.value read.taken read.within read.wanted c.read_behind_head.ensures.wanted
