@@ -8,7 +8,8 @@ use Rattle.httparse.specs.{Grammar.RequestHead, Spans.IsRequestAt, Spans.IsReque
 use Rattle.httparse.specs.{declared.spans.HeaderSpan.HeaderSpan, declared.spans.RequestSpans.RequestSpans}
 use Rattle.hotel_http.specs.Reads.{ReadsWhile}
 use Rattle.hotel_http.proofs.ReadLemmas.{reads_while}
-use Rattle.hotel_http.specs.{Body.ReadsBody, Body.interim_where, Head.BeginsWith, Head.IsJudged, Head.WantsHead}
+use Rattle.hotel_http.specs.{Body.ReadsBody, Body.interim_where, Head.BeginsWith, Head.IsJudged, Head.LiesWithin}
+use Rattle.hotel_http.specs.{Head.WantsHead, declared.head.Judged.Judged}
 use Rattle.hotel_http.specs.declared.head.TheConstants.{HEAD_BYTES, HEAD_FIELDS}
 use Rattle.hotel_http.specs.{Plan.plan_in, Plan.path_of}
 use Rattle.hotel_http.specs.Request.{Wanted, IsMeant, IsAsked, awaits, wanted_of, EndsBody, EndsHead, EndsRequest}
@@ -85,14 +86,14 @@ known_ends head len input items left old new (Err Read) taken begins ends = (awa
 known_ends head len input items left old new (Err Memory) taken begins ends = (awaits (plan_in head), ends, λ t. (head, drop len input, begins, t))
 
 -- a whole head, and what was read behind it
-pub request_ends : (known mid old new : Option (List ℕ)) (items front : List ℕ) (headers : List HeaderSpan) (spans : RequestSpans)
+whole_ends : (known mid old new : Option (List ℕ)) (items front : List ℕ) (headers : List HeaderSpan) (spans : RequestSpans)
     (result : Result (Result Request Rejection) RequestFault) → Consumes known mid items
     → IfSome known (λ input. IsJudged input front headers (judged.Whole spans)) → IsRequestOf front headers spans
     → ((head : RequestHead) → IsRequestAt front headers spans head → EndsHead head (λ left. drop spans.len (items ++ left)) mid old new result) → EndsRequest known old new result
-request_ends None mid old new items front headers spans result taken found (head, at) ends =
+whole_ends None mid old new items front headers spans result taken found (head, at) ends =
     unknown_ends head (λ left. drop spans.len (items ++ left)) mid old new result (ends head at)
-request_ends (Some input) None old new items front headers spans result taken found of ends = absurd taken
-request_ends (Some input) (Some left) old new items front headers spans result taken (head, begins, at) of ends =
+whole_ends (Some input) None old new items front headers spans result taken found of ends = absurd taken
+whole_ends (Some input) (Some left) old new items front headers spans result taken (head, begins, at) of ends =
     known_ends head spans.len input items left old new result taken begins (ends head at)
 
 -- nothing was read
@@ -125,8 +126,28 @@ then_behind head known mid new items len is taken read (inr (came, last, most, l
 )
 
 -- a whole head was read, and then what is behind it
-pub request_read : (known mid new : Option (List ℕ)) (n : ℕ) (items : List ℕ) (headers : List HeaderSpan) (spans : RequestSpans) → n ≡ HEAD_BYTES → length headers ≡ HEAD_FIELDS
+whole_read : (known mid new : Option (List ℕ)) (n : ℕ) (items : List ℕ) (headers : List HeaderSpan) (spans : RequestSpans) → n ≡ HEAD_BYTES → length headers ≡ HEAD_FIELDS
     → IsRequestWithin (take n items) headers spans → IsRequestOf (take n items) headers spans → Consumes known mid items → ReadsWhile WantsHead known mid
     → ((head : RequestHead) → IsRequestAt (take n items) headers spans head → ReadsBehind head spans.len items mid new) → ReadsWhile WantsMore known new
-request_read known mid new n items headers spans is room within (head, at) taken read ends =
+whole_read known mid new n items headers spans is room within (head, at) taken read ends =
     then_behind head known mid new items spans.len (λ more. begins n items more headers spans head is room within at) taken read (ends head at)
+
+-- a head was judged whole, and so was a request read
+pub request_ends : (known mid old new : Option (List ℕ)) (result : Result (Result Request Rejection) RequestFault) {items bytes : List ℕ} {headers : List HeaderSpan}
+    {found : Judged} {spans : RequestSpans} → found ≡ judged.Whole spans → bytes ≡ items → Consumes known mid items
+    → LiesWithin (take HEAD_BYTES items) headers found → IfSome known (λ input. IsJudged input (take HEAD_BYTES items) headers found)
+    → ((head : RequestHead) → IsRequestAt (take HEAD_BYTES bytes) headers spans head → EndsHead head (λ left. drop spans.len (bytes ++ left)) mid old new result)
+    → EndsRequest known old new result
+request_ends known mid old new result {items = items} {headers = headers} {spans = spans} is same taken lies judged ends =
+    let (within, of) = subst (LiesWithin (take HEAD_BYTES items) headers) is lies in
+    let so = subst (λ (j : Judged). IfSome known (λ input. IsJudged input (take HEAD_BYTES items) headers j)) is judged in
+    whole_ends known mid old new items (take HEAD_BYTES items) headers spans result taken so of
+    (subst (λ (l : List ℕ). (head : RequestHead) → IsRequestAt (take HEAD_BYTES l) headers spans head → EndsHead head (λ left. drop spans.len (l ++ left)) mid old new result) same ends)
+
+pub request_read : (known mid new : Option (List ℕ)) {items bytes : List ℕ} {headers : List HeaderSpan} {found : Judged} {spans : RequestSpans} → length headers ≡ HEAD_FIELDS
+    → found ≡ judged.Whole spans → bytes ≡ items → Consumes known mid items → LiesWithin (take HEAD_BYTES items) headers found → ReadsWhile WantsHead known mid
+    → ((head : RequestHead) → IsRequestAt (take HEAD_BYTES bytes) headers spans head → ReadsBehind head spans.len bytes mid new) → ReadsWhile WantsMore known new
+request_read known mid new {items = items} {headers = headers} {spans = spans} room is same taken lies read behind =
+    let (within, of) = subst (LiesWithin (take HEAD_BYTES items) headers) is lies in
+    whole_read known mid new HEAD_BYTES items headers spans refl room within of taken read
+    (subst (λ (l : List ℕ). (head : RequestHead) → IsRequestAt (take HEAD_BYTES l) headers spans head → ReadsBehind head spans.len l mid new) same behind)

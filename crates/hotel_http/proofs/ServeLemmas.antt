@@ -1,14 +1,14 @@
 -- What comes of a request, as it is answered.
 use Rattle.std.proofs.Common.{◌≡◌, ◌≢◌, ◌∙◌, ℕ, List, [], ◌∷◌, ◌++◌, map, refl, sym, ap, subst, inl, inr, append-nil}
 use Rattle.std.proofs.Common.{Option, Some, None, Result, Ok, Err, Bool, true, false, OnOk, OnErr}
-use Rattle.hotel_core.proofs.{Names.false≢true, Names.Stream, Names.NoFewer, Names.AreCounted, Names.failure_in}
+use Rattle.hotel_core.proofs.{Names.false≢true, Names.Stream, Names.AreCounted, Names.failure_in}
 use Rattle.hotel_core.proofs.{Names.History, Names.Rows}
 use Rattle.hotel_model.proofs.Invariants.Assurance.{assured}
 use Rattle.hotel_core.proofs.OfCode.Happens.{happens_as, happens_idle, happens_so, tells_once}
 use Rattle.std.specs.Result.{IsErrAnd}
 use Rattle.std.specs.Io.KnownBytes.{Appends}
 use Rattle.std.proofs.KnownBytes.{Appends-trans}
-use Rattle.keycard_rules.specs.declared.issued.Issued.{Ghosts as IssuedOf}
+use Rattle.keycard_rules.specs.{Since.Since, declared.issued.Issued.Ghosts as IssuedOf}
 use Rattle.hotel_model.specs.{declared.command.Command.Command, declared.reply.Reply.Reply}
 use Rattle.hotel_model.specs.{declared.reply.Refusal.Refusal}
 use Rattle.hotel_core.specs.{Books.Happens.Happens, Books.Happens.StepTold, Books.Happens.Tells}
@@ -56,16 +56,16 @@ command_came s t command given old new end step ends = happens_as (λ told h h' 
 
 -- a list is answered, and nothing changes
 pub list_came : {S : Type 0} {I : IssuedOf S} {rows : S → Rows} {a b : S} (its_list : ListAsk) (out : Outcome) (answers : Bool) (failed : List Refusal) (old new : Option (List ℕ)) (end : Result Served Cut)
-    → ((x : S) → I.is_clean x → I.is_honest x) → (I.is_clean b → I.is_clean a) → (I.is_honest b → I.is_honest a) → NoFewer (I.failures a) (I.failures b)
+    → ((x : S) → I.is_clean x → I.is_honest x) → Since I.is_clean I.is_honest I.failures a b
     → (I.is_clean b → rows b ≡ rows a) → (I.is_honest b → answers ≡ true → I.is_clean b) → out.answered ≡ answers ∷ []
     → ((listing : Option Listing) → (I.is_clean b → listing ≡ listing_on (rows a) its_list) → I.is_honest b → ListComes listing out failed) → EndsAs out [] old new end → AreCounted (I.failures a) (I.failures b) failed
     → (s : Stream) → Happens I rows a (Answered (AskComes (ask.List its_list)) s s [] old new end) b
-list_came {I = I} {rows = rows} {a = a} {b = b} its_list out answers failed old new end honest_is was_clean was_honest counted same vouched said comes ends are_counted s =
-    happens_so (answered_weaker (AskComes (ask.List its_list)) s s [] old new end) honest_is was_clean was_honest counted
+list_came {I = I} {rows = rows} {a = a} {b = b} its_list out answers failed old new end honest_is since same vouched said comes ends are_counted s =
+    happens_so (answered_weaker (AskComes (ask.List its_list)) s s [] old new end) honest_is since
     (λ honest h reached stands.
-    let told = subst (λ (l : List Bool). Tells I a b failed l) (sym said) (tells_once answers (λ clean. are_counted) (vouched honest) was_clean) in
-    let its = comes (listing_over h its_list) (λ clean. sym (listing_stands h (rows a) its_list (reached, stands (was_clean clean)))) honest in
-    (h, reached, (λ clean. same clean ∙ stands (was_clean clean)), (out, failed, (its, refl, refl), ends, told), assured h reached))
+    let told = subst (λ (l : List Bool). Tells I a b failed l) (sym said) (tells_once answers (λ clean. are_counted) (vouched honest) since.was_clean) in
+    let its = comes (listing_over h its_list) (λ clean. sym (listing_stands h (rows a) its_list (reached, stands (since.was_clean clean)))) honest in
+    (h, reached, (λ clean. same clean ∙ stands (since.was_clean clean)), (out, failed, (its, refl, refl), ends, told), assured h reached))
 
 -- the text of a list that was made
 pub list_there : (listing : Option Listing) (text : List ℕ) → IsListText listing (Ok text) → ListComes listing (outcome (list_answer text) Success false (true ∷ [])) []
@@ -106,12 +106,12 @@ import_tells file (Err (import.Store answered taken)) lines answers ends_after v
 
 -- an audit file is imported
 pub file_came : {S : Type 0} {I : IssuedOf S} {rows : S → Rows} {a b : S} (file : List ℕ) (import_end : Result (List LineAnswer) ImportFault) (old new : Option (List ℕ)) (end : Result Served Cut)
-    → ((x : S) → I.is_clean x → I.is_honest x) → (I.is_clean b → I.is_clean a) → (I.is_honest b → I.is_honest a) → NoFewer (I.failures a) (I.failures b)
+    → ((x : S) → I.is_clean x → I.is_honest x) → Since I.is_clean I.is_honest I.failures a b
     → Imports I rows (audit_lines file) a b import_end → ((why : AuditFault) → import_end ≡ Err (import.File why) → b ≡ a)
     → (I.is_clean b → AreCounted (I.failures a) (I.failures b) (import_failures import_end)) → EndsAs (imported import_end) [] old new end
     → (s : Stream) → Happens I rows a (Answered (FileComes file) s s [] old new end) b
-file_came file import_end old new end honest_is was_clean was_honest counted i same failed ends s =
-    happens_so (answered_weaker (FileComes file) s s [] old new end) honest_is was_clean was_honest counted
+file_came file import_end old new end honest_is since i same failed ends s =
+    happens_so (answered_weaker (FileComes file) s s [] old new end) honest_is since
     (λ honest h reached stands.
     let v = i.5 honest in
     let p = v.happened s h reached stands in (

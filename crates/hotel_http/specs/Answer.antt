@@ -44,6 +44,10 @@ head_text status media allow size =
 unfoldable pub answer_text : Status → Media → Option Method → List ℕ → List ℕ
 answer_text status media allow body = head_text status media allow (length body) ++ body
 
+-- the text of the reply that there was no memory
+abbrev pub memory_text : List ℕ
+memory_text = reply_text (reply.Refused refusal.Memory)
+
 -- the status of a rejection
 abbrev pub rejection_status : Rejection → Status
 rejection_status rejection.BadRequest = BadRequest
@@ -64,7 +68,7 @@ rejection_body rejection.BodyTooLarge = codes "too large\n"
 rejection_body rejection.NotFound = codes "not found\n"
 rejection_body (rejection.WrongMethod allowed) = codes "method not allowed\n"
 rejection_body rejection.Unread = codes "unread\n"
-rejection_body rejection.Memory = codes "refused 29 Memory\n"
+rejection_body rejection.Memory = memory_text
 
 -- the method that is allowed, where another one was asked for
 abbrev pub allowed_by : Rejection → Option Method

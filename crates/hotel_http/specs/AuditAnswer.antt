@@ -6,6 +6,7 @@ use Rattle.hotel_audit.specs.{declared.imports.ImportFault.ImportFault}
 use Rattle.hotel_audit.specs.declared.audit_file.AuditFault.TheVariants as file
 use Rattle.hotel_audit.specs.declared.imports.ImportFault.TheVariants as fault
 use Rattle.hotel_http.specs.{declared.answer.Media.TheVariants.Plain, declared.status.Status.Status, Answer.answer_text}
+use Rattle.hotel_http.specs.{Answer.memory_text}
 use Rattle.hotel_http.specs.declared.status.Status.TheVariants.{Success, BadRequest, ContentTooLarge, Unavailable}
 
 -- the answer to an audit file whose lines were all answered
@@ -26,7 +27,7 @@ abbrev pub fault_body : ImportFault → List ℕ
 fault_body (fault.File file.TooLarge) = codes "too large\n"
 fault_body (fault.File file.NoHeader) = codes "no header\n"
 fault_body (fault.File file.WrongHeader) = codes "wrong header\n"
-fault_body (fault.File file.Memory) = codes "refused 29 Memory\n"
+fault_body (fault.File file.Memory) = memory_text
 fault_body (fault.Memory answered taken) = stopped_text answered look.Memory
 fault_body (fault.Store answered taken) = stopped_text answered look.Store
 

@@ -1,9 +1,10 @@
 -- When a reader is read.
 use Rattle.std.specs.Prelude.{◌≤◌, ℕ, ◌++◌, List, length, Option}
 use Rattle.std.specs.Io.KnownBytes.{Consumes}
+use Rattle.hotel_lists.specs.declared.bytes.TheConstants.{READ_BYTES}
 
--- A reader lost bytes at its front, and more of them only while this held of those that had come: at most the last
--- 4,096 came behind such bytes.
+-- A reader lost bytes at its front, and more of them only while this held of those that had come: at most the bytes of
+-- one read came behind such bytes.
 abbrev pub ReadsWhile : (List ℕ → Type 0) → Option (List ℕ) → Option (List ℕ) → Type 0
 ReadsWhile wants old new =
-    (before : List ℕ) × (last : List ℕ) × (length last ≤ 4096) × Consumes old new (before ++ last) × wants before
+    (before : List ℕ) × (last : List ℕ) × (length last ≤ READ_BYTES) × Consumes old new (before ++ last) × wants before

@@ -3,8 +3,10 @@ use Rattle.std.specs.Prelude.{◌≡◌, ◌⊎◌, ℕ, Bool, true, false, not,
 use Rattle.std.specs.Prelude.{Result, Ok, Err}
 use Rattle.std.specs.{Io.KnownBytes.Appends, Option.unwrap_or}
 use Rattle.rand_core.specs.Stream.{Stream}
+use Rattle.keycard_rules.specs.{declared.issued.Issued.Ghosts as IssuedOf}
 use Rattle.hotel_model.specs.{declared.reply.Reply.Reply, declared.reply.Refusal.Refusal, History.History}
-use Rattle.hotel_core.specs.{Books.Failures.failure_in, Books.Happens.answered_by}
+use Rattle.hotel_model.specs.Rows.{Rows}
+use Rattle.hotel_core.specs.{Books.Failures.failure_in, Books.Happens.Happens, Books.Happens.answered_by}
 use Rattle.hotel_model.specs.declared.reply.Reply.TheVariants as reply
 use Rattle.hotel_model.specs.declared.reply.Refusal.TheVariants as refusal
 use Rattle.hotel_model.specs.Run.{Steps, Runs, is_failed}
@@ -27,7 +29,7 @@ use Rattle.hotel_http.specs.declared.requests.RequestFault.TheVariants as unread
 use Rattle.hotel_http.specs.declared.tasks.Task.TheVariants as task
 use Rattle.hotel_http.specs.Answer.{rejection_answer, rejection_status, reply_answer, reply_status, list_answer}
 use Rattle.hotel_http.specs.{AuditAnswer.lines_answer, AuditAnswer.fault_answer, AuditAnswer.fault_status}
-use Rattle.hotel_http.specs.{Body.interim_text}
+use Rattle.hotel_http.specs.{Body.interim_text, Body.interim_where}
 use Rattle.hotel_http.specs.{Request.Wanted, Request.Requests, Request.IsAwaited, Request.AtMostInterim}
 use Rattle.hotel_http.specs.{Status.number_of}
 
@@ -190,6 +192,15 @@ Serves known old new same went (Err (Write acted)) =
 Serves known old new same went (Err Closed) = same × Appends old new [] × IfSome known (λ input. input ≡ [])
 Serves known old new same went (Err Read) = same × AtMostInterim known old new
 Serves known old new same went (Err Memory) = same × AtMostInterim known old new
+
+-- A request was served over these books, with codes from this source. The answer's bytes are those that the writer's
+-- contents grew by.
+abbrev pub ServesOver : {B R : Type 0} → IssuedOf B → (B → Rows) → (R → Stream) → Option (List ℕ) → Option (List ℕ)
+    → Option (List ℕ) → B × R → B × R → Result Served ServeFault → Type 0
+ServesOver I rows stream known old new before after =
+    Serves known old new ((after.0 ≡ before.0) × (after.1 ≡ before.1))
+    (λ wanted awaited end. Happens I rows before.0 (Answered (Comes wanted) (stream before.1) (stream after.1)
+    (interim_where awaited) old new end) after.0)
 
 -- Where a write failed, this holds.
 abbrev pub IfUnwritten : Result Served ServeFault → Type 0 → Type 0

@@ -1,12 +1,11 @@
 //! The bytes of answers, from buffers of fixed size.
 
-ghost use Rattle.std.specs.Prelude.{◌≡◌, ◌≤◌, ◌++◌, None, length};
+ghost use Rattle.std.specs.Prelude.{◌≡◌, ◌≤◌, length};
 ghost use Rattle.hotel_lists.specs.Bytes.{Writes};
 ghost use Rattle.hotel_http.specs.declared.answer.Media.TheVariants.{Plain};
-ghost use Rattle.hotel_http.specs.Answer as spec;
 ghost use Rattle.hotel_http.specs.Answer.{media_type, allow_field, status_line, head_text, answer_text};
 ghost use Rattle.hotel_http.specs.Answer.{rejection_status, rejection_body, allowed_by, rejection_answer, reply_status};
-ghost use Rattle.hotel_http.specs.Answer.{reply_answer, list_answer};
+ghost use Rattle.hotel_http.specs.Answer.{reply_answer, list_answer, memory_text};
 
 use crate::buffer::HeadText;
 use crate::rejection::{Method, Rejection};
@@ -92,6 +91,14 @@ pub fn write_short<W: Write>(
     write_bytes(writer, text.as_bytes(), calls)
 }
 
+/// The text of the reply that there was no memory.
+pub fn memory_text() -> &'static [u8]
+    ensures same { result.now ≡ memory_text }
+    ensures short { length result.now ≤ 64 }
+{
+    b"refused 29 Memory\n"
+}
+
 /// The status of a rejection.
 pub fn rejection_status(why: Rejection) -> Status
     ensures { result ≡ rejection_status why }
@@ -119,7 +126,7 @@ fn rejection_body(why: Rejection) -> &'static [u8]
         Rejection::NotFound => b"not found\n",
         Rejection::WrongMethod(_) => b"method not allowed\n",
         Rejection::Unread => b"unread\n",
-        Rejection::Memory => b"refused 29 Memory\n",
+        Rejection::Memory => memory_text(),
     }
 }
 

@@ -5,7 +5,7 @@ ghost use Rattle.hotel_lists.specs.Bytes.{Writes};
 ghost use Rattle.hotel_audit.specs.{Answers.answers_text};
 ghost use Rattle.hotel_http.specs.AuditAnswer.{lines_answer, fault_status, fault_body, fault_answer};
 
-use crate::answer::{Media, head_text, write_short};
+use crate::answer::{Media, head_text, memory_text, write_short};
 use crate::buffer::HeadText;
 use crate::status::Status;
 use hotel_audit::{AuditFault, ImportFault, LineAnswer, answer_text, stopped_text, write_answers};
@@ -60,7 +60,7 @@ fn fault_body(why: &ImportFault) -> HeadText
         ImportFault::File(AuditFault::TooLarge) => text.push(b"too large\n"),
         ImportFault::File(AuditFault::NoHeader) => text.push(b"no header\n"),
         ImportFault::File(AuditFault::WrongHeader) => text.push(b"wrong header\n"),
-        ImportFault::File(AuditFault::Memory) => text.push(b"refused 29 Memory\n"),
+        ImportFault::File(AuditFault::Memory) => text.push(memory_text()),
         ImportFault::Memory { answered, .. } => {
             text.push(stopped_text(*answered, LookFault::Memory).as_bytes())
         }

@@ -1,7 +1,6 @@
 //! What a request asks for: its head, then its body, each checked in turn.
 
-ghost use Rattle.std.specs.Prelude.{◌≡◌, ◌≢◌, ◌++◌, ◌≤◌, List, ℕ, length, take, drop, IfOk, IfSome, IsUtf8};
-ghost use Rattle.std.specs.Io.KnownBytes.{Appends, Keeps};
+ghost use Rattle.std.specs.Prelude.{◌≡◌, ◌++◌, ◌≤◌, length, take, drop, IsUtf8};
 ghost use Rattle.httparse.specs.{Grammar.RequestHead, Spans.IsRequestWithin, Spans.IsRequestAt, Spans.span_bytes};
 ghost use Rattle.hotel_lists.specs.Calls.{CountsReads, CountsWrites, OnErrOf};
 ghost use Rattle.hotel_http.specs.Reads.{ReadsWhile};
@@ -9,7 +8,7 @@ ghost use Rattle.hotel_http.specs.{Body.ReadsBody, Plan.plan_in, Request.request
 ghost use Rattle.hotel_http.specs.{Request.EndsBody, Request.wanted_of, Request.EndsHead, Request.EndsRequest};
 ghost use Rattle.hotel_http.specs.Request.{ReadsBehind, WantsMore};
 ghost use Rattle.hotel_http.specs.declared.head.TheConstants.{HEAD_BYTES};
-ghost use Rattle.hotel_http.specs.declared.requests.RequestFault.TheVariants.{Write, Read, Memory};
+ghost use Rattle.hotel_http.specs.declared.requests.RequestFault.TheVariants.{Write, Read};
 
 use crate::body::{read_body, write_interim};
 use crate::head::{HEAD_FIELDS, Judged, head_part, read_head};

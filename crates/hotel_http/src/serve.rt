@@ -1,7 +1,6 @@
 //! One request, one answer.
 
-ghost use Rattle.std.specs.Prelude.{◌≡◌, [], true, Option, OnErr};
-ghost use Rattle.std.specs.Io.KnownBytes.{Appends};
+ghost use Rattle.std.specs.Prelude.{◌≡◌, [], true, OnErr};
 ghost use Rattle.rand_core.specs.Stream.{Stream};
 ghost use Rattle.keycard_rules.specs.{Since.Since};
 ghost use Rattle.hotel_core.specs.{Books.Failures.AreCounted, Books.Happens.Happens};
@@ -10,11 +9,10 @@ ghost use Rattle.hotel_asks.specs.Listings.{listing_on};
 ghost use Rattle.hotel_http.specs.Reads.{ReadsWhile};
 ghost use Rattle.hotel_http.specs.Request.{WantsMore};
 ghost use Rattle.hotel_asks.specs.declared.asks.Ask.TheVariants as ask;
-ghost use Rattle.hotel_http.specs.{Body.interim_where, declared.serve.ServeFault.TheVariants.Read};
-ghost use Rattle.hotel_http.specs.{declared.serve.ServeFault.TheVariants.Write};
-ghost use Rattle.hotel_http.specs.Serve.{rejected, replied, is_accepted, is_answered, taken_by, outcome, AskComes};
-ghost use Rattle.hotel_http.specs.Serve.{FileComes, TaskComes, Comes, EndsAs, Answered, ended, IsListText};
-ghost use Rattle.hotel_http.specs.Serve.{list_refusal, list_failures, text_in, Serves, IfUnwritten, serve_fault_of};
+ghost use Rattle.hotel_http.specs.declared.serve.ServeFault.TheVariants.{Read, Write};
+ghost use Rattle.hotel_http.specs.Serve.{rejected, replied, is_accepted, is_answered, taken_by, AskComes};
+ghost use Rattle.hotel_http.specs.Serve.{FileComes, TaskComes, EndsAs, Answered, ended, IsListText};
+ghost use Rattle.hotel_http.specs.Serve.{list_refusal, list_failures, text_in, ServesOver, IfUnwritten, serve_fault_of};
 
 use crate::answer::{rejection_status, reply_status, write_csv, write_rejection, write_reply};
 use crate::audit_answer::{fault_status, write_audit, write_fault};
@@ -274,11 +272,8 @@ pub fn serve_by<I: Read, W: Write, B: Walks, R: Rng>(
     source: &mut R,
     calls: &mut IoCalls,
 ) -> Result<Served, ServeFault>
-    ensures serves { Serves (I.remaining reader.old) (W.contents writer.old) (W.contents writer.new)
-        ((books.new ≡ books.old) × (source.new ≡ source.old))
-        (λ wanted awaited end. Happens B.Issued B.rows books.old
-        (Answered (Comes wanted) (R.stream source.old) (R.stream source.new) (interim_where awaited)
-        (W.contents writer.old) (W.contents writer.new) end) books.new) result }
+    ensures serves { ServesOver B.Issued B.rows R.stream (I.remaining reader.old) (W.contents writer.old)
+        (W.contents writer.new) (books.old, source.old) (books.new, source.new) result }
     ensures since { Since B.is_clean B.is_honest B.failures books.old books.new }
     ensures wanted { ReadsWhile WantsMore (I.remaining reader.old) (I.remaining reader.new) }
     ensures reads_counted { CountsReads calls.old calls.new (OnErrOf result Read) }
@@ -304,11 +299,8 @@ pub fn serve_one<I: Read, W: Write, B: Walks, R: Rng>(
     books: &mut B,
     source: &mut R,
 ) -> Result<Served, ServeFault>
-    ensures serves { Serves (I.remaining reader.old) (W.contents writer.old) (W.contents writer.new)
-        ((books.new ≡ books.old) × (source.new ≡ source.old))
-        (λ wanted awaited end. Happens B.Issued B.rows books.old
-        (Answered (Comes wanted) (R.stream source.old) (R.stream source.new) (interim_where awaited)
-        (W.contents writer.old) (W.contents writer.new) end) books.new) result }
+    ensures serves { ServesOver B.Issued B.rows R.stream (I.remaining reader.old) (W.contents writer.old)
+        (W.contents writer.new) (books.old, source.old) (books.new, source.new) result }
     ensures since { Since B.is_clean B.is_honest B.failures books.old books.new }
     ensures wanted { ReadsWhile WantsMore (I.remaining reader.old) (I.remaining reader.new) }
 {

@@ -1,6 +1,6 @@
 //! What a route asks for, by its path and the form behind the head.
 
-ghost use Rattle.std.specs.Prelude.{◌≡◌, true, List, [], ◌∷◌, map, IfOk, OnErr};
+ghost use Rattle.std.specs.Prelude.{◌≡◌, true, [], ◌∷◌, map, IfOk, OnErr};
 ghost use Rattle.hotel_asks.specs.{Asks.ask_of, Asks.ask_copies, Values.IsCopy};
 ghost use Rattle.hotel_http.specs.Tasks.{after_slash, before_slash, second_part, asked, of_field, of_part};
 ghost use Rattle.hotel_http.specs.Tasks.{of_part_and_room, of_room_and_kind, of_reservation, ask_in, has_fields};

@@ -63,10 +63,10 @@ scripts_nothing I rows stream contents old new [] p shut =
     ([], refl, none.0, none.1)
 scripts_nothing I rows stream contents old new (line ∷ later) p shut =
     let mid = p.0 in
-    let honest = passes_before (λ s. I.is_honest s.0) (LineHappens I rows stream contents) (λ a b l went. went.was_honest) mid new later p.2 shut.0 in
+    let honest = passes_before (λ s. I.is_honest s.0) (LineHappens I rows stream contents) (λ a b l went. went.since.was_honest) mid new later p.2 shut.0 in
     let s = happens_shut p.1 (honest, shut.1) in
     let one = s.2 in
-    let rest = scripts_nothing I rows stream contents mid new later p.2 (shut.0, λ clean. shut.1 (p.1.was_clean clean)) in
+    let rest = scripts_nothing I rows stream contents mid new later p.2 (shut.0, λ clean. shut.1 (p.1.since.was_clean clean)) in
     let single : length one.0 ≡ 1 = as_many _ (line ∷ []) one.0 s.0 s.1 (stream old.1) (stream mid.1) one.1 one.2 in (
       one.0 ++ rest.0,
       simp length-append (omega (arith, single, rest.1)),
@@ -135,5 +135,5 @@ comes_to_nothing I rows stream old new end went shut =
 
 pub serves_nothing : {S R : Type 0} (I : IssuedOf S) (rows : S → Rows) (stream : R → Stream) → ServesNothing I rows stream
 serves_nothing I rows stream =
-    passes_shut I (λ s. s.0) (ConnectionHappens I rows stream) ComesToNothing (λ old new end went. went.was_honest) (λ old new end went. went.was_clean)
+    passes_shut I (λ s. s.0) (ConnectionHappens I rows stream) ComesToNothing (λ old new end went. went.since.was_honest) (λ old new end went. went.since.was_clean)
     (comes_to_nothing I rows stream)

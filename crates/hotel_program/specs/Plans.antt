@@ -16,6 +16,7 @@ use Rattle.hotel_asks.specs.declared.values.ValueFault.TheVariants as fault
 use Rattle.hotel_asks.specs.declared.values.ValueName.{ValueName}
 use Rattle.hotel_asks.specs.declared.values.ValueName.TheVariants.{File, Port, Count}
 use Rattle.hotel_asks.specs.declared.verbs.Verb.{Verb}
+use Rattle.hotel_program.specs.declared.command_line.parse.TheConstants.{MOST_CONNECTIONS, MOST_PORT}
 use Rattle.hotel_program.specs.declared.command_line.plan.DeskAct.{DeskAct}
 use Rattle.hotel_program.specs.declared.command_line.plan.DeskAct.TheVariants.{One, List as AList, Audit, Script, Serve}
 use Rattle.hotel_program.specs.declared.command_line.plan.UsageFault.{UsageFault}
@@ -53,9 +54,9 @@ verb_act verb rows = do
 abbrev pub serve_act : List Row → Result DeskAct ValueFault
 serve_act rows = do
   port_text ← text_in rows Port
-  port ← number_in 65535 Port port_text
+  port ← number_in MOST_PORT Port port_text
   count_text ← text_in rows Count
-  count ← number_in 1000000 Count count_text
+  count ← number_in MOST_CONNECTIONS Count count_text
   Ok (Serve port count)
 
 -- A subcommand that is no verb.

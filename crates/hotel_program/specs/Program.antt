@@ -16,6 +16,7 @@ use Rattle.hotel_model.specs.History.{History, start}
 use Rattle.hotel_model.specs.Headline.{Assured}
 use Rattle.hotel_program.specs.declared.faults.Fault.{Fault}
 use Rattle.hotel_program.specs.declared.faults.Fault.TheVariants as fault
+use Rattle.hotel_program.specs.declared.files.TheConstants.{SEED_BYTES}
 use Rattle.hotel_program.specs.declared.script.TheConstants.{SCRIPT_LIMIT}
 use Rattle.hotel_program.specs.declared.script.ScriptEnd.{ScriptEnd}
 use Rattle.hotel_program.specs.declared.script.ScriptFault.{ScriptFault}
@@ -43,9 +44,9 @@ abbrev pub IsNoText : Result (Vec (String Global) Global) Error → Type 0
 IsNoText (Ok words) = ⊥
 IsNoText (Err why) = error_kind why ≢ OutOfMemory
 
--- The words of the source whose seed is 32 zero bytes.
+-- The words of the source whose seed is all zero bytes.
 abbrev pub zero_seeded : Stream
-zero_seeded = stream_of (steps_u32 (next_word 10)) (of_seed (replicate 32 0))
+zero_seeded = stream_of (steps_u32 (next_word 10)) (of_seed (replicate SEED_BYTES 0))
 
 -- This went over a new desk in memory: from no rows, a source of zeros and no failure, to a history of which what is
 -- assured holds, while so many calls found no memory.

@@ -1,6 +1,7 @@
 //! What the program reads of files itself: a seed, and an audit file.
 
-ghost use Rattle.std.specs.Prelude.{◌≡◌, ◌<◌, ◌≤◌, ◌+◌, length, take, Err, IfOk, IfErr, IfSome};
+ghost use Rattle.std.specs.Prelude.{◌≡◌, ◌<◌, ◌≤◌, ◌+◌, ◌-◌, length, take, Err, IfOk, IfErr, IfSome};
+ghost use Rattle.hotel_lists.specs.declared.bytes.TheConstants.{READ_BYTES};
 ghost use Rattle.hotel_http.specs.Reads.{ReadsWhile};
 ghost use Rattle.hotel_program.specs.Faults.{IsOfFiles};
 ghost use Rattle.hotel_program.specs.Files.{IsFront, read_fault};
@@ -18,7 +19,7 @@ pub const SEED_BYTES: usize = 32;
 /// Reads all the bytes that the reader has; or, where it has more than `most`, more than `most` of them.
 fn read_front<R: Read>(alloc: Global, reader: &mut R, most: usize) -> Result<Vec<u8>, ReadFault>
     ensures front { IfOk result (λ bytes. IfSome (R.remaining reader.old) (IsFront most bytes.items)) }
-    ensures few { IfOk result (λ bytes. length bytes.items ≤ most + 4096) }
+    ensures few { IfOk result (λ bytes. length bytes.items ≤ most + READ_BYTES) }
     ensures wanted { ReadsWhile (λ came. length came ≤ most) (R.remaining reader.old) (R.remaining reader.new) }
 {
     let mut calls = IoCalls::none();
@@ -42,11 +43,12 @@ fn read_fault(fault: ReadFault) -> Fault
     }
 }
 
-/// The first 32 bytes that the reader has. Where it has fewer, that is the fault.
+/// The first `SEED_BYTES` that the reader has. Where it has fewer, that is the fault.
 pub fn seed_in<R: Read>(alloc: Global, reader: &mut R) -> Result<[u8; SEED_BYTES], Fault>
-    ensures seed { IfOk result (λ seed. IfSome (R.remaining reader.old) (λ input. seed ≡ take 32 input)) }
-    ensures short { result ≡ Err Seed → IfSome (R.remaining reader.old) (λ input. length input < 32) }
-    ensures wanted { ReadsWhile (λ came. length came ≤ 31) (R.remaining reader.old) (R.remaining reader.new) }
+    ensures seed { IfOk result (λ seed. IfSome (R.remaining reader.old) (λ input. seed ≡ take SEED_BYTES input)) }
+    ensures short { result ≡ Err Seed → IfSome (R.remaining reader.old) (λ input. length input < SEED_BYTES) }
+    ensures wanted { ReadsWhile (λ came. length came ≤ SEED_BYTES - 1) (R.remaining reader.old)
+        (R.remaining reader.new) }
     ensures fault { IfErr result IsOfFiles }
 {
     match read_front(alloc, reader, SEED_BYTES - 1) {
@@ -62,7 +64,7 @@ pub fn seed_in<R: Read>(alloc: Global, reader: &mut R) -> Result<[u8; SEED_BYTES
 /// that, so that it is known to have too many.
 pub fn audit_file_in<R: Read>(alloc: Global, reader: &mut R) -> Result<Vec<u8>, Fault>
     ensures bytes { IfOk result (λ bytes. IfSome (R.remaining reader.old) (IsFront AUDIT_BYTES bytes.items)) }
-    ensures few { IfOk result (λ bytes. length bytes.items ≤ AUDIT_BYTES + 4096) }
+    ensures few { IfOk result (λ bytes. length bytes.items ≤ AUDIT_BYTES + READ_BYTES) }
     ensures wanted { ReadsWhile (λ came. length came ≤ AUDIT_BYTES) (R.remaining reader.old) (R.remaining reader.new) }
     ensures fault { IfErr result IsOfFiles }
 {

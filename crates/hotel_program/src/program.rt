@@ -1,6 +1,6 @@
 //! What the program does, and its exit status.
 
-ghost use Rattle.std.specs.Prelude.{◌≡◌, ◌≢◌, Ok, Err, Some, IfErr, Result, map, string_bytes};
+ghost use Rattle.std.specs.Prelude.{◌≡◌, ◌≢◌, Some, IfErr, Result, map, string_bytes};
 ghost use Rattle.std.specs.IoError.{error_kind};
 ghost use Rattle.std.specs.Result.{result_map_both};
 ghost use Rattle.hotel_program.specs.declared.faults.Fault.TheVariants.{Usage, Memory};
@@ -15,6 +15,7 @@ ghost use Rattle.hotel_program.specs.Program.{HasNoWords, IfWords, IsNoText, Lac
 use crate::acts::{end_of_script, run_act};
 use crate::command_line::{DeskAct, FileName, Plan, UsageFault, parse_words};
 use crate::faults::{Fault, FaultSink, finish};
+use crate::files::SEED_BYTES;
 use crate::script::run_script;
 use crate::statuses::{DONE, USAGE};
 use crate::surroundings::{Databases, Surroundings};
@@ -37,7 +38,7 @@ fn answer_script<I: Read, W: Write>(
 {
     let mut books = ListBooks::empty(alloc);
     books.known_sound();
-    let mut source = ChaCha20Rng::from_seed([0; 32]);
+    let mut source = ChaCha20Rng::from_seed([0; SEED_BYTES]);
     let end = run_script(alloc, reader, writer, &mut books, &mut source);
     end_of_script(end)
 }

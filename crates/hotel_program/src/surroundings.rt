@@ -2,6 +2,7 @@
 
 use crate::command_line::FileName;
 use crate::faults::Fault;
+use crate::files::SEED_BYTES;
 use std::alloc::Global;
 use std::net::TcpListener;
 use std::time::Clock;
@@ -23,8 +24,12 @@ pub trait Surroundings: Clock {
     /// The same of a port.
     ghost port_bound: { Self → ℕ → Result (Unit {0}) Fault → Self → Type 0 };
 
-    /// The first 32 bytes of the file, or of the system's source of random bytes where none is named.
-    fn read_seed(&mut self, alloc: Global, name: Option<&FileName>) -> Result<[u8; 32], Fault>
+    /// The first `SEED_BYTES` of the file, or of the system's source of random bytes where none is named.
+    fn read_seed(
+        &mut self,
+        alloc: Global,
+        name: Option<&FileName>,
+    ) -> Result<[u8; SEED_BYTES], Fault>
         ensures read { seed_read self.old (option_map (λ n. n.now) name.entry) result self.new }
         ensures fault { IfErr result IsOfFiles };
 

@@ -10,14 +10,14 @@ use std::io::{self, Read, Write};
 use std::net::TcpStream;
 use std::time::{Clock, Duration, Instant};
 
-/// How many seconds all the reads of a connection may take together, and as many all its writes.
-const PATIENCE: u64 = 10;
+/// How many nanoseconds all the reads of a connection may take together, and as many all its writes: ten seconds.
+pub const PATIENCE: u64 = 10_000_000_000;
 
 /// The time that a connection has.
 fn patience() -> Duration
-    ensures { as_nanos result ≡ 10_000_000_000 }
+    ensures { as_nanos result ≡ PATIENCE }
 {
-    Duration::from_secs(PATIENCE)
+    Duration::from_nanos(PATIENCE)
 }
 
 /// What can limit how long a read and a write may take. What comes of a limit is not known to contracts: they say which
@@ -128,8 +128,8 @@ impl<C: Clock> Link for ClockedStream<'_, C> {
 
 /// Sets how long a read and a write of the connection may take: whether the system took both limits.
 pub fn has_limits<L: Limits + Drop>(stream: L) -> bool
-    ensures { (first : Result (Unit {0}) Error) × (mid : L) × L.reads_limited stream 10_000_000_000 first mid
-        × SecondSet (λ old. L.writes_limited old 10_000_000_000) first mid result }
+    ensures { (first : Result (Unit {0}) Error) × (mid : L) × L.reads_limited stream PATIENCE first mid
+        × SecondSet (λ old. L.writes_limited old PATIENCE) first mid result }
 {
     let mut stream = stream;
     stream.limit_reads(patience()).is_ok() && stream.limit_writes(patience()).is_ok()
@@ -181,7 +181,7 @@ pub struct TimedReader<L> {
 
 impl<'c, C: Clock> TimedReader<ClockedStream<'c, C>> {
     pub fn new(stream: &'c TcpStream, clock: &'c C) -> TimedReader<ClockedStream<'c, C>>
-        ensures { as_nanos result.left ≡ 10_000_000_000 }
+        ensures { as_nanos result.left ≡ PATIENCE }
     {
         TimedReader {
             link: ClockedStream { stream, clock },
@@ -211,7 +211,7 @@ pub struct TimedWriter<L> {
 
 impl<'c, C: Clock> TimedWriter<ClockedStream<'c, C>> {
     pub fn new(stream: &'c TcpStream, clock: &'c C) -> TimedWriter<ClockedStream<'c, C>>
-        ensures { as_nanos result.left ≡ 10_000_000_000 }
+        ensures { as_nanos result.left ≡ PATIENCE }
     {
         TimedWriter {
             link: ClockedStream { stream, clock },

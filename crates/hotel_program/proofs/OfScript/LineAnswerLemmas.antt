@@ -4,8 +4,8 @@ use Rattle.std.proofs.Common.{None, Result, Ok, Err, OnOk, OnErr}
 use Rattle.std.specs.Io.KnownBytes.{Appends}
 use Rattle.std.proofs.lemmas.Bool.{not-true}
 use Rattle.rand_core.specs.Stream.{Stream}
-use Rattle.keycard_rules.specs.Rise.{NoFewer}
-use Rattle.keycard_rules.specs.declared.issued.Issued.{Ghosts as IssuedOf}
+use Rattle.keycard_rules.specs.{Since.Since, declared.issued.Issued.Ghosts as IssuedOf}
+use Rattle.keycard_rules.proofs.Sinces.{since_refl}
 use Rattle.hotel_core.proofs.Names.{false≢true}
 use Rattle.hotel_model.proofs.Invariants.Assurance.{assured}
 use Rattle.hotel_core.proofs.OfCode.FailuresCounted.{none_counted}
@@ -47,22 +47,22 @@ ends_weaker wanted s s' old new (Err failed) kept kept' told told' h h' back mor
 
 -- a command is carried out
 pub command_ends : {S : Type 0} {I : IssuedOf S} {rows : S → Rows} {a b : S} (s t : Stream) (command : Command) (reply : Reply) (old new : Option (List ℕ)) (written : Result (Unit {0}) WriteFailed)
-    → ((x : S) → I.is_clean x → I.is_honest x) → (I.is_clean b → I.is_clean a) → (I.is_honest b → I.is_honest a) → NoFewer (I.failures a) (I.failures b)
+    → ((x : S) → I.is_clean x → I.is_honest x) → Since I.is_clean I.is_honest I.failures a b
     → (I.is_honest b → LeadsOn (I.is_clean a) (rows a) (λ h h'. Steps h s command reply h' t) (I.is_clean b) (rows b))
     → (I.is_clean b → AreCounted (I.failures a) (I.failures b) (failure_in reply)) → (I.is_honest b → is_failed reply ≡ false → I.is_clean b)
     → OnOk written (Appends old new (reply_text reply)) → OnErr written (AppendsFront old new (reply_text reply)) → HappensBy I rows a (AskEnds (Some (ask.Command command)) s t old new written) b
-command_ends {I = I} {a = a} {b = b} s t command reply old new (Ok done) honest_is was_clean was_honest counted step failed vouched whole front =
-    so_by (ends_weaker (Some (ask.Command command)) s t old new (Ok done)) honest_is was_clean was_honest counted
+command_ends {I = I} {a = a} {b = b} s t command reply old new (Ok done) honest_is since step failed vouched whole front =
+    so_by (ends_weaker (Some (ask.Command command)) s t old new (Ok done)) honest_is since
     (λ honest h reached stands.
     let p = step honest h reached stands in
-    let told = tells_once (not (tells_failure (reply_text reply))) (λ clean. known_counted (I.failures a) (I.failures b) reply (copies command) counted (failed clean))
-    (λ k. vouched honest (reply_sure reply (not-true (tells_failure (reply_text reply)) k))) was_clean in
+    let told = tells_once (not (tells_failure (reply_text reply))) (λ clean. known_counted (I.failures a) (I.failures b) reply (copies command) since.counted (failed clean))
+    (λ k. vouched honest (reply_sure reply (not-true (tells_failure (reply_text reply)) k))) since.was_clean in
     (p.0, p.1, p.2, (reply_text reply, counted_in reply (copies command), (reply, p.3, refl, refl), whole, told), p.4))
-command_ends {I = I} {a = a} {b = b} s t command reply old new (Err cut) honest_is was_clean was_honest counted step failed vouched whole front =
-    so_by (ends_weaker (Some (ask.Command command)) s t old new (Err cut)) honest_is was_clean was_honest counted
+command_ends {I = I} {a = a} {b = b} s t command reply old new (Err cut) honest_is since step failed vouched whole front =
+    so_by (ends_weaker (Some (ask.Command command)) s t old new (Err cut)) honest_is since
     (λ honest h reached stands.
     let p = step honest h reached stands in
-    let told = tells_once false (λ clean. known_counted (I.failures a) (I.failures b) reply (copies command) counted (failed clean)) (λ k. absurd (false≢true k)) was_clean in
+    let told = tells_once false (λ clean. known_counted (I.failures a) (I.failures b) reply (copies command) since.counted (failed clean)) (λ k. absurd (false≢true k)) since.was_clean in
     (p.0, p.1, p.2, (reply_text reply, counted_in reply (copies command), (reply, p.3, refl, refl), front, told), p.4))
 
 either : {C : Type 0} (b : Bool) → (b ≡ true → C) → (b ≡ false → C) → C
@@ -71,42 +71,42 @@ either false f g = g refl
 
 -- the answer to a list is cut short, and nothing happens
 pub list_cut : {S : Type 0} {I : IssuedOf S} {rows : S → Rows} {a b : S} (its_list : ListAsk) (s : Stream) (old new : Option (List ℕ))
-    → ((x : S) → I.is_clean x → I.is_honest x) → (I.is_clean b → I.is_clean a) → (I.is_honest b → I.is_honest a) → NoFewer (I.failures a) (I.failures b) → (I.is_clean b → rows b ≡ rows a)
+    → ((x : S) → I.is_clean x → I.is_honest x) → Since I.is_clean I.is_honest I.failures a b → (I.is_clean b → rows b ≡ rows a)
     → (I.is_honest b → ListAnswered (listing_on (rows a) its_list) (AppendsFront old new) (AreCounted (I.failures a) (I.failures b)))
     → HappensBy I rows a (λ kept. AskAnswered (λ text. kept) (AppendsFront old new) (λ text. false ∷ []) (Some (ask.List its_list)) s s) b
-list_cut {I = I} {rows = rows} {a = a} {b = b} its_list s old new honest_is was_clean was_honest counted same front =
+list_cut {I = I} {rows = rows} {a = a} {b = b} its_list s old new honest_is since same front =
     so_by (λ kept kept' told told' h h' back more w. (w.0, w.1, ask_weaker (λ text. kept) (λ text. kept') (Some (ask.List its_list)) h h' s s w.0 w.1 (λ text now. back now) w.2, w.3, more w.1 (false ∷ []) w.4))
-    honest_is was_clean was_honest counted
+    honest_is since
     (λ honest h reached stands.
     let it = front honest in
-    let answers : I.is_clean b → AnswersList (listing_over h its_list) it.0 it.1 = λ clean. subst (λ (l : Option Listing). AnswersList l it.0 it.1) (listing_stands h (rows a) its_list (reached, stands (was_clean clean))) it.2 in
-    let told = tells_once false (λ clean. it.4) (λ k. absurd (false≢true k)) was_clean in
-    (h, reached, (λ clean. same clean ∙ stands (was_clean clean)), (it.0, it.1, (answers, refl, refl), it.3, told), assured h reached))
+    let answers : I.is_clean b → AnswersList (listing_over h its_list) it.0 it.1 = λ clean. subst (λ (l : Option Listing). AnswersList l it.0 it.1) (listing_stands h (rows a) its_list (reached, stands (since.was_clean clean))) it.2 in
+    let told = tells_once false (λ clean. it.4) (λ k. absurd (false≢true k)) since.was_clean in
+    (h, reached, (λ clean. same clean ∙ stands (since.was_clean clean)), (it.0, it.1, (answers, refl, refl), it.3, told), assured h reached))
 
 -- a list is answered, and nothing happens
 pub list_ends : {S : Type 0} {I : IssuedOf S} {rows : S → Rows} {a b : S} (its_list : ListAsk) (s : Stream) (old new : Option (List ℕ)) (written : Result (Unit {0}) WriteFailed)
-    → ((x : S) → I.is_clean x → I.is_honest x) → (I.is_clean b → I.is_clean a) → (I.is_honest b → I.is_honest a) → NoFewer (I.failures a) (I.failures b) → (I.is_clean b → rows b ≡ rows a)
+    → ((x : S) → I.is_clean x → I.is_honest x) → Since I.is_clean I.is_honest I.failures a b → (I.is_clean b → rows b ≡ rows a)
     → (I.is_honest b → OnOk written (ListAnswered (listing_on (rows a) its_list) (Whole old new (I.is_clean b)) (AreCounted (I.failures a) (I.failures b))))
     → (I.is_honest b → OnErr written (ListAnswered (listing_on (rows a) its_list) (AppendsFront old new) (AreCounted (I.failures a) (I.failures b))))
     → HappensBy I rows a (AskEnds (Some (ask.List its_list)) s s old new written) b
-list_ends {I = I} {rows = rows} {a = a} {b = b} its_list s old new (Ok done) honest_is was_clean was_honest counted same whole front =
-    so_by (ends_weaker (Some (ask.List its_list)) s s old new (Ok done)) honest_is was_clean was_honest counted
+list_ends {I = I} {rows = rows} {a = a} {b = b} its_list s old new (Ok done) honest_is since same whole front =
+    so_by (ends_weaker (Some (ask.List its_list)) s s old new (Ok done)) honest_is since
     (λ honest h reached stands.
     let it = whole honest in
-    let answers : I.is_clean b → AnswersList (listing_over h its_list) it.0 it.1 = λ clean. subst (λ (l : Option Listing). AnswersList l it.0 it.1) (listing_stands h (rows a) its_list (reached, stands (was_clean clean))) it.2 in
-    let told = tells_once (not (tells_failure it.0)) (λ clean. it.4) (λ k. it.3.1 (not-true (tells_failure it.0) k)) was_clean in
-    (h, reached, (λ clean. same clean ∙ stands (was_clean clean)), (it.0, it.1, ((λ sure. answers (either (tells_failure it.0) sure it.3.1)), refl, refl), it.3.0, told), assured h reached))
-list_ends its_list s old new (Err cut) honest_is was_clean was_honest counted same whole front = list_cut its_list s old new honest_is was_clean was_honest counted same front
+    let answers : I.is_clean b → AnswersList (listing_over h its_list) it.0 it.1 = λ clean. subst (λ (l : Option Listing). AnswersList l it.0 it.1) (listing_stands h (rows a) its_list (reached, stands (since.was_clean clean))) it.2 in
+    let told = tells_once (not (tells_failure it.0)) (λ clean. it.4) (λ k. it.3.1 (not-true (tells_failure it.0) k)) since.was_clean in
+    (h, reached, (λ clean. same clean ∙ stands (since.was_clean clean)), (it.0, it.1, ((λ sure. answers (either (tells_failure it.0) sure it.3.1)), refl, refl), it.3.0, told), assured h reached))
+list_ends its_list s old new (Err cut) honest_is since same whole front = list_cut its_list s old new honest_is since same front
 
 -- nothing was asked of the books, and nothing happens
 quiet_ends : {S : Type 0} {I : IssuedOf S} {rows : S → Rows} (a : S) (wanted : Option Ask) (s : Stream) (text : List ℕ) (old new : Option (List ℕ)) (written : Result (Unit {0}) WriteFailed)
     → ((x : S) → I.is_clean x → I.is_honest x) → ((sure : List ℕ → Type 0) (h : History) → AskGoes sure wanted h s text [] h s) → Tells I a a [] (answered_to wanted text)
     → OnOk written (Appends old new text) → OnErr written (AppendsFront old new text) → HappensBy I rows a (AskEnds wanted s s old new written) a
 quiet_ends {I = I} a wanted s text old new (Ok done) honest_is goes tells whole front =
-    so_by (ends_weaker wanted s s old new (Ok done)) honest_is (λ clean. clean) (λ honest. honest) (λ cause. omega arith)
+    so_by (ends_weaker wanted s s old new (Ok done)) honest_is since_refl
     (λ honest h reached stands. (h, reached, stands, (text, [], goes (Sure (I.is_clean a)) h, whole, tells), assured h reached))
 quiet_ends {I = I} a wanted s text old new (Err cut) honest_is goes tells whole front =
-    so_by (ends_weaker wanted s s old new (Err cut)) honest_is (λ clean. clean) (λ honest. honest) (λ cause. omega arith)
+    so_by (ends_weaker wanted s s old new (Err cut)) honest_is since_refl
     (λ honest h reached stands.
     let told = tells_once false (λ clean. none_counted (I.failures a) (I.failures a) (λ cause. omega arith)) (λ k. absurd (false≢true k)) (λ clean. clean) in
     (h, reached, stands, (text, [], goes (λ t. I.is_clean a) h, front, told), assured h reached))

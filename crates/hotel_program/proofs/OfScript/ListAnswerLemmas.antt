@@ -62,11 +62,11 @@ refused_front listing old new fault.Write why e p = cc e
 counted_by : {B : Type 0} (I : IssuedOf B) {old new : B} (why_not : ListFault)
     → LooksAt I old new (Err why_not) → AreCounted (I.failures old) (I.failures new) (failed_by why_not)
 unfolding failed_by
-counted_by I {old = old} {new = new} fault.NoRoom looks = none_counted (I.failures old) (I.failures new) looks.counted
-counted_by I {old = old} {new = new} fault.Memory looks = none_counted (I.failures old) (I.failures new) looks.counted
-counted_by I {old = old} {new = new} fault.Write looks = none_counted (I.failures old) (I.failures new) looks.counted
+counted_by I {old = old} {new = new} fault.NoRoom looks = none_counted (I.failures old) (I.failures new) looks.since.counted
+counted_by I {old = old} {new = new} fault.Memory looks = none_counted (I.failures old) (I.failures new) looks.since.counted
+counted_by I {old = old} {new = new} fault.Write looks = none_counted (I.failures old) (I.failures new) looks.since.counted
 counted_by I {old = old} {new = new} fault.Store looks =
-    one_counted (I.failures old) (I.failures new) look.Store looks.counted (looks.store refl)
+    one_counted (I.failures old) (I.failures new) look.Store looks.since.counted (looks.store refl)
 
 -- a text that a failure's line ends tells it
 or_first : (a b : Bool) → a ≡ true → (a || b) ≡ true

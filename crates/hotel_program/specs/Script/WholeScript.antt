@@ -11,7 +11,6 @@ use Rattle.hotel_model.specs.declared.reply.Refusal.{Refusal}
 use Rattle.hotel_model.specs.History.{History}
 use Rattle.hotel_model.specs.Rows.{Rows}
 use Rattle.hotel_program.specs.Script.Asks.{ask_in}
-use Rattle.hotel_program.specs.Script.Lines.{answered_lines}
 use Rattle.hotel_program.specs.Script.LineAnswers.{LineGoes, Sure, answered_to}
 use Rattle.hotel_program.specs.declared.script.TheConstants.{SCRIPT_LIMIT}
 use Rattle.hotel_program.specs.declared.script.ScriptEnd.{ScriptEnd}

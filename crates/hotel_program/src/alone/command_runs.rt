@@ -1,6 +1,6 @@
 //! One command that is carried out alone: its reply on one writer, and what went wrong on another.
 
-ghost use Rattle.std.specs.Prelude.{◌≡◌, ◌≢◌, ℕ, Bool, Result};
+ghost use Rattle.std.specs.Prelude.{◌≡◌, ◌≢◌, Bool};
 ghost use Rattle.hotel_model.specs.declared.reply.Reply.{Reply};
 ghost use Rattle.hotel_lists.specs.Calls.{CountsWrites, OnErrOf};
 ghost use Rattle.hotel_program.specs.Alone.CommandRuns.{command_end, CommandEnds, WritesReply};

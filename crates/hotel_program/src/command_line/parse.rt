@@ -1,10 +1,9 @@
 //! From words to a plan.
 
-ghost use Rattle.std.specs.Prelude.{◌≡◌, ◌<◌, ◌^◌, ℕ, Some, None, Ok, Err, IfOk, IfErr, codes, option_map};
+ghost use Rattle.std.specs.Prelude.{◌≡◌, ◌<◌, ◌^◌, Some, None, Ok, IfOk, IfErr, codes, option_map};
 ghost use Rattle.std.specs.Prelude.{string_bytes, map, true};
 ghost use Rattle.clap.specs.Words.{first_of, found_of, has_subcommand, rows_of, subcommand_rows_of, subcommand_of};
 ghost use Rattle.clap.specs.Words.{matches_of, takes, kind_of};
-ghost use Rattle.hotel_asks.specs.Names.{name_text};
 ghost use Rattle.hotel_program.specs.CommandLine.{desk};
 ghost use Rattle.hotel_program.specs.Plans.{text_in, texts_in, number_in, verb_act, serve_act, own_act, act_of, act_in};
 ghost use Rattle.hotel_program.specs.Plans.{IsRead, IsRefusalOf, IsValueOrMemory, refused_value};
@@ -18,10 +17,10 @@ use keycard_rules::read_numeral;
 use std::alloc::Global;
 
 /// The greatest port.
-const MOST_PORT: u64 = 65_535;
+pub const MOST_PORT: u64 = 65_535;
 
 /// The most connections that one call serves.
-const MOST_CONNECTIONS: u64 = 1_000_000;
+pub const MOST_CONNECTIONS: u64 = 1_000_000;
 
 fn given<'a>(matches: &ArgMatches<'a>, id: &str) -> Option<&'a str>
     ensures { option_map (λ s. s.now) result ≡ first_of id.now (rows_of (found_of matches.now)) }

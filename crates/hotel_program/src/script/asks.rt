@@ -1,6 +1,6 @@
 //! What a script's line asks for.
 
-ghost use Rattle.std.specs.Prelude.{◌≡◌, ◌≤◌, ◌<◌, None, Some, IfSome, MatchOption, Result, length};
+ghost use Rattle.std.specs.Prelude.{◌≡◌, ◌<◌, None, Some, IfSome, MatchOption, Result, length};
 ghost use Rattle.hotel_asks.specs.declared.asks.Ask.{Ask};
 ghost use Rattle.hotel_asks.specs.declared.values.ValueFault.{ValueFault};
 ghost use Rattle.hotel_asks.specs.Values.{IsReading};

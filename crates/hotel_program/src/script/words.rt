@@ -2,7 +2,7 @@
 
 ghost use Rattle.std.specs.Prelude.{◌≡◌, ◌≤◌, ◌==◌, length, option_map};
 ghost use Rattle.std.specs.List.{prefix_len, position_or_len};
-ghost use Rattle.hotel_program.specs.Script.Words.{words, next_word, trimmed_start, first_word, after_word, words_from};
+ghost use Rattle.hotel_program.specs.Script.Words.{words, next_word, trimmed_start, words_from};
 ghost use Rattle.hotel_program.specs.Script.Words.{trimmed};
 
 /// How many spaces the text begins with.

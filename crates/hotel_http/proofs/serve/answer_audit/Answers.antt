@@ -17,7 +17,7 @@ returns-in-Ok-clause-went g c =
     let ends = ends_as (lines_answer slice) Success (has_taken slice) (map (λ reply. true) (replies_in slice)) written old new c.ended.result
     (subst (λ (b : Bool). c.ended.result ≡ ended written Success b) c.has_taken.ensures c.ended.ensures)
     c.write_audit-written.ensures.writes.ok c.write_audit-written.ensures.writes.err in
-    file_came c.args.file.now (Ok c.in-Ok.answers.items) old new c.ended.result g.met.B.Issued.clean_honest it.was_clean it.was_honest it.counted it.imported (λ why e. cc e) (λ clean. none_counted _ _ it.counted)
+    file_came c.args.file.now (Ok c.in-Ok.answers.items) old new c.ended.result g.met.B.Issued.clean_honest it.since it.imported (λ why e. cc e) (λ clean. none_counted _ _ it.since.counted)
     (subst (λ (l : List LineAnswer). EndsAs (imported (Ok l)) [] old new c.ended.result) c.as_slice-answers.ensures.value ends)
 
 pub returns-in-Err-clause-went : goal.returns-in-Err-clause-went
@@ -31,4 +31,4 @@ returns-in-Err-clause-went g c =
     (subst (λ (b : Bool). c.ended-in-Err.result ≡ ended written (fault_status why) b) c.taken_by.ensures
     (subst (λ (s : Status). c.ended-in-Err.result ≡ ended written s c.taken_by.result) c.fault_status.ensures c.ended-in-Err.ensures))
     c.write_fault-written.ensures.writes.ok c.write_fault-written.ensures.writes.err in
-    file_came c.args.file.now (Err why) old new c.ended-in-Err.result g.met.B.Issued.clean_honest it.was_clean it.was_honest it.counted it.imported (λ fault e. it.no_file fault (cc e)) it.failed ends
+    file_came c.args.file.now (Err why) old new c.ended-in-Err.result g.met.B.Issued.clean_honest it.since it.imported (λ fault e. it.no_file fault (cc e)) it.failed ends

@@ -52,20 +52,8 @@ returns-in_err-answer_rejection-in-Err-clause-serves g c =
     (is_cut c.from_residual-in_err-answer_rejection-in-Err.result _ c.from_residual-in_err-answer_rejection-in-Err.ensures.1))
     (inl (rejection_served g.B.Issued g.B.Books.rows c.args.books.now s known old mid new c.in-Err.why (Err c.in_err-answer_rejection-in-Err.field-0.0) read c.in_err-answer_rejection-in-Err.ensures.ends))
 
-pub returns-in_ok-answer_request-in-Ok-clause-was_clean : goal.returns-in_ok-answer_request-in-Ok-clause-was_clean
-returns-in_ok-answer_request-in-Ok-clause-was_clean g c = c.in_ok-answer_request-in-Ok.ensures.went.was_clean
+pub returns-in_ok-answer_request-in-Ok-clause-since : goal.returns-in_ok-answer_request-in-Ok-clause-since
+returns-in_ok-answer_request-in-Ok-clause-since g c = c.in_ok-answer_request-in-Ok.ensures.went.since
 
-pub returns-in_ok-answer_request-in-Ok-clause-was_honest : goal.returns-in_ok-answer_request-in-Ok-clause-was_honest
-returns-in_ok-answer_request-in-Ok-clause-was_honest g c = c.in_ok-answer_request-in-Ok.ensures.went.was_honest
-
-pub returns-in_ok-answer_request-in-Ok-clause-counted : goal.returns-in_ok-answer_request-in-Ok-clause-counted
-returns-in_ok-answer_request-in-Ok-clause-counted g c = c.in_ok-answer_request-in-Ok.ensures.went.counted
-
-pub returns-in_err-answer_request-in-Ok-clause-was_clean : goal.returns-in_err-answer_request-in-Ok-clause-was_clean
-returns-in_err-answer_request-in-Ok-clause-was_clean g c = c.in_err-answer_request-in-Ok.ensures.went.was_clean
-
-pub returns-in_err-answer_request-in-Ok-clause-was_honest : goal.returns-in_err-answer_request-in-Ok-clause-was_honest
-returns-in_err-answer_request-in-Ok-clause-was_honest g c = c.in_err-answer_request-in-Ok.ensures.went.was_honest
-
-pub returns-in_err-answer_request-in-Ok-clause-counted : goal.returns-in_err-answer_request-in-Ok-clause-counted
-returns-in_err-answer_request-in-Ok-clause-counted g c = c.in_err-answer_request-in-Ok.ensures.went.counted
+pub returns-in_err-answer_request-in-Ok-clause-since : goal.returns-in_err-answer_request-in-Ok-clause-since
+returns-in_err-answer_request-in-Ok-clause-since g c = c.in_err-answer_request-in-Ok.ensures.went.since

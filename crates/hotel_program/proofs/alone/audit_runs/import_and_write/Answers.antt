@@ -18,9 +18,7 @@ returns-in-Err-clause-ends g c =
       record {
         went = e.imported;
         no_file = e.no_file;
-        was_clean = e.was_clean;
-        was_honest = e.was_honest;
-        counted = e.counted;
+        since = e.since;
         failed = e.failed;
       },
     )
@@ -38,9 +36,7 @@ returns-in-Ok-write_answers-clause-ends g c =
       record {
         went = e.imported;
         no_file = tt;
-        was_clean = e.was_clean;
-        was_honest = e.was_honest;
-        counted = e.counted;
+        since = e.since;
         failed = tt;
       },
     )
@@ -58,9 +54,7 @@ returns-clause-ends g c =
       record {
         went = e.imported;
         no_file = tt;
-        was_clean = e.was_clean;
-        was_honest = e.was_honest;
-        counted = e.counted;
+        since = e.since;
         failed = tt;
       },
     )

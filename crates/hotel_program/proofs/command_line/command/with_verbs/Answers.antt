@@ -5,7 +5,7 @@ use Rattle.std.proofs.lemmas.List.Sums.{fold_push}
 use Rattle.std.proofs.lemmas.Grind.{take_at_read}
 use Rattle.std.specs.Borrow.{Bor}
 use Rattle.clap.specs.Words.{App, Shape, with_subcommand}
-use Rattle.hotel_asks.specs.{declared.values.ValueName.ValueName, declared.verbs.Verb.Verb, Names.names_of}
+use Rattle.hotel_asks.specs.{declared.verbs.Verb.Verb, Names.names_of}
 use Rattle.hotel_asks.specs.Verbs.{texts}
 use Rattle.hotel_program.specs.CommandLine.{leaf, options, verb_leaf}
 use Rattle.hotel_program.proofs.command_line.command.with_verbs.Goals as goal
