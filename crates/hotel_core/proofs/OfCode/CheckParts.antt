@@ -34,7 +34,8 @@ module _ {S : Type 0} {I : IssuedOf S} {B : BooksOf S} {checks : Rows → List (
     same = f.same;
     since = f.since;
     vouched = λ honest _. f.vouched honest refl;
-    fault = λ clean cause e. absurd (false≢true (sym k ∙ (ap is_failed (let s : ◌≡◌ {A = Reply} (Refused _) (Refused _) = cc in s) ∙ faults cause)));
+    fault = λ clean cause e. absurd (false≢true (sym k
+        ∙ (ap is_failed (let s : ◌≡◌ {A = Reply} (Refused _) (Refused _) = cc in s) ∙ faults cause)));
   }
 
   -- what is wanted is there, and the checks pass
@@ -66,17 +67,20 @@ module _ {S : Type 0} {I : IssuedOf S} {B : BooksOf S} {checks : Rows → List (
     pub then_passed : {done : Unit {0}} → SoFar I B v facts start old → FindsChecked I B checks old new (Ok done)
         → SoFar I B true (λ rs. facts rs × (first_refusal (checks rs) ≡ None)) start new
     then_passed s f = record {
-      facts_hold = λ clean. let before = f.since.was_clean clean in (s.facts_hold before, ap (λ rs. first_refusal (checks rs)) (sym (s.same before)) ∙ f.answer clean);
+      facts_hold = λ clean. let before = f.since.was_clean clean in
+          (s.facts_hold before, ap (λ rs. first_refusal (checks rs)) (sym (s.same before)) ∙ f.answer clean);
       same = λ clean. f.same clean ∙ s.same (f.since.was_clean clean);
       since = since_then s.since f.since;
       vouched = λ _ honest. f.vouched honest refl;
     }
 
     -- one of the checks refuses
-    then_refused : {e : Refusal} → SoFar I B v facts start old → FindsChecked I B checks old new (Err e) → is_failed (Refused e) ≡ false
+    then_refused : {e : Refusal} → SoFar I B v facts start old → FindsChecked I B checks old new (Err e)
+        → is_failed (Refused e) ≡ false
         → SoFar I B true (λ rs. facts rs × (first_refusal (checks rs) ≡ Some e)) start new
     then_refused s f k = record {
-      facts_hold = λ clean. let before = f.since.was_clean clean in (s.facts_hold before, ap (λ rs. first_refusal (checks rs)) (sym (s.same before)) ∙ f.answer clean k);
+      facts_hold = λ clean. let before = f.since.was_clean clean in
+          (s.facts_hold before, ap (λ rs. first_refusal (checks rs)) (sym (s.same before)) ∙ f.answer clean k);
       same = λ clean. f.same clean ∙ s.same (f.since.was_clean clean);
       since = since_then s.since f.since;
       vouched = λ _ honest. f.vouched honest k;
@@ -95,7 +99,8 @@ module _ {S : Type 0} {I : IssuedOf S} {B : BooksOf S} {checks : Rows → List (
 
 -- the checks of the card that a note names
 abbrev pub bars_of_card : Rows → ℕ → Link → List (Option Refusal)
-bars_of_card rows number link = needs (is_some (card_at rows number)) NoCard ∷ needs (has_link_on rows number link) CardDiffers ∷ []
+bars_of_card rows number link =
+    needs (is_some (card_at rows number)) NoCard ∷ needs (has_link_on rows number link) CardDiffers ∷ []
 
 second_holds : (a b : Bool) → first_refusal (needs a NoCard ∷ needs b CardDiffers ∷ []) ≡ None → b ≡ true
 second_holds true true e = refl
@@ -103,8 +108,10 @@ second_holds true false e = cc
 second_holds false b e = cc
 
 -- where they pass, the card has the link in the rows as they are now
-pub has_link_now : {S : Type 0} {I : IssuedOf S} {B : BooksOf S} {v : Bool} {facts : Rows → Type 0} {start now : S} (number : ℕ) (link : Link)
+pub has_link_now : {S : Type 0} {I : IssuedOf S} {B : BooksOf S} {v : Bool} {facts : Rows → Type 0}
+    {start now : S} (number : ℕ) (link : Link)
     → SoFar I B v facts start now → ((rows : Rows) → facts rows → first_refusal (bars_of_card rows number link) ≡ None)
     → I.is_clean now → has_link_on (B.rows now) number link ≡ true
 has_link_now {B = B} {now = now} number link s h clean =
-    second_holds (is_some (card_at (B.rows now) number)) (has_link_on (B.rows now) number link) (h (B.rows now) (at_now s clean))
+    second_holds (is_some (card_at (B.rows now) number)) (has_link_on (B.rows now) number link)
+    (h (B.rows now) (at_now s clean))

@@ -6,7 +6,8 @@ use Rattle.hotel_model.proofs.{OfTables.NotesKept.none_past, Lifted.NotesFound.n
 use Rattle.hotel_model.proofs.{Lifted.LiftEasy.room_is_there, Invariants.NotesOfFits.notes_for}
 use Rattle.hotel_model.proofs.{Starts.StartRows.rows_of_start, Lifted.Whole.its_row}
 
-none_later : (h : History) → Reached h → (room count : ℕ) (row : RoomRow) → 1 ≤ count → row.notes - row.before < count → room_at (rows_of h) room ≡ Some row → note_at (rows_of h) room row.fit count ≡ None
+none_later : (h : History) → Reached h → (room count : ℕ) (row : RoomRow) → 1 ≤ count → row.notes - row.before < count
+    → room_at (rows_of h) room ≡ Some row → note_at (rows_of h) room row.fit count ≡ None
 none_later h ok room count row least later e =
     let its = (its_row h room row e).1 in
     let n : row.notes ≡ length (notes h room) = ap (λ (r : RoomRow). r.notes) its in
@@ -18,6 +19,8 @@ none_later h ok room count row least later e =
     ∙ none_past (count - 1) (notes_of h room (present_fit h room)) (omega arith)
 
 -- in sound rows no note of the room's present lock is there
-pub no_later_note : (rows : Rows) → IsSound rows → (room count : ℕ) (row : RoomRow) → 1 ≤ count → row.notes - row.before < count → room_at rows room ≡ Some row → note_at rows room row.fit count ≡ None
+pub no_later_note : (rows : Rows) → IsSound rows → (room count : ℕ) (row : RoomRow)
+    → 1 ≤ count → row.notes - row.before < count → room_at rows room ≡ Some row → note_at rows room row.fit count ≡ None
 no_later_note rows sound room count row least later =
-    subst (λ rs. room_at rs room ≡ Some row → note_at rs room row.fit count ≡ None) (rows_of_start rows sound) (none_later (start rows) sound room count row least later)
+    subst (λ rs. room_at rs room ≡ Some row → note_at rs room row.fit count ≡ None) (rows_of_start rows sound)
+    (none_later (start rows) sound room count row least later)

@@ -19,18 +19,22 @@ and_second : (a b : Bool) → (a && b) ≡ true → b ≡ true
 and_second true b e = e
 and_second false b e = absurd (false≢true e)
 
-there_at : (rows : Rows) (number : ℕ) (link : Link) (o : Option Card) → card_at rows number ≡ o → AreWhole rows → said_of o false (λ card. same_link card.link link) ≡ true → IsSome (code_place rows link.new_code)
+there_at : (rows : Rows) (number : ℕ) (link : Link) (o : Option Card) → card_at rows number ≡ o → AreWhole rows
+    → said_of o false (λ card. same_link card.link link) ≡ true → IsSome (code_place rows link.new_code)
 there_at rows number link None e w h = absurd (false≢true h)
 there_at rows number link (Some card) e w h =
-    let same : card.link.new_code ≡ link.new_code = grind (arith, nat_tests, and_second (card.link.old_code == link.old_code) (card.link.new_code == link.new_code) h) in
+    let same : card.link.new_code ≡ link.new_code = grind
+    (arith, nat_tests, and_second (card.link.old_code == link.old_code) (card.link.new_code == link.new_code) h) in
     subst (λ code. IsSome (code_place rows code)) same (w.cards number card e)
 
 -- in whole rows the new code of a card's link is there
-pub link_is_there : (rows : Rows) (number : ℕ) (link : Link) → AreWhole rows → has_link_on rows number link ≡ true → IsSome (code_place rows link.new_code)
+pub link_is_there : (rows : Rows) (number : ℕ) (link : Link)
+    → AreWhole rows → has_link_on rows number link ≡ true → IsSome (code_place rows link.new_code)
 link_is_there rows number link w h = there_at rows number link (card_at rows number) refl w h
 
 -- a failure that whole rows exclude
-pub excluded : {S : Type 0} {I : IssuedOf S} {B : BooksOf S} {v : Bool} {facts : Rows → Type 0} {start now : S} {outcome : Rows → Outcome Change} {source : Stream}
+pub excluded : {S : Type 0} {I : IssuedOf S} {B : BooksOf S} {v : Bool} {facts : Rows → Type 0} {start now : S}
+    {outcome : Rows → Outcome Change} {source : Stream}
     → SoFar I B v facts start now → (AreWhole (B.rows start) → facts (B.rows start) → ⊥)
     → StepsAs I B outcome start now source source (Refused Store)
 excluded {source = source} s h = record {
@@ -42,21 +46,28 @@ excluded {source = source} s h = record {
 }
 
 -- an answer that changes nothing, where the checks come to it
-pub says : {S : Type 0} {I : IssuedOf S} {B : BooksOf S} {facts : Rows → Type 0} {start now : S} {outcome : Rows → Outcome Change} {source : Stream} (answer : Reply)
-    → is_failed answer ≡ false → SoFar I B true facts start now → (facts (B.rows start) → outcome (B.rows start) ≡ said answer)
+pub says : {S : Type 0} {I : IssuedOf S} {B : BooksOf S} {facts : Rows → Type 0} {start now : S}
+    {outcome : Rows → Outcome Change} {source : Stream} (answer : Reply)
+    → is_failed answer ≡ false → SoFar I B true facts start now
+    → (facts (B.rows start) → outcome (B.rows start) ≡ said answer)
     → StepsAs I B outcome start now source source answer
 says {B = B} {start = start} {now = now} {outcome = outcome} {source = source} answer k s h = record {
-  goes = λ clean. said_at (is_failed answer) answer (outcome (B.rows start)) (B.rows start) (B.rows now) source k (h (s.facts_hold clean)) (s.same clean);
+  goes = λ clean. said_at (is_failed answer) answer (outcome (B.rows start)) (B.rows start) (B.rows now) source k
+      (h (s.facts_hold clean)) (s.same clean);
   since = s.since;
   vouched = λ honest _. s.vouched refl honest;
   moved = λ honest e. absurd (false≢true (sym k ∙ e));
   fault = λ clean w cause e. absurd (false≢true (sym k ∙ (ap is_failed e ∙ faults cause)));
 }
   where
-    said_at : (b : Bool) (answer : Reply) (o : Outcome Change) (rows later : Rows) (source : Stream) → b ≡ false → o ≡ said answer → later ≡ rows → GoesIf b o rows source answer later source
+    said_at : (b : Bool) (answer : Reply) (o : Outcome Change) (rows later : Rows) (source : Stream)
+        → b ≡ false → o ≡ said answer → later ≡ rows → GoesIf b o rows source answer later source
     said_at true answer o rows later source k e same = absurd (false≢true (sym k))
-    said_at false answer o rows later source k e same =
-        (sym (ap (λ x. x.reply) e), same ∙ ap (λ x. made_by x.happens rows) (sym e), sym (past-zero source) ∙ ap (λ x. past x.examined source) (sym e))
+    said_at false answer o rows later source k e same = (
+      sym (ap (λ x. x.reply) e),
+      same ∙ ap (λ x. made_by x.happens rows) (sym e),
+      sym (past-zero source) ∙ ap (λ x. past x.examined source) (sym e),
+    )
 
 pub equal : (m n : ℕ) → m ≡ n → (m == n) ≡ true
 equal m n e = grind (arith, nat_tests)
@@ -67,51 +78,65 @@ not_equal m n e = grind (arith, nat_tests)
 -- a note of a room that is there, once a day is set, by whether the room has had its lock
 by_fit : (rows : Rows) (ahead : List ℕ) (note : Note) (day : ℕ) (row : RoomRow) (had : Bool)
     → rows.day ≡ Some day → room_at rows note.room ≡ Some row → nat_le note.fit row.fit ≡ had
-    → outcome_on rows ahead (command.Reported note) ≡ unless (needs had NoFit ∷ []) (reported_on rows note (note_at rows note.room note.fit note.count))
+    → outcome_on rows ahead (command.Reported note)
+    ≡ unless (needs had NoFit ∷ []) (reported_on rows note (note_at rows note.room note.fit note.count))
 unfolding outcome_on
 by_fit rows ahead note day row had d r l =
     let comes : Outcome Change = reported_on rows note (note_at rows note.room note.fit note.count) in
     let its : present_fit_on rows note.room ≡ row.fit = ap (λ o. said_of o 0 (λ (x : RoomRow). x.fit)) r in
-    ap (λ x. unless (needs (is_some x) NotBegun ∷ needs (is_some (room_at rows note.room)) NoRoom ∷ needs (is_fit_on rows note.room note.fit) NoFit ∷ []) comes) d
+    ap (λ x. unless (needs (is_some x) NotBegun ∷ needs (is_some (room_at rows note.room)) NoRoom
+    ∷ needs (is_fit_on rows note.room note.fit) NoFit ∷ []) comes) d
     ∙ ap (λ x. unless (needs (is_some x) NoRoom ∷ needs (is_fit_on rows note.room note.fit) NoFit ∷ []) comes) r
     ∙ ap (λ n. unless (needs (nat_le note.fit n) NoFit ∷ []) comes) its ∙ ap (λ b. unless (needs b NoFit ∷ []) comes) l
 
 -- a note of a later lock than that of its room
 pub later_there : (rows : Rows) (ahead : List ℕ) (note : Note) (day : ℕ) (row : RoomRow)
-    → rows.day ≡ Some day → room_at rows note.room ≡ Some row → nat_le note.fit row.fit ≡ false → outcome_on rows ahead (command.Reported note) ≡ refused NoFit
+    → rows.day ≡ Some day → room_at rows note.room ≡ Some row → nat_le note.fit row.fit ≡ false
+    → outcome_on rows ahead (command.Reported note) ≡ refused NoFit
 later_there rows ahead note day row d r l = by_fit rows ahead note day row false d r l
 
 -- a note of a lock that its room has had
 pub reported_there : (rows : Rows) (ahead : List ℕ) (note : Note) (day : ℕ) (row : RoomRow) (kept : Option Note)
-    → rows.day ≡ Some day → room_at rows note.room ≡ Some row → nat_le note.fit row.fit ≡ true → note_at rows note.room note.fit note.count ≡ kept
+    → rows.day ≡ Some day → room_at rows note.room ≡ Some row → nat_le note.fit row.fit ≡ true
+    → note_at rows note.room note.fit note.count ≡ kept
     → outcome_on rows ahead (command.Reported note) ≡ reported_on rows note kept
-reported_there rows ahead note day row kept d r l n = by_fit rows ahead note day row true d r l ∙ ap (λ x. reported_on rows note x) n
+reported_there rows ahead note day row kept d r l n =
+    by_fit rows ahead note day row true d r l ∙ ap (λ x. reported_on rows note x) n
 
 -- a note that wasn't taken, by its room's row
-untaken_of : (rows : Rows) (note : Note) (row : RoomRow) → room_at rows note.room ≡ Some row → reported_on rows note None ≡ untaken_on rows note row
+untaken_of : (rows : Rows) (note : Note) (row : RoomRow)
+    → room_at rows note.room ≡ Some row → reported_on rows note None ≡ untaken_on rows note row
 untaken_of rows note row r = ap (λ o. said_of o (refused NoRoom) (untaken_on rows note)) r
 
 -- a note of an earlier lock
-pub old_told : (rows : Rows) (note : Note) (row : RoomRow) → room_at rows note.room ≡ Some row → (note.fit == row.fit) ≡ false → reported_on rows note None ≡ refused OldFit
+pub old_told : (rows : Rows) (note : Note) (row : RoomRow)
+    → room_at rows note.room ≡ Some row → (note.fit == row.fit) ≡ false → reported_on rows note None ≡ refused OldFit
 old_told rows note row r f =
     untaken_of rows note row r
-    ∙ ap (λ b. if b then (if note.count == row.notes - row.before + 1 then told_on rows note note.act else refused (Gap (row.notes - row.before + 1))) else refused OldFit) f
+    ∙ ap (λ b. if b then (if note.count == row.notes - row.before + 1 then told_on rows note note.act
+    else refused (Gap (row.notes - row.before + 1))) else refused OldFit) f
 
 -- a later note than the next one of its lock
-pub gap_told : (rows : Rows) (note : Note) (row : RoomRow) (taken : ℕ) → room_at rows note.room ≡ Some row → (note.fit == row.fit) ≡ true → taken ≡ row.notes - row.before → taken + 1 < note.count
+pub gap_told : (rows : Rows) (note : Note) (row : RoomRow) (taken : ℕ) → room_at rows note.room ≡ Some row
+    → (note.fit == row.fit) ≡ true → taken ≡ row.notes - row.before → taken + 1 < note.count
     → reported_on rows note None ≡ refused (Gap (taken + 1))
 gap_told rows note row taken r f n l =
     untaken_of rows note row r
-    ∙ ap (λ b. if b then (if note.count == row.notes - row.before + 1 then told_on rows note note.act else refused (Gap (row.notes - row.before + 1))) else refused OldFit) f
+    ∙ ap (λ b. if b then (if note.count == row.notes - row.before + 1 then told_on rows note note.act
+    else refused (Gap (row.notes - row.before + 1))) else refused OldFit) f
     ∙ ap (λ z. if note.count == z + 1 then told_on rows note note.act else refused (Gap (z + 1))) (sym n)
     ∙ ap (λ b. if b then told_on rows note note.act else refused (Gap (taken + 1))) (not_equal note.count (taken + 1) l)
 
 -- the next note of a room, by its count
-pub next_told : (rows : Rows) (note : Note) (row : RoomRow) (what : Act) (count taken : ℕ) → room_at rows note.room ≡ Some row → (note.fit == row.fit) ≡ true → count ≡ note.count → taken ≡ row.notes - row.before
+pub next_told : (rows : Rows) (note : Note) (row : RoomRow) (what : Act) (count taken : ℕ)
+    → room_at rows note.room ≡ Some row → (note.fit == row.fit) ≡ true → count ≡ note.count
+    → taken ≡ row.notes - row.before
     → taken < count → count ≤ taken + 1 → what ≡ note.act → reported_on rows note None ≡ told_on rows note what
 next_told rows note row what count taken r f same n past next a =
     let m : note.count ≡ taken + 1 = omega arith in
     untaken_of rows note row r
-    ∙ ap (λ b. if b then (if note.count == row.notes - row.before + 1 then told_on rows note note.act else refused (Gap (row.notes - row.before + 1))) else refused OldFit) f
+    ∙ ap (λ b. if b then (if note.count == row.notes - row.before + 1 then told_on rows note note.act
+    else refused (Gap (row.notes - row.before + 1))) else refused OldFit) f
     ∙ ap (λ z. if note.count == z + 1 then told_on rows note note.act else refused (Gap (z + 1))) (sym n)
-    ∙ ap (λ b. if b then told_on rows note note.act else refused (Gap (taken + 1))) (equal note.count (taken + 1) m) ∙ ap (λ x. told_on rows note x) (sym a)
+    ∙ ap (λ b. if b then told_on rows note note.act else refused (Gap (taken + 1))) (equal note.count (taken + 1) m)
+    ∙ ap (λ x. told_on rows note x) (sym a)

@@ -16,41 +16,54 @@ use Rattle.hotel_model.specs.declared.reply.Refusal.TheVariants as refusal
 use Rattle.hotel_model.specs.Refinement.GoesOnRows as step
 
 -- the first refusal of some checks is one, and so is what comes otherwise
-unless_reply : (checks : List (Option Refusal)) (o : Outcome Change) → IsNoteReply o.reply → IsNoteReply (unless checks o).reply
+unless_reply : (checks : List (Option Refusal)) (o : Outcome Change)
+    → IsNoteReply o.reply → IsNoteReply (unless checks o).reply
 unless_reply [] o h = h
 unless_reply (Some why ∷ checks) o h = tt
 unless_reply (None ∷ checks) o h = unless_reply checks o h
 
-if_reply : (b : Bool) (o p : Outcome Change) → IsNoteReply o.reply → IsNoteReply p.reply → IsNoteReply (if b then o else p).reply
+if_reply : (b : Bool) (o p : Outcome Change)
+    → IsNoteReply o.reply → IsNoteReply p.reply → IsNoteReply (if b then o else p).reply
 if_reply true o p h k = h
 if_reply false o p h k = k
 
-said_reply : (row : Option RoomRow) (o : Outcome Change) (f : RoomRow → Outcome Change) → IsNoteReply o.reply → ((r : RoomRow) → IsNoteReply (f r).reply) → IsNoteReply (said_of row o f).reply
+said_reply : (row : Option RoomRow) (o : Outcome Change) (f : RoomRow → Outcome Change)
+    → IsNoteReply o.reply → ((r : RoomRow) → IsNoteReply (f r).reply) → IsNoteReply (said_of row o f).reply
 said_reply None o f h k = h
 said_reply (Some r) o f h k = k r
 
 told_reply : (rows : Rows) (note : Note) (what : Act) → IsNoteReply (told_on rows note what).reply
 told_reply rows note (act.Entered number link) =
-    unless_reply (needs (is_some (card_at rows number)) refusal.NoCard ∷ needs (has_link_on rows number link) refusal.CardDiffers ∷ needs (is_some (turn (held_on rows note.room) link)) refusal.LockShut ∷ [])
-    (accepted reply.Taken (change.Noted note (place_on rows link.new_code) (secured_after_on rows note.room link) (comes (is_one_of number (inside_at rows note.room)) number))) tt
+    unless_reply (needs (is_some (card_at rows number)) refusal.NoCard ∷ needs (has_link_on rows number link)
+    refusal.CardDiffers ∷ needs (is_some (turn (held_on rows note.room) link)) refusal.LockShut ∷ [])
+    (accepted reply.Taken (change.Noted note (place_on rows link.new_code) (secured_after_on rows note.room link)
+    (comes (is_one_of number (inside_at rows note.room)) number))) tt
 told_reply rows note (act.Left number link) =
-    unless_reply (needs (is_some (card_at rows number)) refusal.NoCard ∷ needs (has_link_on rows number link) refusal.CardDiffers ∷ needs (is_one_of number (inside_at rows note.room)) refusal.NotInside ∷ [])
-    (accepted reply.Taken (change.Noted note (lock_place_of rows note.room) (secured_on rows note.room) (Goes number))) tt
+    unless_reply (needs (is_some (card_at rows number)) refusal.NoCard ∷ needs (has_link_on rows number link)
+    refusal.CardDiffers ∷ needs (is_one_of number (inside_at rows note.room)) refusal.NotInside ∷ [])
+    (accepted reply.Taken (change.Noted note (lock_place_of rows note.room) (secured_on rows note.room) (Goes number)))
+    tt
 told_reply rows note (act.Recoded from to) =
-    unless_reply (needs (held_on rows note.room == from) refusal.HeldDiffers ∷ needs (is_awaited_on rows note.room to) refusal.NotAwaited ∷ [])
+    unless_reply (needs (held_on rows note.room == from) refusal.HeldDiffers
+    ∷ needs (is_awaited_on rows note.room to) refusal.NotAwaited ∷ [])
     (accepted reply.Taken (change.Noted note (place_on rows to) (secured_on rows note.room) Same)) tt
 
 reported_reply : (rows : Rows) (note : Note) (kept : Option Note) → IsNoteReply (reported_on rows note kept).reply
 reported_reply rows note (Some kept) = if_reply (same_note kept note) (said reply.Seen) (refused refusal.Conflict) tt tt
 reported_reply rows note None =
     said_reply (room_at rows note.room) (refused refusal.NoRoom) (untaken_on rows note) tt
-    (λ row. if_reply (note.fit == row.fit) (if note.count == row.notes - row.before + 1 then told_on rows note note.act else refused (refusal.Gap (row.notes - row.before + 1))) (refused refusal.OldFit)
-    (if_reply (note.count == row.notes - row.before + 1) (told_on rows note note.act) (refused (refusal.Gap (row.notes - row.before + 1))) (told_reply rows note note.act) tt) tt)
+    (λ row. if_reply (note.fit == row.fit) (if note.count == row.notes - row.before + 1 then told_on rows note note.act
+    else refused (refusal.Gap (row.notes - row.before + 1))) (refused refusal.OldFit)
+    (if_reply (note.count == row.notes - row.before + 1) (told_on rows note note.act)
+    (refused (refusal.Gap (row.notes - row.before + 1))) (told_reply rows note note.act) tt) tt)
 
 -- what comes of a note on rows is such a reply
-pub outcome_reply : (rows : Rows) (ahead : List ℕ) (note : Note) → IsNoteReply (outcome_on rows ahead (command.Reported note)).reply
+pub outcome_reply : (rows : Rows) (ahead : List ℕ) (note : Note)
+    → IsNoteReply (outcome_on rows ahead (command.Reported note)).reply
 unfolding outcome_on
-outcome_reply rows ahead note = unless_reply (checks_on rows (command.Reported note)) (reported_on rows note (note_at rows note.room note.fit note.count)) (reported_reply rows note (note_at rows note.room note.fit note.count))
+outcome_reply rows ahead note = unless_reply (checks_on rows (command.Reported note))
+    (reported_on rows note (note_at rows note.room note.fit note.count))
+    (reported_reply rows note (note_at rows note.room note.fit note.count))
 
 failed_is : (given : Reply) → is_failed given ≡ true → IsNoteReply given
 failed_is (reply.Refused why) e = tt
@@ -61,6 +74,7 @@ pub note_reply : (given : Reply) (rows : Rows) (ahead : List ℕ) (note : Note) 
     → step.Goes (outcome_on rows ahead (command.Reported note)) rows source given later rest → IsNoteReply given
 note_reply given rows ahead note later source rest g = by (is_failed given) refl g
   where
-    by : (b : Bool) → is_failed given ≡ b → step.GoesIf b (outcome_on rows ahead (command.Reported note)) rows source given later rest → IsNoteReply given
+    by : (b : Bool) → is_failed given ≡ b
+        → step.GoesIf b (outcome_on rows ahead (command.Reported note)) rows source given later rest → IsNoteReply given
     by true e went = failed_is given e
     by false e went = subst (λ r. IsNoteReply r) (sym went.0) (outcome_reply rows ahead note)

@@ -5,5 +5,6 @@ use Rattle.hotel_core.specs.Books.Passes.{Passes}
 -- One more came after these.
 pub passes_push : {S A : Type 0} (after : S → A → S → Type 0) (old : S) {mid new : S} (items : List A) {item : A}
     → Passes after old items mid → after mid item new → Passes after old (items ++ item ∷ []) new
-passes_push after old {new = new} [] {item = item} before last = (new, subst (λ state. after state item new) before last, refl)
+passes_push after old {new = new} [] {item = item} before last =
+    (new, subst (λ state. after state item new) before last, refl)
 passes_push after old (first ∷ items) before last = (before.0, before.1, passes_push after before.0 items before.2 last)

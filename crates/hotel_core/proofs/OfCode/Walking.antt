@@ -17,23 +17,29 @@ pub begun : {S R : Type 0} (after : S → R → S → Type 0) (rows : List R) (s
 begun after rows sink = ([], refl, refl)
 
 -- the sink takes the next row
-pub one_more : {S R : Type 0} (after : S → R → S → Type 0) (rows : List R) (row : R) (rest : List R) (a b c : S) → SoFar after rows (row ∷ rest) a b → after b row c → SoFar after rows rest a c
-one_more after rows row rest a b c s one = (s.0 ++ row ∷ [], s.1 ∙ sym (append_assoc s.0 (row ∷ []) rest), passes_push after a s.0 s.2 one)
+pub one_more : {S R : Type 0} (after : S → R → S → Type 0) (rows : List R) (row : R) (rest : List R) (a b c : S)
+    → SoFar after rows (row ∷ rest) a b → after b row c → SoFar after rows rest a c
+one_more after rows row rest a b c s one =
+    (s.0 ++ row ∷ [], s.1 ∙ sym (append_assoc s.0 (row ∷ []) rest), passes_push after a s.0 s.2 one)
 
 -- the walk ends after all rows
-pub all_taken : {S R : Type 0} (after : S → R → S → Type 0) (rows : List R) (a b : S) → SoFar after rows [] a b → Passes after a rows b
+pub all_taken : {S R : Type 0} (after : S → R → S → Type 0) (rows : List R) (a b : S)
+    → SoFar after rows [] a b → Passes after a rows b
 all_taken after rows a b s = subst (λ rs. Passes after a rs b) (sym (s.1 ∙ append-nil s.0)) s.2
 
 -- the sink stops at the next row
-pub stopped : {S R : Type 0} (after after_stop : S → R → S → Type 0) (rows : List R) (row : R) (rest : List R) (a b c : S) → SoFar after rows (row ∷ rest) a b → after_stop b row c → StopsAt after after_stop rows a c
+pub stopped : {S R : Type 0} (after after_stop : S → R → S → Type 0) (rows : List R) (row : R) (rest : List R)
+    (a b c : S) → SoFar after rows (row ∷ rest) a b → after_stop b row c → StopsAt after after_stop rows a c
 stopped after after_stop rows row rest a b c s one = (s.0, row, rest, s.1, b, s.2, one)
 
 -- the walk is cut off
-pub cut_off : {S R : Type 0} (after : S → R → S → Type 0) (rows rest : List R) (a b : S) → SoFar after rows rest a b → TakesFront after rows a b
+pub cut_off : {S R : Type 0} (after : S → R → S → Type 0) (rows rest : List R) (a b : S)
+    → SoFar after rows rest a b → TakesFront after rows a b
 cut_off after rows rest a b s = (s.0, rest, s.1, s.2)
 
 -- the rest, where it is known as another list
-pub as_rest : {S R : Type 0} (after : S → R → S → Type 0) (rows rest other : List R) (a b : S) → rest ≡ other → SoFar after rows rest a b → SoFar after rows other a b
+pub as_rest : {S R : Type 0} (after : S → R → S → Type 0) (rows rest other : List R) (a b : S)
+    → rest ≡ other → SoFar after rows rest a b → SoFar after rows other a b
 as_rest after rows rest other a b e s = subst (λ rs. SoFar after rows rs a b) e s
 
 -- the next of the rows that pass a test
@@ -44,14 +50,17 @@ pub failing : {R : Type 0} (p : R → Bool) (x : R) (xs : List R) → p x ≡ fa
 failing p x xs e = ap (λ b. cond b (x ∷ filter p xs) (filter p xs)) e
 
 -- the next of the rows that are made of others
-pub made_row : {X R : Type 0} (f : X → Option R) (x : X) (xs : List X) (row : R) → Some row ≡ f x → filter_map f (x ∷ xs) ≡ row ∷ filter_map f xs
+pub made_row : {X R : Type 0} (f : X → Option R) (x : X) (xs : List X) (row : R)
+    → Some row ≡ f x → filter_map f (x ∷ xs) ≡ row ∷ filter_map f xs
 made_row f x xs row e = ap (λ o. cons_option o (filter_map f xs)) (sym e)
 
-pub made_none : {X R : Type 0} (f : X → Option R) (x : X) (xs : List X) → None ≡ f x → filter_map f (x ∷ xs) ≡ filter_map f xs
+pub made_none : {X R : Type 0} (f : X → Option R) (x : X) (xs : List X)
+    → None ≡ f x → filter_map f (x ∷ xs) ≡ filter_map f xs
 made_none f x xs e = ap (λ o. cons_option o (filter_map f xs)) (sym e)
 
 -- the next of the numbers from one on
-pub next_place : (place end : ℕ) → place < end → range_with_len place (end - place) ≡ place ∷ range_with_len (place + 1) (end - (place + 1))
+pub next_place : (place end : ℕ)
+    → place < end → range_with_len place (end - place) ≡ place ∷ range_with_len (place + 1) (end - (place + 1))
 next_place place end n = let e : end - place ≡ suc (end - (place + 1)) = omega arith in ap (range_with_len place) e
 
 -- a walk that the store didn't end

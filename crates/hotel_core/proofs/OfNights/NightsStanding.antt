@@ -10,14 +10,16 @@ use Rattle.hotel_model.proofs.{OfTables.TableKeys.at_is}
 use Rattle.hotel_core.proofs.OfTables.RowsChanged.{stay_absent}
 
 -- a stay that stands takes the nights that it holds, and another none
-pub takes_by : (stay : Stay) (kind : List ℕ) (d : ℕ) → is_standing stay.state ≡ true → takes kind d stay ≡ spans stay.kind stay.arrive stay.depart kind d
+pub takes_by : (stay : Stay) (kind : List ℕ) (d : ℕ)
+    → is_standing stay.state ≡ true → takes kind d stay ≡ spans stay.kind stay.arrive stay.depart kind d
 takes_by stay kind d h = ap (λ b. (b && bytes_eq stay.kind kind) && (nat_le stay.arrive d && nat_lt d stay.depart)) h
 
 pub takes_none : (stay : Stay) (kind : List ℕ) (d : ℕ) → is_standing stay.state ≡ false → takes kind d stay ≡ false
 takes_none stay kind d h = ap (λ b. (b && bytes_eq stay.kind kind) && (nat_le stay.arrive d && nat_lt d stay.depart)) h
 
 -- no more are counted than there are stays
-pub counts_fit : (counts : List ((List ℕ × ℕ) × List ℕ)) (es : List (ℕ × Stay)) (kind : List ℕ) (d : ℕ) → CountsNightsOf counts es → length es < 2 ^ 63 → counted counts kind d < 2 ^ 63
+pub counts_fit : (counts : List ((List ℕ × ℕ) × List ℕ)) (es : List (ℕ × Stay)) (kind : List ℕ) (d : ℕ)
+    → CountsNightsOf counts es → length es < 2 ^ 63 → counted counts kind d < 2 ^ 63
 unfolding nights_taken
 counts_fit counts es kind d h few =
     let e : counted counts kind d ≡ count_by (takes kind d) (values_of es) = h kind d in
@@ -26,12 +28,14 @@ counts_fit counts es kind d h few =
     omega (arith, e, le, same, few)
 
 -- one more stay
-pub stands_more : (before after : List ((List ℕ × ℕ) × List ℕ)) (es : List (ℕ × Stay)) (party : ℕ) (stay : Stay) → CountsNightsOf before es → at_number es party ≡ None
+pub stands_more : (before after : List ((List ℕ × ℕ) × List ℕ)) (es : List (ℕ × Stay)) (party : ℕ) (stay : Stay)
+    → CountsNightsOf before es → at_number es party ≡ None
     → ((k : List ℕ) (d : ℕ) → counted after k d ≡ counted before k d + one_if (takes k d stay))
     → CountsNightsOf after (insert_entry nat_cmp es party stay)
 unfolding nights_taken
 stands_more before after es party stay h new u k d =
-    let now : count_by (takes k d) (values_of (insert_entry nat_cmp es party stay)) ≡ one_if (takes k d stay) + count_by (takes k d) (values_of es) = count_inserted (takes k d) es party stay new in
+    let now : count_by (takes k d) (values_of (insert_entry nat_cmp es party stay))
+    ≡ one_if (takes k d stay) + count_by (takes k d) (values_of es) = count_inserted (takes k d) es party stay new in
     let was : counted before k d ≡ count_by (takes k d) (values_of es) = h k d in
     let is = u k d in
     omega (arith, now, was, is)
@@ -39,9 +43,12 @@ stands_more before after es party stay h new u k d =
 there : {a b : Stay} → Some a ≡ Some b → a ≡ b
 there h = cc
 
-counts_by : (b : Bool) (p : Stay → Bool) (s : StayState) (e : ℕ × Stay) (es later : List (ℕ × Stay)) (stay : Stay) → (b ≡ true → e.1 ≡ stay)
-    → (b ≡ false → count_by p (values_of later) + one_if (p stay) ≡ count_by p (values_of es) + one_if (p (now_is s stay)))
-    → count_by p (values_of (cond b ((e.0, now_is s e.1) ∷ es) (e ∷ later))) + one_if (p stay) ≡ count_by p (e.1 ∷ values_of es) + one_if (p (now_is s stay))
+counts_by : (b : Bool) (p : Stay → Bool) (s : StayState) (e : ℕ × Stay) (es later : List (ℕ × Stay)) (stay : Stay)
+    → (b ≡ true → e.1 ≡ stay)
+    → (b ≡ false
+    → count_by p (values_of later) + one_if (p stay) ≡ count_by p (values_of es) + one_if (p (now_is s stay)))
+    → count_by p (values_of (cond b ((e.0, now_is s e.1) ∷ es) (e ∷ later))) + one_if (p stay)
+    ≡ count_by p (e.1 ∷ values_of es) + one_if (p (now_is s stay))
 counts_by true p s e es later stay f g =
     let q : e.1 ≡ stay = f refl in
     let was = count_first p e.1 (values_of es) in
@@ -64,17 +71,21 @@ tail_is true x y rest h t = absurd (let w : ◌≡◌ {A = Bool} true false = t 
 tail_is false x y rest h t = h
 
 -- how many stays pass a test, after one of them changed its state
-pub counts_changed : (p : Stay → Bool) (party : ℕ) (s : StayState) (es : List (ℕ × Stay)) (stay : Stay) → at_number es party ≡ Some stay
-    → count_by p (values_of (in_state party s es)) + one_if (p stay) ≡ count_by p (values_of es) + one_if (p (now_is s stay))
+pub counts_changed : (p : Stay → Bool) (party : ℕ) (s : StayState) (es : List (ℕ × Stay)) (stay : Stay)
+    → at_number es party ≡ Some stay
+    → count_by p (values_of (in_state party s es)) + one_if (p stay)
+    ≡ count_by p (values_of es) + one_if (p (now_is s stay))
 counts_changed p party s [] stay h = absurd (let w : ◌≡◌ {A = Option Stay} None (Some stay) = h in cc)
 counts_changed p party s (e ∷ es) stay h =
-    let turned : cond (e.0 == party) (Some e.1) (at_number es party) ≡ Some stay = ap (λ b. cond b (Some e.1) (at_number es party)) (sym (at_is party e.0)) ∙ h in
+    let turned : cond (e.0 == party) (Some e.1) (at_number es party) ≡ Some stay =
+    ap (λ b. cond b (Some e.1) (at_number es party)) (sym (at_is party e.0)) ∙ h in
     counts_by (e.0 == party) p s e es (in_state party s es) stay
     (λ t. head_is (e.0 == party) e.1 stay (at_number es party) turned t)
     (λ f. counts_changed p party s es stay (tail_is (e.0 == party) e.1 stay (at_number es party) turned f))
 
 -- a stay is done or cancelled
-pub stands_less : (before after : List ((List ℕ × ℕ) × List ℕ)) (es : List (ℕ × Stay)) (party : ℕ) (s : StayState) (stay : Stay) → CountsNightsOf before es → at_number es party ≡ Some stay → is_standing s ≡ false
+pub stands_less : (before after : List ((List ℕ × ℕ) × List ℕ)) (es : List (ℕ × Stay)) (party : ℕ) (s : StayState)
+    (stay : Stay) → CountsNightsOf before es → at_number es party ≡ Some stay → is_standing s ≡ false
     → ((k : List ℕ) (d : ℕ) → counted after k d ≡ counted before k d - one_if (takes k d stay))
     → CountsNightsOf after (in_state party s es)
 unfolding nights_taken
@@ -86,12 +97,14 @@ stands_less before after es party s stay h at ends u k d =
     omega (arith, moved, new, was, is)
 
 -- a stay that stands as it stood, or as little as it did
-pub stands_same : (counts : List ((List ℕ × ℕ) × List ℕ)) (es : List (ℕ × Stay)) (party : ℕ) (s : StayState) (stay : Stay) → CountsNightsOf counts es → at_number es party ≡ Some stay
+pub stands_same : (counts : List ((List ℕ × ℕ) × List ℕ)) (es : List (ℕ × Stay)) (party : ℕ) (s : StayState)
+    (stay : Stay) → CountsNightsOf counts es → at_number es party ≡ Some stay
     → is_standing s ≡ is_standing stay.state → CountsNightsOf counts (in_state party s es)
 unfolding nights_taken
 stands_same counts es party s stay h at same k d =
     let moved = counts_changed (takes k d) party s es stay at in
-    let old : one_if (takes k d (now_is s stay)) ≡ one_if (takes k d stay) = ap (λ b. one_if ((b && bytes_eq stay.kind k) && (nat_le stay.arrive d && nat_lt d stay.depart))) same in
+    let old : one_if (takes k d (now_is s stay)) ≡ one_if (takes k d stay) =
+    ap (λ b. one_if ((b && bytes_eq stay.kind k) && (nat_le stay.arrive d && nat_lt d stay.depart))) same in
     let was : counted counts k d ≡ count_by (takes k d) (values_of es) = h k d in
     omega (arith, moved, old, was)
 
@@ -100,10 +113,12 @@ unfolding nights_taken
 none_stand k d = refl
 
 -- a stay that stood, if there is one, stands on
-pub stands_on : (counts : List ((List ℕ × ℕ) × List ℕ)) (es : List (ℕ × Stay)) (party : ℕ) (s : StayState) → CountsNightsOf counts es → said_of (at_number es party) true (λ x. is_standing x.state) ≡ true
+pub stands_on : (counts : List ((List ℕ × ℕ) × List ℕ)) (es : List (ℕ × Stay)) (party : ℕ) (s : StayState)
+    → CountsNightsOf counts es → said_of (at_number es party) true (λ x. is_standing x.state) ≡ true
     → is_standing s ≡ true → CountsNightsOf counts (in_state party s es)
 stands_on counts es party s h stood stands = by (at_number es party) refl stood
   where
-    by : (o : Option Stay) → at_number es party ≡ o → said_of o true (λ x. is_standing x.state) ≡ true → CountsNightsOf counts (in_state party s es)
+    by : (o : Option Stay) → at_number es party ≡ o → said_of o true (λ x. is_standing x.state) ≡ true
+        → CountsNightsOf counts (in_state party s es)
     by None e t = subst (λ stays. CountsNightsOf counts stays) (sym (stay_absent party s es e)) h
     by (Some stay) e t = stands_same counts es party s stay h e (stands ∙ sym t)

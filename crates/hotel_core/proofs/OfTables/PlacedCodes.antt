@@ -31,17 +31,21 @@ same_cond false x f = refl
 
 -- ---- one code more
 
-placed_by : (o : Ordering) (e : ℕ × CodeRow) (es : List (ℕ × CodeRow)) (code : ℕ) (row : CodeRow) (r p : ℕ) → is_eq o ≡ false → is_here e.1 row.room row.place ≡ false
+placed_by : (o : Ordering) (e : ℕ × CodeRow) (es : List (ℕ × CodeRow)) (code : ℕ) (row : CodeRow) (r p : ℕ)
+    → is_eq o ≡ false → is_here e.1 row.room row.place ≡ false
     → first_code_at (insert_entry nat_cmp es code row) r p ≡ cond (is_here row r p) (Some code) (first_code_at es r p)
-    → first_code_at (match_ordering o ((code, row) ∷ e ∷ es) ((e.0, row) ∷ es) (e ∷ insert_entry nat_cmp es code row)) r p ≡ cond (is_here row r p) (Some code) (first_code_at (e ∷ es) r p)
+    → first_code_at (match_ordering o ((code, row) ∷ e ∷ es) ((e.0, row) ∷ es)
+    (e ∷ insert_entry nat_cmp es code row)) r p ≡ cond (is_here row r p) (Some code) (first_code_at (e ∷ es) r p)
 placed_by Less e es code row r p n apart ih = refl
 placed_by Equal e es code row r p n apart ih = absurd (let w : ◌≡◌ {A = Bool} true false = n in cc)
 placed_by Greater e es code row r p n apart ih =
     ap (λ z. cond (is_here e.1 r p) (Some e.0) z) ih
-    ∙ swapped (is_here e.1 r p) (is_here row r p) (Some e.0) (Some code) (first_code_at es r p) (λ h. moved_here (λ s q. is_here e.1 s q ≡ false) row r p h apart)
+    ∙ swapped (is_here e.1 r p) (is_here row r p) (Some e.0) (Some code) (first_code_at es r p)
+    (λ h. moved_here (λ s q. is_here e.1 s q ≡ false) row r p h apart)
 
 -- A new code at a free place is found there, and other places stay.
-pub placed : (es : List (ℕ × CodeRow)) (code : ℕ) (row : CodeRow) (r p : ℕ) → at_number es code ≡ None → first_code_at es row.room row.place ≡ None
+pub placed : (es : List (ℕ × CodeRow)) (code : ℕ) (row : CodeRow) (r p : ℕ)
+    → at_number es code ≡ None → first_code_at es row.room row.place ≡ None
     → first_code_at (insert_entry nat_cmp es code row) r p ≡ cond (is_here row r p) (Some code) (first_code_at es r p)
 placed [] code row r p a f = refl
 placed (e ∷ es) code row r p a f =
@@ -50,11 +54,14 @@ placed (e ∷ es) code row r p a f =
     placed_by (nat_cmp code e.0) e es code row r p m.0 n.0 (placed es code row r p m.1 n.1)
 
 here_is_at : (row : CodeRow) (r p : ℕ) → is_at (pair_cmp (row.room, row.place)) (r, p) ≡ is_here row r p
-here_is_at row r p = pair_is row.room row.place (r, p) ∙ ap (λ b. b && (p == row.place)) (eq_turned r row.room) ∙ ap (λ b. (row.room == r) && b) (eq_turned p row.place)
+here_is_at row r p = pair_is row.room row.place (r, p) ∙ ap (λ b. b && (p == row.place)) (eq_turned r row.room)
+    ∙ ap (λ b. (row.room == r) && b) (eq_turned p row.place)
 
 -- The table of places, with the new code's place.
-pub agree_after : (codes : List (ℕ × CodeRow)) (places later : List ((ℕ × ℕ) × ℕ)) (code : ℕ) (row : CodeRow) → PlacesAgree codes places → at_number codes code ≡ None → first_code_at codes row.room row.place ≡ None
-    → ((r p : ℕ) → lookup (is_at (pair_cmp (r, p))) later ≡ cond (is_at (pair_cmp (row.room, row.place)) (r, p)) (Some code) (lookup (is_at (pair_cmp (r, p))) places))
+pub agree_after : (codes : List (ℕ × CodeRow)) (places later : List ((ℕ × ℕ) × ℕ)) (code : ℕ) (row : CodeRow)
+    → PlacesAgree codes places → at_number codes code ≡ None → first_code_at codes row.room row.place ≡ None
+    → ((r p : ℕ) → lookup (is_at (pair_cmp (r, p))) later
+    ≡ cond (is_at (pair_cmp (row.room, row.place)) (r, p)) (Some code) (lookup (is_at (pair_cmp (r, p))) places))
     → PlacesAgree (insert_entry nat_cmp codes code row) later
 agree_after codes places later code row agree a f u r p =
     u r p
@@ -63,9 +70,12 @@ agree_after codes places later code row agree a f u r p =
     ∙ sym (placed codes code row r p a f)
 
 -- The table of places, with a free place put in and taken out again.
-pub agree_again : (codes : List (ℕ × CodeRow)) (places mid later : List ((ℕ × ℕ) × ℕ)) (code : ℕ) (row : CodeRow) → PlacesAgree codes places → first_code_at codes row.room row.place ≡ None
-    → ((r p : ℕ) → lookup (is_at (pair_cmp (r, p))) mid ≡ cond (is_at (pair_cmp (row.room, row.place)) (r, p)) (Some code) (lookup (is_at (pair_cmp (r, p))) places))
-    → ((r p : ℕ) → lookup (is_at (pair_cmp (r, p))) later ≡ cond (is_at (pair_cmp (row.room, row.place)) (r, p)) None (lookup (is_at (pair_cmp (r, p))) mid))
+pub agree_again : (codes : List (ℕ × CodeRow)) (places mid later : List ((ℕ × ℕ) × ℕ)) (code : ℕ) (row : CodeRow)
+    → PlacesAgree codes places → first_code_at codes row.room row.place ≡ None
+    → ((r p : ℕ) → lookup (is_at (pair_cmp (r, p))) mid
+    ≡ cond (is_at (pair_cmp (row.room, row.place)) (r, p)) (Some code) (lookup (is_at (pair_cmp (r, p))) places))
+    → ((r p : ℕ) → lookup (is_at (pair_cmp (r, p))) later
+    ≡ cond (is_at (pair_cmp (row.room, row.place)) (r, p)) None (lookup (is_at (pair_cmp (r, p))) mid))
     → PlacesAgree codes later
 agree_again codes places mid later code row agree f u w r p =
     w r p
@@ -73,7 +83,8 @@ agree_again codes places mid later code row agree f u w r p =
     ∙ twice (is_at (pair_cmp (row.room, row.place)) (r, p)) (Some code) (lookup (is_at (pair_cmp (r, p))) places)
     ∙ ap (λ b. cond b None (lookup (is_at (pair_cmp (r, p))) places)) (here_is_at row r p)
     ∙ ap (λ z. cond (is_here row r p) None z) (agree r p)
-    ∙ same_cond (is_here row r p) (first_code_at codes r p) (λ h. moved_here (λ s q. first_code_at codes s q ≡ None) row r p h f)
+    ∙ same_cond (is_here row r p) (first_code_at codes r p)
+    (λ h. moved_here (λ s q. first_code_at codes s q ≡ None) row r p h f)
   where
     twice : (b : Bool) (x y : Option ℕ) → cond b None (cond b x y) ≡ cond b None y
     twice true x y = refl
@@ -86,12 +97,15 @@ there_is h = cc
 
 removed_by : (b : Bool) (e : ℕ × CodeRow) (es : List (ℕ × CodeRow)) (code : ℕ) (row : CodeRow) (r p : ℕ)
     → (b ≡ true → (e.1 ≡ row) × (first_code_at es row.room row.place ≡ None))
-    → (b ≡ false → (is_here e.1 row.room row.place ≡ false) × (first_code_at (remove_entry (is_at (nat_cmp code)) es) r p ≡ cond (is_here row r p) None (first_code_at es r p)))
-    → first_code_at (cond b es (e ∷ remove_entry (is_at (nat_cmp code)) es)) r p ≡ cond (is_here row r p) None (first_code_at (e ∷ es) r p)
+    → (b ≡ false → (is_here e.1 row.room row.place ≡ false)
+    × (first_code_at (remove_entry (is_at (nat_cmp code)) es) r p ≡ cond (is_here row r p) None (first_code_at es r p)))
+    → first_code_at (cond b es (e ∷ remove_entry (is_at (nat_cmp code)) es)) r p
+    ≡ cond (is_here row r p) None (first_code_at (e ∷ es) r p)
 removed_by true e es code row r p f g =
     let x = f refl in
     sym (ap (λ (z : CodeRow). cond (is_here row r p) None (cond (is_here z r p) (Some e.0) (first_code_at es r p))) x.0
-    ∙ here_or_not (is_here row r p) (Some e.0) (first_code_at es r p) (λ h. moved_here (λ s q. first_code_at es s q ≡ None) row r p h x.1))
+    ∙ here_or_not (is_here row r p) (Some e.0) (first_code_at es r p)
+    (λ h. moved_here (λ s q. first_code_at es s q ≡ None) row r p h x.1))
   where
     here_or_not : (b : Bool) (x y : Option ℕ) → (b ≡ true → y ≡ None) → cond b None (cond b x y) ≡ y
     here_or_not true x y f = sym (f refl)
@@ -99,7 +113,8 @@ removed_by true e es code row r p f g =
 removed_by false e es code row r p f g =
     let x = g refl in
     ap (λ z. cond (is_here e.1 r p) (Some e.0) z) x.1
-    ∙ swapped (is_here e.1 r p) (is_here row r p) (Some e.0) None (first_code_at es r p) (λ h. moved_here (λ s q. is_here e.1 s q ≡ false) row r p h x.0)
+    ∙ swapped (is_here e.1 r p) (is_here row r p) (Some e.0) None (first_code_at es r p)
+    (λ h. moved_here (λ s q. is_here e.1 s q ≡ false) row r p h x.0)
 
 at_head : (b : Bool) (x y : CodeRow) (rest : Option CodeRow) → cond b (Some x) rest ≡ Some y → b ≡ true → x ≡ y
 at_head true x y rest h t = there_is h
@@ -110,21 +125,29 @@ at_tail true x y rest h t = absurd (let w : ◌≡◌ {A = Bool} true false = t 
 at_tail false x y rest h t = h
 
 -- A code that stood at its place alone leaves it free, and other places stay.
-pub unplaced : (es : List (ℕ × CodeRow)) (code : ℕ) (row : CodeRow) (r p : ℕ) → at_number es code ≡ Some row → first_code_at (remove_entry (is_at (nat_cmp code)) es) row.room row.place ≡ None
+pub unplaced : (es : List (ℕ × CodeRow)) (code : ℕ) (row : CodeRow) (r p : ℕ)
+    → at_number es code ≡ Some row → first_code_at (remove_entry (is_at (nat_cmp code)) es) row.room row.place ≡ None
     → first_code_at (remove_entry (is_at (nat_cmp code)) es) r p ≡ cond (is_here row r p) None (first_code_at es r p)
 unplaced [] code row r p a f = absurd (let w : ◌≡◌ {A = Option CodeRow} None (Some row) = a in cc)
 unplaced (e ∷ es) code row r p a f =
     removed_by (is_at (nat_cmp code) e.0) e es code row r p
-    (λ t. (at_head (is_at (nat_cmp code) e.0) e.1 row (at_number es code) a t, subst (λ b. first_code_at (cond b es (e ∷ remove_entry (is_at (nat_cmp code)) es)) row.room row.place ≡ None) t f))
+    (λ t. (
+      at_head (is_at (nat_cmp code) e.0) e.1 row (at_number es code) a t,
+      subst (λ b. first_code_at (cond b es (e ∷ remove_entry (is_at (nat_cmp code)) es)) row.room row.place ≡ None) t f,
+    ))
     (λ t.
-    let k = missed (is_here e.1 row.room row.place) e.0 (first_code_at (remove_entry (is_at (nat_cmp code)) es) row.room row.place)
-    (subst (λ b. first_code_at (cond b es (e ∷ remove_entry (is_at (nat_cmp code)) es)) row.room row.place ≡ None) t f) in
+    let k = missed (is_here e.1 row.room row.place) e.0
+    (first_code_at (remove_entry (is_at (nat_cmp code)) es) row.room row.place)
+    (subst (λ b. first_code_at (cond b es (e ∷ remove_entry (is_at (nat_cmp code)) es)) row.room row.place ≡ None) t
+    f) in
     (k.0, unplaced es code row r p (at_tail (is_at (nat_cmp code) e.0) e.1 row (at_number es code) a t) k.1))
 
 -- The table of places, without the code's place.
-pub agree_without : (codes : List (ℕ × CodeRow)) (places later : List ((ℕ × ℕ) × ℕ)) (code : ℕ) (row : CodeRow) → PlacesAgree codes places → at_number codes code ≡ Some row
+pub agree_without : (codes : List (ℕ × CodeRow)) (places later : List ((ℕ × ℕ) × ℕ)) (code : ℕ) (row : CodeRow)
+    → PlacesAgree codes places → at_number codes code ≡ Some row
     → first_code_at (remove_entry (is_at (nat_cmp code)) codes) row.room row.place ≡ None
-    → ((r p : ℕ) → lookup (is_at (pair_cmp (r, p))) later ≡ cond (is_at (pair_cmp (row.room, row.place)) (r, p)) None (lookup (is_at (pair_cmp (r, p))) places))
+    → ((r p : ℕ) → lookup (is_at (pair_cmp (r, p))) later
+    ≡ cond (is_at (pair_cmp (row.room, row.place)) (r, p)) None (lookup (is_at (pair_cmp (r, p))) places))
     → PlacesAgree (remove_entry (is_at (nat_cmp code)) codes) later
 agree_without codes places later code row agree a f u r p =
     u r p

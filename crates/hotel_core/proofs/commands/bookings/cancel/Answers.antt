@@ -14,22 +14,26 @@ returns-in_err-today g c = λ source.
 pub returns-in_err-stay : goal.returns-in_err-stay
 unfolding outcome_on
 returns-in_err-stay g c = λ source.
-    stopped c.from_residual-in_err-stay.result c.from_residual-in_err-stay.ensures.1 (then_found begun c.in_ok-today.ensures.finds) c.in_err-stay.ensures (λ k e. rw (k.1, e) refl)
+    stopped c.from_residual-in_err-stay.result c.from_residual-in_err-stay.ensures.1
+    (then_found begun c.in_ok-today.ensures.finds) c.in_err-stay.ensures (λ k e. rw (k.1, e) refl)
 
 pub returns-then-not-is_booked : goal.returns-then-not-is_booked
 unfolding outcome_on
 returns-then-not-is_booked g c = λ source.
     let booked : is_booked_state c.in_ok-stay.stay.state ≡ false = cc in
-    refuses refusal.NotBooked refl (then_found (then_found begun c.in_ok-today.ensures.finds) c.in_ok-stay.ensures) (λ k. rw (k.0.1, k.1, booked) refl)
+    refuses refusal.NotBooked refl (then_found (then_found begun c.in_ok-today.ensures.finds) c.in_ok-stay.ensures)
+    (λ k. rw (k.0.1, k.1, booked) refl)
 
 pub make-requires-clause-answered : goal.make-requires-clause-answered
 unfolding outcome_on
 make-requires-clause-answered g c =
     let booked : is_booked_state c.in_ok-stay.stay.state ≡ true = cc in
-    answers (then_found (then_found begun c.in_ok-today.ensures.finds) c.in_ok-stay.ensures) (λ clean k. ([], command.Cancel c.args.party, tt, rw (k.0.1, k.1, booked) refl))
+    answers (then_found (then_found begun c.in_ok-today.ensures.finds) c.in_ok-stay.ensures)
+    (λ clean k. ([], command.Cancel c.args.party, tt, rw (k.0.1, k.1, booked) refl))
 
 pub returns : goal.returns
 unfolding outcome_on
 returns g c = λ source.
     let booked : is_booked_state c.in_ok-stay.stay.state ≡ true = cc in
-    ends (then_found (then_found begun c.in_ok-today.ensures.finds) c.in_ok-stay.ensures) (c.make.ensures.steps source) (λ k. rw (k.0.1, k.1, booked) refl)
+    ends (then_found (then_found begun c.in_ok-today.ensures.finds) c.in_ok-stay.ensures) (c.make.ensures.steps source)
+    (λ k. rw (k.0.1, k.1, booked) refl)

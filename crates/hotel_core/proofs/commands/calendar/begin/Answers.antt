@@ -20,10 +20,12 @@ pub make-requires-clause-answered : goal.make-requires-clause-answered
 unfolding outcome_on
 make-requires-clause-answered g c =
     let unset : is_some c.in_ok-day_if_set.field-0 ≡ false = cc in
-    answers (then_found begun c.in_ok-day_if_set.ensures.finds) (λ clean k. ([], command.Begin c.args.day, c.requires, rw (only k.1, unset) refl))
+    answers (then_found begun c.in_ok-day_if_set.ensures.finds)
+    (λ clean k. ([], command.Begin c.args.day, c.requires, rw (only k.1, unset) refl))
 
 pub returns-clause-steps : goal.returns-clause-steps
 unfolding outcome_on
 returns-clause-steps g c = λ source.
     let unset : is_some c.in_ok-day_if_set.field-0 ≡ false = cc in
-    ends (then_found begun c.in_ok-day_if_set.ensures.finds) (c.make.ensures.steps source) (λ k. rw (only k.1, unset) refl)
+    ends (then_found begun c.in_ok-day_if_set.ensures.finds) (c.make.ensures.steps source)
+    (λ k. rw (only k.1, unset) refl)

@@ -16,7 +16,8 @@ returns-in_err-day-clause-steps g c = λ source.
 pub returns-in_default-clause-steps : goal.returns-in_default-clause-steps
 unfolding outcome_on
 returns-in_default-clause-steps g c = λ source.
-    let late : nat_lt c.in_ok-day.day 36524 ≡ false = let p = no_day (c.in_ok-day.day + 1) c.in_default.ensures in grind (arith, nat_tests, p) in
+    let late : nat_lt c.in_ok-day.day 36524 ≡ false = let p = no_day (c.in_ok-day.day + 1) c.in_default.ensures in
+    grind (arith, nat_tests, p) in
     refuses LastDay refl (then_found begun c.in_ok-day.ensures.finds) (λ k. rw (k.1, late) refl)
 
 pub make-requires-clause-answered : goal.make-requires-clause-answered
@@ -24,11 +25,13 @@ unfolding outcome_on
 make-requires-clause-answered g c =
     let next = is_day (c.in_ok-day.day + 1) c.in-Some.next c.in-Some.ensures in
     let early : nat_lt c.in_ok-day.day 36524 ≡ true = grind (arith, nat_tests, next.1) in
-    answers (then_found begun c.in_ok-day.ensures.finds) (λ clean k. ([], command.NextDay, tt, rw (k.1, early) (ap (λ (n : ℕ). accepted (reply.DayIs n) (change.DayTo n)) (sym next.0))))
+    answers (then_found begun c.in_ok-day.ensures.finds) (λ clean k.
+    ([], command.NextDay, tt, rw (k.1, early) (ap (λ (n : ℕ). accepted (reply.DayIs n) (change.DayTo n)) (sym next.0))))
 
 pub returns-clause-steps : goal.returns-clause-steps
 unfolding outcome_on
 returns-clause-steps g c = λ source.
     let next = is_day (c.in_ok-day.day + 1) c.in-Some.next c.in-Some.ensures in
     let early : nat_lt c.in_ok-day.day 36524 ≡ true = grind (arith, nat_tests, next.1) in
-    ends (then_found begun c.in_ok-day.ensures.finds) (c.make.ensures.steps source) (λ k. rw (k.1, early) (ap (λ (n : ℕ). accepted (reply.DayIs n) (change.DayTo n)) (sym next.0)))
+    ends (then_found begun c.in_ok-day.ensures.finds) (c.make.ensures.steps source)
+    (λ k. rw (k.1, early) (ap (λ (n : ℕ). accepted (reply.DayIs n) (change.DayTo n)) (sym next.0)))

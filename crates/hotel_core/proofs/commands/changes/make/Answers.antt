@@ -5,12 +5,15 @@ use Rattle.hotel_core.proofs.commands.changes.make.Goals as goal
 
 pub apply-requires : goal.apply-requires
 apply-requires g c = λ clean.
-    fits_after (g.B.Books.rows c.args.books.now) c.args.change c.args.reply (c.known_sound.ensures clean) c.known_reply.ensures (c.requires.answered clean)
+    fits_after (g.B.Books.rows c.args.books.now) c.args.change c.args.reply
+    (c.known_sound.ensures clean) c.known_reply.ensures (c.requires.answered clean)
 
 pub returns-in-Ok-clause-steps : goal.returns-in-Ok-clause-steps
 returns-in-Ok-clause-steps g c = λ source.
-    makes c.args.reply c.args.change source c.requires.is_answer c.in-Ok.ensures.ok c.apply.ensures.since c.in-Ok.ensures.vouched
+    makes c.args.reply c.args.change source c.requires.is_answer c.in-Ok.ensures.ok
+    c.apply.ensures.since c.in-Ok.ensures.vouched
 
 pub returns-in-Err-clause-steps : goal.returns-in-Err-clause-steps
 returns-in-Err-clause-steps g c = λ source.
-    fails (accepted c.args.reply c.args.change) c.in-Err.fault c.refusal_of.result source c.refusal_of.ensures c.in-Err.ensures.err c.apply.ensures.since c.in-Err.ensures.fault
+    fails (accepted c.args.reply c.args.change) c.in-Err.fault c.refusal_of.result source c.refusal_of.ensures
+    c.in-Err.ensures.err c.apply.ensures.since c.in-Err.ensures.fault

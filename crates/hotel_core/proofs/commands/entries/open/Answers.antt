@@ -9,27 +9,37 @@ Known note row number link rows = IsUntaken note row rows × (has_link_on rows n
 
 pub returns-in_err-lock_place : goal.returns-in_err-lock_place
 returns-in_err-lock_place g c = λ source.
-    halted c.from_residual.result c.from_residual.ensures.1 (given (Known c.args.note.now c.args.row.now c.args.number c.args.link.now) c.requires.known) c.in_err-lock_place.ensures (λ w k. link_is_there _ _ _ w k.1)
+    halted c.from_residual.result c.from_residual.ensures.1
+    (given (Known c.args.note.now c.args.row.now c.args.number c.args.link.now) c.requires.known)
+    c.in_err-lock_place.ensures (λ w k. link_is_there _ _ _ w k.1)
 
 pub returns-in_err-secured : goal.returns-in_err-secured
 returns-in_err-secured g c = λ source.
-    stopped c.from_residual-in_err-secured.result c.from_residual-in_err-secured.ensures.1 (then_found (given (Known c.args.note.now c.args.row.now c.args.number c.args.link.now) c.requires.known) c.in_ok-lock_place.ensures)
+    stopped c.from_residual-in_err-secured.result c.from_residual-in_err-secured.ensures.1
+    (then_found (given (Known c.args.note.now c.args.row.now c.args.number c.args.link.now) c.requires.known)
+    c.in_ok-lock_place.ensures)
     c.in_err-secured.ensures (λ k e. cc)
 
 pub returns-in_err-is_inside : goal.returns-in_err-is_inside
 returns-in_err-is_inside g c = λ source.
     stopped c.from_residual-in_err-is_inside.result c.from_residual-in_err-is_inside.ensures.1
-    (then_found (then_found (given (Known c.args.note.now c.args.row.now c.args.number c.args.link.now) c.requires.known) c.in_ok-lock_place.ensures) (rw c.room.ensures at c.in_ok-secured.ensures))
+    (then_found (then_found (given (Known c.args.note.now c.args.row.now c.args.number c.args.link.now)
+    c.requires.known) c.in_ok-lock_place.ensures) (rw c.room.ensures at c.in_ok-secured.ensures))
     c.in_err-is_inside.ensures (λ k e. cc)
 
 pub make-requires-clause-answered : goal.make-requires-clause-answered
 make-requires-clause-answered g c =
     let insides = c.comes-insides.ensures in
-    answers (then_found (then_found (then_found (given (Known c.args.note.now c.args.row.now c.args.number c.args.link.now) c.requires.known) c.in_ok-lock_place.ensures) (rw c.room.ensures at c.in_ok-secured.ensures)) (rw c.room-2.ensures at c.in_ok-is_inside.ensures))
-    (λ clean k. comes_of _ _ _ (c.requires.outcome clean) (rw (k.0.0.0.0.0, k.0.0.1, ← only k.0.1, insides, only k.1) refl))
+    answers (then_found (then_found (then_found (given (Known c.args.note.now c.args.row.now c.args.number
+    c.args.link.now) c.requires.known) c.in_ok-lock_place.ensures) (rw c.room.ensures at c.in_ok-secured.ensures))
+    (rw c.room-2.ensures at c.in_ok-is_inside.ensures))
+    (λ clean k. comes_of _ _ _ (c.requires.outcome clean)
+    (rw (k.0.0.0.0.0, k.0.0.1, ← only k.0.1, insides, only k.1) refl))
 
 pub returns : goal.returns
 returns g c = λ source.
     let insides = c.comes-insides.ensures in
-    ends (then_found (then_found (then_found (given (Known c.args.note.now c.args.row.now c.args.number c.args.link.now) c.requires.known) c.in_ok-lock_place.ensures) (rw c.room.ensures at c.in_ok-secured.ensures)) (rw c.room-2.ensures at c.in_ok-is_inside.ensures))
+    ends (then_found (then_found (then_found (given (Known c.args.note.now c.args.row.now c.args.number c.args.link.now)
+    c.requires.known) c.in_ok-lock_place.ensures) (rw c.room.ensures at c.in_ok-secured.ensures))
+    (rw c.room-2.ensures at c.in_ok-is_inside.ensures))
     (c.make.ensures.steps source) (λ k. rw (k.0.0.0.0.0, k.0.0.1, ← only k.0.1, insides, only k.1) refl)

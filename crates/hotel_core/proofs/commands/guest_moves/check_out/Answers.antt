@@ -14,29 +14,35 @@ returns-in_err-today g c = λ source.
 pub returns-in_err-stay : goal.returns-in_err-stay
 unfolding outcome_on
 returns-in_err-stay g c = λ source.
-    stopped c.from_residual-in_err-stay.result c.from_residual-in_err-stay.ensures.1 (then_found begun c.in_ok-today.ensures.finds) c.in_err-stay.ensures (λ k e. rw (k.1, e) refl)
+    stopped c.from_residual-in_err-stay.result c.from_residual-in_err-stay.ensures.1
+    (then_found begun c.in_ok-today.ensures.finds) c.in_err-stay.ensures (λ k e. rw (k.1, e) refl)
 
 pub returns-in_default : goal.returns-in_default
 unfolding outcome_on
 returns-in_default g c = λ source.
     let home : room_of_state c.in_ok-stay.stay.state ≡ None = cc in
-    refuses refusal.NotInHouse refl (then_found (then_found begun c.in_ok-today.ensures.finds) c.in_ok-stay.ensures) (λ k. rw (k.0.1, k.1, home) refl)
+    refuses refusal.NotInHouse refl (then_found (then_found begun c.in_ok-today.ensures.finds) c.in_ok-stay.ensures)
+    (λ k. rw (k.0.1, k.1, home) refl)
 
 pub returns-in_err-row_of : goal.returns-in_err-row_of
 unfolding outcome_on
 returns-in_err-row_of g c = λ source.
     let home : room_of_state c.in_ok-stay.stay.state ≡ Some c.in-Some.room = cc in
-    halted c.from_residual-in_err-row_of.result c.from_residual-in_err-row_of.ensures.1 (then_found (then_found begun c.in_ok-today.ensures.finds) c.in_ok-stay.ensures) c.in_err-row_of.ensures (λ w k. (w.homes c.args.party c.in-Some.room (rw (k.1, home) refl)).0)
+    halted c.from_residual-in_err-row_of.result c.from_residual-in_err-row_of.ensures.1
+    (then_found (then_found begun c.in_ok-today.ensures.finds) c.in_ok-stay.ensures) c.in_err-row_of.ensures
+    (λ w k. (w.homes c.args.party c.in-Some.room (rw (k.1, home) refl)).0)
 
 pub make-requires-clause-answered : goal.make-requires-clause-answered
 unfolding outcome_on
 make-requires-clause-answered g c =
     let home : room_of_state c.in_ok-stay.stay.state ≡ Some c.in-Some.room = cc in
-    answers (then_found (then_found (then_found begun c.in_ok-today.ensures.finds) c.in_ok-stay.ensures) c.in_ok-row_of.ensures)
+    answers
+    (then_found (then_found (then_found begun c.in_ok-today.ensures.finds) c.in_ok-stay.ensures) c.in_ok-row_of.ensures)
     (λ clean k. ([], command.CheckOut c.args.party, tt, rw (k.0.0.1, k.0.1, home) refl))
 
 pub returns : goal.returns
 unfolding outcome_on
 returns g c = λ source.
     let home : room_of_state c.in_ok-stay.stay.state ≡ Some c.in-Some.room = cc in
-    ends (then_found (then_found (then_found begun c.in_ok-today.ensures.finds) c.in_ok-stay.ensures) c.in_ok-row_of.ensures) (c.make.ensures.steps source) (λ k. rw (k.0.0.1, k.0.1, home) refl)
+    ends (then_found (then_found (then_found begun c.in_ok-today.ensures.finds) c.in_ok-stay.ensures)
+    c.in_ok-row_of.ensures) (c.make.ensures.steps source) (λ k. rw (k.0.0.1, k.0.1, home) refl)

@@ -14,32 +14,41 @@ returns-in_err-today g c =
 pub returns-in_err-stay : goal.returns-in_err-stay
 unfolding outcome_on
 returns-in_err-stay g c =
-    stopped c.from_residual-in_err-stay.result c.from_residual-in_err-stay.ensures.1 (then_found begun c.in_ok-today.ensures.finds) c.in_err-stay.ensures (λ k e. rw (k.1, e) refl)
+    stopped c.from_residual-in_err-stay.result c.from_residual-in_err-stay.ensures.1
+    (then_found begun c.in_ok-today.ensures.finds) c.in_err-stay.ensures (λ k e. rw (k.1, e) refl)
 
 pub returns-in_default : goal.returns-in_default
 unfolding outcome_on
 returns-in_default g c =
     let home : room_of_state c.in_ok-stay.stay.state ≡ None = cc in
-    refuses refusal.NotInHouse refl (then_found (then_found begun c.in_ok-today.ensures.finds) c.in_ok-stay.ensures) (λ k. rw (k.0.1, k.1, home) refl)
+    refuses refusal.NotInHouse refl (then_found (then_found begun c.in_ok-today.ensures.finds) c.in_ok-stay.ensures)
+    (λ k. rw (k.0.1, k.1, home) refl)
 
 pub returns-in_err-row : goal.returns-in_err-row
 unfolding outcome_on
 returns-in_err-row g c =
     let home : room_of_state c.in_ok-stay.stay.state ≡ Some c.in-Some.home = cc in
-    halted c.from_residual-in_err-row.result c.from_residual-in_err-row.ensures.1 (then_found (then_found begun c.in_ok-today.ensures.finds) c.in_ok-stay.ensures) c.in_err-row.ensures (λ w k. (w.homes c.args.party c.in-Some.home (rw (k.1, home) refl)).0)
+    halted c.from_residual-in_err-row.result c.from_residual-in_err-row.ensures.1
+    (then_found (then_found begun c.in_ok-today.ensures.finds) c.in_ok-stay.ensures) c.in_err-row.ensures
+    (λ w k. (w.homes c.args.party c.in-Some.home (rw (k.1, home) refl)).0)
 
 pub issue-requires-clause-there : goal.issue-requires-clause-there
-issue-requires-clause-there g c = λ clean. (at_now (then_found (then_found (then_found begun c.in_ok-today.ensures.finds) c.in_ok-stay.ensures) c.in_ok-row.ensures) clean).1
+issue-requires-clause-there g c =
+    λ clean. (at_now (then_found (then_found (then_found begun c.in_ok-today.ensures.finds) c.in_ok-stay.ensures)
+    c.in_ok-row.ensures) clean).1
 
 pub issue-requires-clause-outcome : goal.issue-requires-clause-outcome
 unfolding outcome_on
 issue-requires-clause-outcome g c =
     let home : room_of_state c.in_ok-stay.stay.state ≡ Some c.in-Some.home = cc in
-    comes_now (λ rs. issued_on rs (words 64 (g.R.Rng.stream c.args.source.now)) c.args.party c.in-Some.home None) (then_found (then_found (then_found begun c.in_ok-today.ensures.finds) c.in_ok-stay.ensures) c.in_ok-row.ensures)
-    (λ clean k. (words 64 (g.R.Rng.stream c.args.source.now), command.Reissue c.args.party, tt, rw (k.0.0.1, k.0.1, home) refl))
+    comes_now (λ rs. issued_on rs (words 64 (g.R.Rng.stream c.args.source.now)) c.args.party c.in-Some.home None)
+    (then_found (then_found (then_found begun c.in_ok-today.ensures.finds) c.in_ok-stay.ensures) c.in_ok-row.ensures)
+    (λ clean k.
+    (words 64 (g.R.Rng.stream c.args.source.now), command.Reissue c.args.party, tt, rw (k.0.0.1, k.0.1, home) refl))
 
 pub returns : goal.returns
 unfolding outcome_on
 returns g c =
     let home : room_of_state c.in_ok-stay.stay.state ≡ Some c.in-Some.home = cc in
-    ends (then_found (then_found (then_found begun c.in_ok-today.ensures.finds) c.in_ok-stay.ensures) c.in_ok-row.ensures) c.issue.ensures (λ k. rw (k.0.0.1, k.0.1, home) refl)
+    ends (then_found (then_found (then_found begun c.in_ok-today.ensures.finds) c.in_ok-stay.ensures)
+    c.in_ok-row.ensures) c.issue.ensures (λ k. rw (k.0.0.1, k.0.1, home) refl)

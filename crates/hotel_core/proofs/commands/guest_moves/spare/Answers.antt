@@ -15,35 +15,45 @@ returns-in_err-today g c = λ source.
 pub returns-in_err-stay : goal.returns-in_err-stay
 unfolding outcome_on
 returns-in_err-stay g c = λ source.
-    stopped c.from_residual-in_err-stay.result c.from_residual-in_err-stay.ensures.1 (then_found begun c.in_ok-today.ensures.finds) c.in_err-stay.ensures (λ k e. rw (k.1, e) refl)
+    stopped c.from_residual-in_err-stay.result c.from_residual-in_err-stay.ensures.1
+    (then_found begun c.in_ok-today.ensures.finds) c.in_err-stay.ensures (λ k e. rw (k.1, e) refl)
 
 pub returns-in_default : goal.returns-in_default
 unfolding outcome_on
 returns-in_default g c = λ source.
     let home : room_of_state c.in_ok-stay.stay.state ≡ None = cc in
-    refuses refusal.NotInHouse refl (then_found (then_found begun c.in_ok-today.ensures.finds) c.in_ok-stay.ensures) (λ k. rw (k.0.1, k.1, home) refl)
+    refuses refusal.NotInHouse refl (then_found (then_found begun c.in_ok-today.ensures.finds) c.in_ok-stay.ensures)
+    (λ k. rw (k.0.1, k.1, home) refl)
 
 pub returns-in_err-number : goal.returns-in_err-number
 unfolding outcome_on
 returns-in_err-number g c = λ source.
     let home : room_of_state c.in_ok-stay.stay.state ≡ Some c.in-Some.home = cc in
-    stopped c.from_residual-in_err-number.result c.from_residual-in_err-number.ensures.1 (then_found (then_found begun c.in_ok-today.ensures.finds) c.in_ok-stay.ensures) c.in_err-number.ensures (λ k e. rw (k.0.1, k.1, home, e) refl)
+    stopped c.from_residual-in_err-number.result c.from_residual-in_err-number.ensures.1
+    (then_found (then_found begun c.in_ok-today.ensures.finds) c.in_ok-stay.ensures) c.in_err-number.ensures
+    (λ k e. rw (k.0.1, k.1, home, e) refl)
 
 pub returns-in_err-link : goal.returns-in_err-link
 unfolding outcome_on
 returns-in_err-link g c = λ source.
     let home : room_of_state c.in_ok-stay.stay.state ≡ Some c.in-Some.home = cc in
-    halted c.from_residual-in_err-link.result c.from_residual-in_err-link.ensures.1 (then_found (then_found (then_found begun c.in_ok-today.ensures.finds) c.in_ok-stay.ensures) c.in_ok-number.ensures) c.in_err-link.ensures (λ w k. home_has_link _ c.args.party c.in-Some.home w (rw (k.0.1, home) refl))
+    halted c.from_residual-in_err-link.result c.from_residual-in_err-link.ensures.1
+    (then_found (then_found (then_found begun c.in_ok-today.ensures.finds) c.in_ok-stay.ensures) c.in_ok-number.ensures)
+    c.in_err-link.ensures (λ w k. home_has_link _ c.args.party c.in-Some.home w (rw (k.0.1, home) refl))
 
 pub make-requires-clause-answered : goal.make-requires-clause-answered
 unfolding outcome_on
 make-requires-clause-answered g c =
     let home : room_of_state c.in_ok-stay.stay.state ≡ Some c.in-Some.home = cc in
-    answers (then_found (then_found (then_found (then_found begun c.in_ok-today.ensures.finds) c.in_ok-stay.ensures) c.in_ok-number.ensures) c.in_ok-link.ensures)
-    (λ clean k. ([], command.Spare c.args.party, tt, rw (k.0.0.0.1, k.0.0.1, home, k.0.1, number_is _ _ k.0.1, only k.1) refl))
+    answers (then_found (then_found (then_found (then_found begun c.in_ok-today.ensures.finds) c.in_ok-stay.ensures)
+    c.in_ok-number.ensures) c.in_ok-link.ensures)
+    (λ clean k.
+    ([], command.Spare c.args.party, tt, rw (k.0.0.0.1, k.0.0.1, home, k.0.1, number_is _ _ k.0.1, only k.1) refl))
 
 pub returns : goal.returns
 unfolding outcome_on
 returns g c = λ source.
     let home : room_of_state c.in_ok-stay.stay.state ≡ Some c.in-Some.home = cc in
-    ends (then_found (then_found (then_found (then_found begun c.in_ok-today.ensures.finds) c.in_ok-stay.ensures) c.in_ok-number.ensures) c.in_ok-link.ensures) (c.make.ensures.steps source) (λ k. rw (k.0.0.0.1, k.0.0.1, home, k.0.1, number_is _ _ k.0.1, only k.1) refl)
+    ends (then_found (then_found (then_found (then_found begun c.in_ok-today.ensures.finds) c.in_ok-stay.ensures)
+    c.in_ok-number.ensures) c.in_ok-link.ensures) (c.make.ensures.steps source)
+    (λ k. rw (k.0.0.0.1, k.0.0.1, home, k.0.1, number_is _ _ k.0.1, only k.1) refl)

@@ -7,11 +7,14 @@ pub returns-then-is_past : goal.returns-then-is_past
 returns-then-is_past g c =
     let note = c.args.note.now in
     let row = c.args.row.now in
-    let p = and_true (note.fit == row.fit) (nat_lt (row.notes - row.before) note.count) (sym c.is_past.ensures ∙ c.if-is_past.true) in
+    let p = and_true (note.fit == row.fit) (nat_lt (row.notes - row.before) note.count)
+    (sym c.is_past.ensures ∙ c.if-is_past.true) in
     let later : row.notes - row.before < note.count = lt_from (row.notes - row.before) note.count p.1 in
     record {
-      answer = λ clean. ap Some (ap (λ z. note_at (g.B.Books.rows c.args.books.now) note.room z note.count) (eq_from note.fit row.fit p.0)
-          ∙ no_later_note (g.B.Books.rows c.args.books.now) (c.known_sound.ensures clean) note.room note.count row (omega arith) later (c.requires.there clean));
+      answer = λ clean. ap Some
+          (ap (λ z. note_at (g.B.Books.rows c.args.books.now) note.room z note.count) (eq_from note.fit row.fit p.0)
+          ∙ no_later_note (g.B.Books.rows c.args.books.now) (c.known_sound.ensures clean) note.room note.count row
+          (omega arith) later (c.requires.there clean));
       same = λ clean. refl;
       since = since_refl;
       vouched = λ honest _. c.requires.vouched honest;

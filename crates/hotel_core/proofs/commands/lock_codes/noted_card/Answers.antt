@@ -9,10 +9,12 @@ returns-in_err-card g c =
 
 pub returns-then-not-same_link : goal.returns-then-not-same_link
 returns-then-not-same_link g c =
-    let differ : same_link c.in_ok-card.card.link c.args.link.now ≡ false = sym c.same_link.ensures ∙ c.if-not-same_link.true in
+    let differ : same_link c.in_ok-card.card.link c.args.link.now ≡ false =
+    sym c.same_link.ensures ∙ c.if-not-same_link.true in
     refused_found c.in_ok-card.ensures refl (λ e. rw (e, differ) refl)
 
 pub returns : goal.returns
 returns g c =
-    let same : same_link c.in_ok-card.card.link c.args.link.now ≡ true = sym c.same_link.ensures ∙ c.if-not-same_link.false in
+    let same : same_link c.in_ok-card.card.link c.args.link.now ≡ true =
+    sym c.same_link.ensures ∙ c.if-not-same_link.false in
     passed_found c.in_ok-card.ensures (λ e. rw (e, same) refl)

@@ -4,4 +4,5 @@ use Rattle.hotel_core.proofs.OfNights.KindKeys.{known_kind}
 use Rattle.hotel_core.proofs.kind_rooms.KindRooms.has.Goals as goal
 
 pub returns : goal.returns
-returns c = c.contains_key.ensures ∙ known_kind c.self.inside.counts.entries c.args.kind.now ∙ ap (λ counts. is_there counts c.args.kind.now) c.self.view_is
+returns c = c.contains_key.ensures ∙ known_kind c.self.inside.counts.entries c.args.kind.now
+    ∙ ap (λ counts. is_there counts c.args.kind.now) c.self.view_is

@@ -16,16 +16,20 @@ in_both (Ok t) f g p q = f p
 in_both (Err e) f g p q = g q
 
 pub returns-clause-there : goal.returns-clause-there
-returns-clause-there c = when_ok c.add_kind.result _ _ (λ added. ap (λ ks. list_any (λ k. bytes_eq k c.args.kind) ks) added ∙ there_itself (keys_of c.args.self.now) c.args.kind) c.add_kind.ensures.kinds
+returns-clause-there c =
+    when_ok c.add_kind.result _ _ (λ added. ap (λ ks. list_any (λ k. bytes_eq k c.args.kind) ks) added
+    ∙ there_itself (keys_of c.args.self.now) c.args.kind) c.add_kind.ensures.kinds
 
 pub returns-clause-others : goal.returns-clause-others
 returns-clause-others c =
     let Stays : Type 0 = (k : List ℕ) → is_there c.args.self.now k ≡ true → is_there c.add_kind.new.self k ≡ true in
     in_both {R = Stays} c.add_kind.result
-    (λ added kind there. ap (λ ks. list_any (λ k. bytes_eq k kind) ks) added ∙ any_key_inserted (slice_cmp nat_cmp) (λ k. bytes_eq k kind) c.args.kind (keys_of c.args.self.now) there)
+    (λ added kind there. ap (λ ks. list_any (λ k. bytes_eq k kind) ks) added
+    ∙ any_key_inserted (slice_cmp nat_cmp) (λ k. bytes_eq k kind) c.args.kind (keys_of c.args.self.now) there)
     (λ same kind there. ap (λ ks. is_there ks kind) same ∙ there) c.add_kind.ensures.kinds c.add_kind.ensures.err
 
 pub returns-clause-rooms : goal.returns-clause-rooms
 returns-clause-rooms c =
     let Stay : Type 0 = (k : List ℕ) → rooms_in c.add_kind.new.self k ≡ rooms_in c.args.self.now k in
-    in_both {R = Stay} c.add_kind.result (λ same. same) (λ same kind. ap (λ ks. rooms_in ks kind) same) c.add_kind.ensures.rooms c.add_kind.ensures.err
+    in_both {R = Stay} c.add_kind.result (λ same. same)
+    (λ same kind. ap (λ ks. rooms_in ks kind) same) c.add_kind.ensures.rooms c.add_kind.ensures.err

@@ -4,4 +4,5 @@ use Rattle.hotel_core.proofs.night_index.NightIndex.full_night.Goals as goal
 
 pub returns : goal.returns
 returns c = λ stays stands.
-    c.first_full.ensures ∙ (λ i. first_day (λ d. nat_le c.args.rooms (stands c.args.kind.now d i)) c.args.arrive (c.args.depart - c.args.arrive))
+    c.first_full.ensures ∙ (λ i. first_day (λ d. nat_le c.args.rooms (stands c.args.kind.now d i)) c.args.arrive
+    (c.args.depart - c.args.arrive))

@@ -8,12 +8,16 @@ returns-then-place-len c =
     let cards = c.self.inside.cards.items in
     let place = ap (λ n. n - 1) c.value.ensures.same in
     let past : length cards ≤ c.value.result - 1 = omega (arith, c.len.ensures, c.if-place-len.true) in
-    sym (slice_get_past cards (c.value.result - 1) past) ∙ ap (slice_get cards) place ∙ sym (at_place 1 cards c.args.number (omega (arith, c.value.ensures))) ∙ ap (λ es. at_number es c.args.number) c.self.view_is
+    sym (slice_get_past cards (c.value.result - 1) past) ∙ ap (slice_get cards) place
+    ∙ sym (at_place 1 cards c.args.number (omega (arith, c.value.ensures)))
+    ∙ ap (λ es. at_number es c.args.number) c.self.view_is
 
 pub returns : goal.returns
 returns c =
     let cards = c.self.inside.cards.items in
     let place = ap (λ n. n - 1) c.value.ensures.same in
     let within : c.value.result - 1 < length cards = omega (arith, c.len.ensures, c.if-place-len.false) in
-    ap Some c.index.ensures ∙ sym (slice_get-get_or cards (c.value.result - 1) c.index.result.now within) ∙ ap (slice_get cards) place
-    ∙ sym (at_place 1 cards c.args.number (omega (arith, c.value.ensures))) ∙ ap (λ es. at_number es c.args.number) c.self.view_is
+    ap Some c.index.ensures
+    ∙ sym (slice_get-get_or cards (c.value.result - 1) c.index.result.now within) ∙ ap (slice_get cards) place
+    ∙ sym (at_place 1 cards c.args.number (omega (arith, c.value.ensures)))
+    ∙ ap (λ es. at_number es c.args.number) c.self.view_is

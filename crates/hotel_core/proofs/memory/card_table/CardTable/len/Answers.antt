@@ -5,5 +5,6 @@ use Rattle.hotel_core.proofs.memory.card_table.CardTable.len.Goals as goal
 pub returns : goal.returns
 returns c =
     let cards = c.self.inside.cards.items in
-    let many : length c.args.self.now ≡ length cards = sym (ap (λ es. length es) c.self.view_is) ∙ length-enumerate_from 1 cards in
+    let many : length c.args.self.now ≡ length cards =
+    sym (ap (λ es. length es) c.self.view_is) ∙ length-enumerate_from 1 cards in
     omega (arith, c.len.ensures, many)

@@ -5,7 +5,8 @@ use Rattle.hotel_model.specs.declared.change.InsideMove.{InsideMove}
 use Rattle.hotel_core.proofs.memory.inside_table.InsideTable.change.Goals as goal
 
 pub invariant_of-self : goal.invariant_of-self
-invariant_of-self c = subst (λ keys. HaveCardNumbers keys) (sym c.remove.ensures.keys) (numbers_removed c.self.inside.pairs.keys (c.args.room, c.in-Goes.number) c.self.invariant)
+invariant_of-self c = subst (λ keys. HaveCardNumbers keys) (sym c.remove.ensures.keys)
+    (numbers_removed c.self.inside.pairs.keys (c.args.room, c.in-Goes.number) c.self.invariant)
 
 pub returns-in-Goes-clause-ok : goal.returns-in-Goes-clause-ok
 returns-in-Goes-clause-ok c =
@@ -15,4 +16,5 @@ returns-in-Goes-clause-ok c =
 pub invariant_of-self-in-Comes : goal.invariant_of-self-in-Comes
 invariant_of-self-in-Comes c =
     let number = subst (λ n. IsNumberUpTo 9999999 n) c.value-in_range.ensures.same c.value-in_range.ensures.known in
-    subst (λ keys. HaveCardNumbers keys) (sym c.in-Ok.ensures.keys) (numbers_added c.self.inside.pairs.keys (c.args.room, c.in-Comes.number) c.self.invariant number)
+    subst (λ keys. HaveCardNumbers keys) (sym c.in-Ok.ensures.keys)
+    (numbers_added c.self.inside.pairs.keys (c.args.room, c.in-Comes.number) c.self.invariant number)

@@ -4,9 +4,11 @@ use Rattle.hotel_core.proofs.{Names.those_elsewhere, Names.HaveCardNumbers, OfTa
 use Rattle.hotel_core.proofs.memory.inside_table.InsideTable.clear.Goals as goal
 
 pub returns : goal.returns
-returns c = filter_same _ _ _ (λ x b f' k. search rules) _ _ c.retain.ensures.filtered ∙ ap (λ keys. those_elsewhere c.args.room keys) c.self.view_is
+returns c = filter_same _ _ _ (λ x b f' k. search rules) _ _ c.retain.ensures.filtered
+    ∙ ap (λ keys. those_elsewhere c.args.room keys) c.self.view_is
 
 pub invariant_of-self : goal.invariant_of-self
 invariant_of-self c =
-    subst (λ keys. HaveCardNumbers keys) (sym (filter_same _ (λ (e : ℕ × ℕ). not (e.0 == c.args.room)) _ (λ x b f' k. search rules) c.self.inside.pairs.keys _ c.retain.ensures.filtered))
+    subst (λ keys. HaveCardNumbers keys) (sym (filter_same _ (λ (e : ℕ × ℕ). not (e.0 == c.args.room)) _
+    (λ x b f' k. search rules) c.self.inside.pairs.keys _ c.retain.ensures.filtered))
     (numbers_filtered (λ (e : ℕ × ℕ). not (e.0 == c.args.room)) c.self.inside.pairs.keys c.self.invariant)

@@ -7,7 +7,8 @@ pub returns : goal.returns
 returns c =
     let least : c.unwrap-least.result ≡ 1 = search rules in
     let most : c.unwrap-most.result ≡ 9999999 = search rules in
-    let part : ℕ × ℕ → ℕ × ℕ → List ℕ = λ low high. map (λ (p : ℕ × ℕ). p.1) (filter (range_contains pair_cmp (Included low) (Included high)) c.self.inside.pairs.keys) in
+    let part : ℕ × ℕ → ℕ × ℕ → List ℕ = λ low high. map (λ (p : ℕ × ℕ). p.1)
+    (filter (range_contains pair_cmp (Included low) (Included high)) c.self.inside.pairs.keys) in
     c.is_some.ensures
     ∙ any_first _ c.range-pairs.result c.next.new.self c.next.result c.next.ensures.steps
     ∙ ap (λ numbers. not (are_none numbers)) (

@@ -4,4 +4,5 @@ use Rattle.hotel_core.proofs.OfCode.Walking.{SoFar}
 use Rattle.hotel_core.proofs.memory.note_table.NoteTable.walk.Given as goal
 
 abbrev pub invariant-loop-note : goal.invariant-loop-note
-invariant-loop-note g l = SoFar g.S.Sink.after (notes_at l.self l.fn.room) (map (λ e. e.1) l.note-iterator) l.initial.sink l.sink
+invariant-loop-note g l =
+    SoFar g.S.Sink.after (notes_at l.self l.fn.room) (map (λ e. e.1) l.note-iterator) l.initial.sink l.sink

@@ -12,4 +12,5 @@ pub invariant_of-self : goal.invariant_of-self
 invariant_of-self c =
     let t = c.self.inside in
     subst (λ es. CountsNightsOf c.remove.new.self es) (sym c.set_state.ensures)
-    (stands_less t.nights c.remove.new.self t.stays.entries c.args.party c.args.state c.in-Some.stay.now c.self.invariant (sym c.in-Some.ensures.value) c.requires c.remove.ensures)
+    (stands_less t.nights c.remove.new.self t.stays.entries c.args.party c.args.state c.in-Some.stay.now
+    c.self.invariant (sym c.in-Some.ensures.value) c.requires c.remove.ensures)

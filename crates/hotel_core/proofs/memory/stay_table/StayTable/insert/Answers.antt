@@ -11,7 +11,8 @@ pub invariant_of-self : goal.invariant_of-self
 invariant_of-self c =
     let t = c.self.inside in
     let few : length t.stays.entries < 2 ^ 63 = subst (λ n. n < 2 ^ 63) c.len-few.ensures.len c.len-few.ensures.small in
-    λ kind d. c.in_err-add.ensures.err kind d (counts_fit t.nights t.stays.entries kind d c.self.invariant few) ∙ c.self.invariant kind d
+    λ kind d. c.in_err-add.ensures.err kind d (counts_fit t.nights t.stays.entries kind d c.self.invariant few)
+    ∙ c.self.invariant kind d
 
 pub invariant_of-self-in-Ok : goal.invariant_of-self-in-Ok
 invariant_of-self-in-Ok c =
@@ -26,6 +27,7 @@ pub invariant_of-self-in-Err : goal.invariant_of-self-in-Err
 invariant_of-self-in-Err c =
     let t = c.self.inside in
     let few : length t.stays.entries < 2 ^ 63 = subst (λ n. n < 2 ^ 63) c.len-few.ensures.len c.len-few.ensures.small in
-    let more : (kind : List ℕ) (d : ℕ) → counted c.add.new.self kind d ≡ counted t.nights kind d + one_if (takes kind d c.args.stay) =
+    let more : (kind : List ℕ) (d : ℕ)
+    → counted c.add.new.self kind d ≡ counted t.nights kind d + one_if (takes kind d c.args.stay) =
     λ kind d. c.in_ok-add.ensures.ok kind d (counts_fit t.nights t.stays.entries kind d c.self.invariant few) in
     search (rules, more)

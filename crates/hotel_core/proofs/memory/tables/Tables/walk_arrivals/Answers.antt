@@ -5,8 +5,10 @@ use Rattle.hotel_core.proofs.memory.tables.Tables.walk_arrivals.Goals as goal
 
 pub loop-stay-preserved-in-Continue-1 : goal.loop-stay-preserved-in-Continue-1
 loop-stay-preserved-in-Continue-1 g c =
-    let e = rest_more (λ stay. stay.now) c.loop-stay.stay-iterator c.next.new.self c.next.result c.in-Some.stay c.in-Some.is c.next.ensures.steps in
+    let e = rest_more (λ stay. stay.now) c.loop-stay.stay-iterator c.next.new.self c.next.result c.in-Some.stay
+    c.in-Some.is c.next.ensures.steps in
     let p = arrives_on c.args.day in
     one_more g.S.Sink.after _ _ _ _ _ _
-    (as_rest g.S.Sink.after _ (filter p c.loop-stay.stay-iterator) _ _ _ (ap (filter p) e ∙ passing p c.in-Some.stay.now c.next.new.self (sym c.arrives.ensures ∙ c.if-arrives.true)) c.loop-stay.invariant)
+    (as_rest g.S.Sink.after _ (filter p c.loop-stay.stay-iterator) _ _ _ (ap (filter p) e
+    ∙ passing p c.in-Some.stay.now c.next.new.self (sym c.arrives.ensures ∙ c.if-arrives.true)) c.loop-stay.invariant)
     c.in_ok-take.ensures.taken

@@ -4,4 +4,5 @@ use Rattle.hotel_core.proofs.OfCode.Walking.{SoFar}
 use Rattle.hotel_core.proofs.memory.tables.Tables.walk_arrivals.Given as goal
 
 abbrev pub invariant-loop-stay : goal.invariant-loop-stay
-invariant-loop-stay g l = SoFar g.S.Sink.after (arrivals_on l.self l.day) (filter (arrives_on l.day) l.stay-iterator) l.initial.sink l.sink
+invariant-loop-stay g l =
+    SoFar g.S.Sink.after (arrivals_on l.self l.day) (filter (arrives_on l.day) l.stay-iterator) l.initial.sink l.sink

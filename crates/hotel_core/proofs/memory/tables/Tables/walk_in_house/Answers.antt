@@ -5,8 +5,11 @@ use Rattle.hotel_core.proofs.memory.tables.Tables.walk_in_house.Goals as goal
 
 pub loop-row-preserved-in-Some-2 : goal.loop-row-preserved-in-Some-2
 loop-row-preserved-in-Some-2 g c =
-    let e = rest_more (λ row. row.now) c.loop-row.row-iterator c.next.new.self c.next.result c.in-Some.row c.in-Some.is c.next.ensures.steps in
+    let e = rest_more (λ row. row.now) c.loop-row.row-iterator c.next.new.self c.next.result c.in-Some.row
+    c.in-Some.is c.next.ensures.steps in
     let f = house_row_on c.args.self.now in
     one_more g.S.Sink.after _ _ _ _ _ _
-    (as_rest g.S.Sink.after _ (filter_map f c.loop-row.row-iterator) _ _ _ (ap (filter_map f) e ∙ made_row f c.in-Some.row.now c.next.new.self c.in-Some-2.house (sym c.in-Some-2.is ∙ c.in_ok-house.ensures)) c.loop-row.invariant)
+    (as_rest g.S.Sink.after _ (filter_map f c.loop-row.row-iterator) _ _ _ (ap (filter_map f) e
+    ∙ made_row f c.in-Some.row.now c.next.new.self c.in-Some-2.house (sym c.in-Some-2.is ∙ c.in_ok-house.ensures))
+    c.loop-row.invariant)
     c.in_ok-take.ensures.taken

@@ -4,4 +4,5 @@ use Rattle.hotel_core.proofs.OfCode.Walking.{SoFar}
 use Rattle.hotel_core.proofs.memory.tables.Tables.walk_left_behind.Given as goal
 
 abbrev pub invariant-loop-row : goal.invariant-loop-row
-invariant-loop-row g l = SoFar g.S.Sink.after (left_behind_on l.self) (filter_map (behind_row_on l.self) l.row-iterator) l.initial.sink l.sink
+invariant-loop-row g l = SoFar g.S.Sink.after (left_behind_on l.self)
+    (filter_map (behind_row_on l.self) l.row-iterator) l.initial.sink l.sink

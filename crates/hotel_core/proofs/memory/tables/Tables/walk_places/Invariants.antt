@@ -4,4 +4,5 @@ use Rattle.hotel_core.proofs.memory.tables.Tables.walk_places.Given as goal
 
 abbrev pub invariant-loop-place : goal.invariant-loop-place
 invariant-loop-place g l =
-    SoFar g.S.Sink.after (filter_map (chain_row_on l.self l.row) (range_with_len 0 l.row.codes)) (filter_map (chain_row_on l.self l.row) (range_with_len l.place (l.row.codes - l.place))) l.initial.sink l.sink
+    SoFar g.S.Sink.after (filter_map (chain_row_on l.self l.row) (range_with_len 0 l.row.codes))
+    (filter_map (chain_row_on l.self l.row) (range_with_len l.place (l.row.codes - l.place))) l.initial.sink l.sink
