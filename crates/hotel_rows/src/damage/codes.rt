@@ -4,8 +4,8 @@ ghost use Rattle.std.specs.List.{list_all};
 ghost use Rattle.hotel_model.specs.SoundCards.{stands_at};
 ghost use Rattle.hotel_rows.specs.Stored.{rows_of, code_row};
 ghost use Rattle.hotel_rows.specs.Damage.{code_holds};
-ghost use Rattle.hotel_rows.specs.Known.{IsOfRows};
 ghost use Rattle.hotel_rows.specs.Places.{AreOf};
+ghost use Rattle.hotel_rows.specs.Placed.{PlacesOf};
 ghost use Rattle.hotel_rows.specs.RowTests.{code_fits, are_apart, comes_after, recoding_fits};
 
 use crate::damage::found::{Places, code_at, code_keys, room_at};
@@ -95,7 +95,8 @@ pub(crate) fn stands_later(places: &Places, stored: &Stored, room: u64, from: u6
 
 /// Whether the rules of the table of codes hold.
 pub(crate) fn codes_hold(alloc: Global, known: &Known, stored: &Stored) -> Result<bool, Memory>
-    requires { IsOfRows known.now stored.now }
+    requires places { AreOf known.now.places stored.now }
+    requires placed { PlacesOf known.now.placed.entries stored.now.codes.items }
     ensures { IfOk result (λ hold. hold ≡ code_holds stored.now) }
 {
     let keys = code_keys(alloc, &stored.codes)?;

@@ -10,7 +10,7 @@ ghost use Rattle.hotel_model.specs.Words.{said_of};
 ghost use Rattle.hotel_rows.specs.Keys.{Finds, new_code_of};
 ghost use Rattle.hotel_rows.specs.FitRuns.{FitsOf};
 ghost use Rattle.hotel_rows.specs.Known.{IsOfRows};
-ghost use Rattle.hotel_rows.specs.Placed.{are_due_at, placed_as_due};
+ghost use Rattle.hotel_rows.specs.Placed.{PlacesOf, are_due_at, placed_as_due};
 ghost use Rattle.hotel_rows.specs.RowTests.{agrees, begins_one, is_brought, is_owned};
 ghost use Rattle.hotel_rows.specs.RowTests.{has_owner, has_last, stay_has_home};
 
@@ -113,7 +113,8 @@ fn all_owned(
 ) -> bool
     requires owners { OwnersOf owners.now.entries stored.now.cards.items }
     requires own { list_all (agrees stored.now) stored.now.cards.items ≡ true }
-    requires known { IsOfRows known.now stored.now }
+    requires fits { FitsOf known.now.fits (plain_fits stored.now) }
+    requires placed { PlacesOf known.now.placed.entries stored.now.codes.items }
     requires due { are_due_at known.now.placed.entries room codes ≡ true }
     ensures { result ≡ list_all (is_owned stored.now room party) stored.now.cards.items }
 {
@@ -134,7 +135,8 @@ fn has_owner(
 ) -> bool
     requires owners { OwnersOf owners.now.entries stored.now.cards.items }
     requires own { list_all (agrees stored.now) stored.now.cards.items ≡ true }
-    requires known { IsOfRows known.now stored.now }
+    requires fits { FitsOf known.now.fits (plain_fits stored.now) }
+    requires placed { PlacesOf known.now.placed.entries stored.now.codes.items }
     requires due { placed_as_due known.now.placed.entries room.now ≡ true }
     ensures { result ≡ has_owner stored.now room.now }
 {
@@ -154,7 +156,8 @@ pub(crate) fn all_have_owners(
 ) -> bool
     requires owners { OwnersOf owners.now.entries stored.now.cards.items }
     requires own { list_all (agrees stored.now) stored.now.cards.items ≡ true }
-    requires known { IsOfRows known.now stored.now }
+    requires fits { FitsOf known.now.fits (plain_fits stored.now) }
+    requires placed { PlacesOf known.now.placed.entries stored.now.codes.items }
     requires due { list_all (placed_as_due known.now.placed.entries) stored.now.rooms.items ≡ true }
     ensures { result ≡ list_all (has_owner stored.now) stored.now.rooms.items }
 {

@@ -4,7 +4,7 @@ ghost use Rattle.std.specs.List.{list_all};
 ghost use Rattle.hotel_model.specs.Stays.{room_of_state};
 ghost use Rattle.hotel_rows.specs.Stored.{plain_fits, rows_of, room_row, stay_row};
 ghost use Rattle.hotel_rows.specs.Damage.{most_notes, room_columns, room_holds};
-ghost use Rattle.hotel_rows.specs.Known.{IsOfRows};
+ghost use Rattle.hotel_rows.specs.Known.{KindsOf};
 ghost use Rattle.hotel_rows.specs.Places.{AreOf};
 ghost use Rattle.hotel_rows.specs.FitRuns.{FitsOf};
 ghost use Rattle.hotel_rows.specs.RowTests.{is_room_number, is_secured_as_due, has_few_codes, is_at_home};
@@ -99,7 +99,9 @@ fn has_guest(places: &Places, stored: &Stored, room: &PlainRoom) -> bool
 }
 
 fn room_fits(known: &Known, stored: &Stored, room: &PlainRoom) -> bool
-    requires { IsOfRows known.now stored.now }
+    requires kinds { KindsOf known.now.kinds.entries stored.now }
+    requires places { AreOf known.now.places stored.now }
+    requires fits { FitsOf known.now.fits (plain_fits stored.now) }
     ensures { result ≡ room_fits stored.now room.now }
 {
     if !has_columns(room) || !has_number(room) {
@@ -121,7 +123,9 @@ fn room_fits(known: &Known, stored: &Stored, room: &PlainRoom) -> bool
 }
 
 fn rooms_fit(known: &Known, stored: &Stored) -> bool
-    requires { IsOfRows known.now stored.now }
+    requires kinds { KindsOf known.now.kinds.entries stored.now }
+    requires places { AreOf known.now.places stored.now }
+    requires fits { FitsOf known.now.fits (plain_fits stored.now) }
     ensures { result ≡ list_all (room_fits stored.now) stored.now.rooms.items }
 {
     for i in 0..stored.rooms.len() {
@@ -134,7 +138,9 @@ fn rooms_fit(known: &Known, stored: &Stored) -> bool
 
 /// Whether the rules of the table of rooms hold, where those of the kinds do.
 pub(crate) fn rooms_hold(alloc: Global, known: &Known, stored: &Stored) -> Result<bool, Memory>
-    requires { IsOfRows known.now stored.now }
+    requires kinds { KindsOf known.now.kinds.entries stored.now }
+    requires places { AreOf known.now.places stored.now }
+    requires fits { FitsOf known.now.fits (plain_fits stored.now) }
     ensures { IfOk result (λ hold. hold ≡ room_holds stored.now) }
 {
     let keys = room_keys(alloc, &stored.rooms)?;

@@ -15,7 +15,7 @@ returns-then-not-rise_in_pairs c =
     let runs = c.args.known.now.fits.runs.entries in
     let order = c.rise_in_pairs.ensures ∙ ap (are_in_order pair_cmp)
     (c.deref.ensures.value ∙ c.in_ok-keys.ensures ∙ ap (map fit_key) c.requires.plain) in
-    sym (fits_together s runs c.requires.known.fits.runs
+    sym (fits_together s runs c.requires.fits.runs
     ∙ ap (λ b. b && list_all (has_room (rows_of s)) (plain_fits s) && list_all (fitted_as_due runs) s.rooms.items)
     (sym order ∙ c.if-not-rise_in_pairs.true))
 
@@ -25,7 +25,7 @@ returns-then-not-fits_have_rooms c =
     let runs = c.args.known.now.fits.runs.entries in
     let order = c.rise_in_pairs.ensures ∙ ap (are_in_order pair_cmp)
     (c.deref.ensures.value ∙ c.in_ok-keys.ensures ∙ ap (map fit_key) c.requires.plain) in
-    sym (fits_together s runs c.requires.known.fits.runs
+    sym (fits_together s runs c.requires.fits.runs
     ∙ ap (λ b. b && list_all (has_room (rows_of s)) (plain_fits s) && list_all (fitted_as_due runs) s.rooms.items)
     (sym order ∙ c.if-not-rise_in_pairs.false)
     ∙ ap (λ b. b && list_all (fitted_as_due runs) s.rooms.items)
@@ -39,7 +39,7 @@ returns c =
     let order = c.rise_in_pairs.ensures ∙ ap (are_in_order pair_cmp)
     (c.deref.ensures.value ∙ c.in_ok-keys.ensures ∙ ap (map fit_key) c.requires.plain) in
     c.rooms_are_fitted.ensures
-    ∙ sym (fits_together s runs c.requires.known.fits.runs
+    ∙ sym (fits_together s runs c.requires.fits.runs
     ∙ ap (λ b. b && list_all (has_room (rows_of s)) (plain_fits s) && list_all (fitted_as_due runs) s.rooms.items)
     (sym order ∙ c.if-not-rise_in_pairs.false)
     ∙ ap (λ b. b && list_all (fitted_as_due runs) s.rooms.items)
