@@ -13,18 +13,15 @@ use crate::damage::known::Known;
 use crate::damage::numbers::{number, rise};
 use crate::damage::placed::rooms_have_places;
 use crate::stored::{PlainCode, Stored};
-use keycard_rules::Memory;
+use keycard_rules::{Code, Memory};
 use std::alloc::Global;
-
-/// The codes end below this number.
-const CODES: u64 = 281_474_976_710_656;
 
 /// Whether a code is in range and its room is there.
 fn code_fits(places: &Places, stored: &Stored, code: &PlainCode) -> bool
     requires { AreOf places.now stored.now }
     ensures { result ≡ code_fits (rows_of stored.now) code.now }
 {
-    if number(code.code) >= CODES {
+    if Code::new(number(code.code)).is_none() {
         return false;
     }
     room_at(places, stored, number(code.room)).is_some()
