@@ -12,7 +12,7 @@ ghost use Rattle.hotel_model.specs.SoundCards.{is_newest};
 ghost use Rattle.hotel_model.specs.SoundRooms.{count_up};
 ghost use Rattle.hotel_rows.specs.Stored.{number_of, plain_fits, rows_of};
 ghost use Rattle.hotel_rows.specs.Lasts.{link_of_pair, link_of_both};
-ghost use Rattle.hotel_rows.specs.FitRuns.{FitsOf};
+ghost use Rattle.hotel_rows.specs.FitRuns.{BeginsOf};
 ghost use Rattle.hotel_rows.specs.Placed.{places_in, listed_in, PlacesOf, placed_as_due, are_due_at, is_last_link};
 
 use crate::damage::fit_runs::{RoomFits, ends_with_fit};
@@ -180,7 +180,7 @@ pub(crate) fn is_newest(
     new: u64,
 ) -> bool
     requires placed { PlacesOf placed.now.entries stored.now.codes.items }
-    requires fits { FitsOf fits.now (plain_fits stored.now) }
+    requires begins { BeginsOf fits.now.begins.entries (plain_fits stored.now) }
     requires due { placed_as_due placed.now.entries room.now ≡ true }
     ensures { result ≡ is_newest (rows_of stored.now) (number_of room.now.room)
         (record { old_code = old; new_code = new }) }

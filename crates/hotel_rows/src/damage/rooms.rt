@@ -6,7 +6,7 @@ ghost use Rattle.hotel_rows.specs.Stored.{plain_fits, rows_of, room_row, stay_ro
 ghost use Rattle.hotel_rows.specs.Damage.{most_notes, room_columns, room_holds};
 ghost use Rattle.hotel_rows.specs.Known.{KindsOf};
 ghost use Rattle.hotel_rows.specs.Places.{AreOf};
-ghost use Rattle.hotel_rows.specs.FitRuns.{FitsOf};
+ghost use Rattle.hotel_rows.specs.FitRuns.{FitRunsOf, BeginsOf, FitsOf};
 ghost use Rattle.hotel_rows.specs.RowTests.{is_room_number, is_secured_as_due, has_few_codes, is_at_home};
 ghost use Rattle.hotel_rows.specs.RowTests.{room_fits};
 
@@ -44,7 +44,7 @@ fn has_number(room: &PlainRoom) -> bool
 
 /// Whether the room has at most as many codes as there are cards, and those that its fits begin with.
 fn has_few_codes(stored: &Stored, fits: &RoomFits, room: &PlainRoom) -> bool
-    requires { FitsOf fits.now (plain_fits stored.now) }
+    requires { FitRunsOf fits.now.runs.entries (plain_fits stored.now) }
     ensures { result ≡ has_few_codes stored.now room.now }
 {
     let codes = number(room.codes);
@@ -54,7 +54,7 @@ fn has_few_codes(stored: &Stored, fits: &RoomFits, room: &PlainRoom) -> bool
 
 /// Whether the lock holds the last code, not the first one nor that of a fit, if the room is secured.
 fn is_secured_as_due(stored: &Stored, fits: &RoomFits, room: &PlainRoom) -> bool
-    requires { FitsOf fits.now (plain_fits stored.now) }
+    requires { BeginsOf fits.now.begins.entries (plain_fits stored.now) }
     ensures { result ≡ is_secured_as_due stored.now room.now }
 {
     if number(room.secured) != 1 {

@@ -11,14 +11,14 @@ use Rattle.hotel_rows.proofs.damage.fits.fits_hold.Goals as goal
 
 pub returns-then-not-rise_in_pairs : goal.returns-then-not-rise_in_pairs
 returns-then-not-rise_in_pairs c =
-    let together = fits_together c.args.stored.now c.args.known.now.fits.runs.entries c.requires.fits.runs in
+    let together = fits_together c.args.stored.now c.args.known.now.fits.runs.entries c.requires.runs in
     let order = c.rise_in_pairs.ensures ∙ ap (are_in_order pair_cmp)
     (c.deref.ensures.value ∙ c.in_ok-keys.ensures ∙ ap (map fit_key) c.requires.plain) in
     first_fails _ _ together (sym order ∙ c.if-not-rise_in_pairs.true)
 
 pub returns-then-not-fits_have_rooms : goal.returns-then-not-fits_have_rooms
 returns-then-not-fits_have_rooms c =
-    let together = fits_together c.args.stored.now c.args.known.now.fits.runs.entries c.requires.fits.runs in
+    let together = fits_together c.args.stored.now c.args.known.now.fits.runs.entries c.requires.runs in
     let order = c.rise_in_pairs.ensures ∙ ap (are_in_order pair_cmp)
     (c.deref.ensures.value ∙ c.in_ok-keys.ensures ∙ ap (map fit_key) c.requires.plain) in
     second_fails _ together (sym order ∙ c.if-not-rise_in_pairs.false)
@@ -27,7 +27,7 @@ returns-then-not-fits_have_rooms c =
 
 pub returns : goal.returns
 returns c =
-    let together = fits_together c.args.stored.now c.args.known.now.fits.runs.entries c.requires.fits.runs in
+    let together = fits_together c.args.stored.now c.args.known.now.fits.runs.entries c.requires.runs in
     let order = c.rise_in_pairs.ensures ∙ ap (are_in_order pair_cmp)
     (c.deref.ensures.value ∙ c.in_ok-keys.ensures ∙ ap (map fit_key) c.requires.plain) in
     c.rooms_are_fitted.ensures ∙ third_tells together (sym order ∙ c.if-not-rise_in_pairs.false)
