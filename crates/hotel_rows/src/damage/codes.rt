@@ -1,5 +1,5 @@
 //! The rules of the table of codes, and where links stand.
-ghost use Rattle.std.specs.Prelude.{◌≡◌, IfOk, is_some};
+ghost use Rattle.std.specs.Prelude.{◌≡◌, IfOk};
 ghost use Rattle.std.specs.List.{list_all};
 ghost use Rattle.hotel_model.specs.SoundCards.{stands_at};
 ghost use Rattle.hotel_rows.specs.Stored.{rows_of, code_row};
