@@ -25,14 +25,14 @@ use Rattle.hotel_rows.specs.declared.stored.PlainFit.{PlainFit}
 use Rattle.hotel_rows.specs.declared.stored.Stored.{Stored}
 use Rattle.hotel_rows.specs.Joined.{with_fit, under_fit, FitEntries}
 
--- A stored number; one below 0 is read as a number that no rule takes.
-abbrev pub number_of : ℤ → ℕ
-number_of (pos n) = n
-number_of (negsuc n) = 2 ^ 64 - 1
-
--- a number that stands where there is none
+-- the greatest number, which no rule takes: it stands where there is none
 abbrev pub no_number : ℕ
 no_number = 2 ^ 64 - 1
+
+-- A stored number; one below 0 is read as one that no rule takes.
+abbrev pub number_of : ℤ → ℕ
+number_of (pos n) = n
+number_of (negsuc n) = no_number
 
 -- a room; its table has no column for its fit, nor for the notes before it
 abbrev pub room_row : PlainRoom → RoomRow
