@@ -1,12 +1,13 @@
 //! The rules of the table of codes, and where links stand.
 ghost use Rattle.std.specs.Prelude.{◌≡◌, IfOk};
 ghost use Rattle.std.specs.List.{list_all};
-ghost use Rattle.hotel_model.specs.SoundCards.{stands_at};
+ghost use Rattle.hotel_model.specs.SoundCards.{are_neighbours, stands_at};
+ghost use Rattle.hotel_model.specs.SoundNotes.{comes_later};
 ghost use Rattle.hotel_rows.specs.Stored.{rows_of, code_row};
 ghost use Rattle.hotel_rows.specs.Damage.{code_holds};
 ghost use Rattle.hotel_rows.specs.Places.{AreOf};
 ghost use Rattle.hotel_rows.specs.Placed.{PlacesOf};
-ghost use Rattle.hotel_rows.specs.RowTests.{code_fits, are_apart, comes_after, recoding_fits};
+ghost use Rattle.hotel_rows.specs.RowTests.{code_fits, recoding_fits};
 
 use crate::damage::found::{Places, code_at, code_keys, room_at};
 use crate::damage::known::Known;
@@ -42,7 +43,7 @@ pub(crate) fn codes_fit(places: &Places, stored: &Stored) -> bool
 
 /// Whether the second code stands at the room, one place after the first.
 fn are_neighbours(room: u64, first: PlainCode, second: PlainCode) -> bool
-    ensures { result ≡ are_apart room (code_row first) (code_row second) }
+    ensures { result ≡ are_neighbours room (code_row first) (code_row second) }
 {
     if number(first.room) != room || number(second.room) != room {
         return false;
@@ -68,7 +69,7 @@ pub(crate) fn stands_at(places: &Places, stored: &Stored, room: u64, old: u64, n
 
 /// Whether the second code stands at the room, after the first.
 fn comes_later(room: u64, first: PlainCode, second: PlainCode) -> bool
-    ensures { result ≡ comes_after room (code_row first) (code_row second) }
+    ensures { result ≡ comes_later room (code_row first) (code_row second) }
 {
     if number(first.room) != room || number(second.room) != room {
         return false;
