@@ -14,7 +14,7 @@ use crate::damage::fit_runs::{RoomFits, ends_with_fit, fits_of_room};
 use crate::damage::found::{Places, room_keys, stay_at};
 use crate::damage::kinds::has_kind;
 use crate::damage::known::Known;
-use crate::damage::numbers::{number, number_if, rise};
+use crate::damage::numbers::{NO_NUMBER, number, number_if, rise};
 use crate::stored::{PlainRoom, PlainStay, Stored};
 use keycard_rules::{LAST_FIT, LAST_NUMBER, LAST_ROOM, Memory};
 use std::alloc::Global;
@@ -78,7 +78,7 @@ pub(crate) fn home_of(stay: &PlainStay) -> Option<u64>
     if state != 1 {
         return None;
     }
-    Some(number_if(stay.room).unwrap_or(u64::MAX))
+    Some(number_if(stay.room).unwrap_or(NO_NUMBER))
 }
 
 /// Whether the party of the room, if it has one, is in house there, with a stay of its kind.
