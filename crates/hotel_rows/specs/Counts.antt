@@ -16,7 +16,7 @@ use Rattle.hotel_rows.specs.declared.stored.PlainStay.{PlainStay}
 use Rattle.hotel_rows.specs.declared.stored.Stored.{Stored}
 use Rattle.hotel_rows.specs.declared.counts.Counts.{Counts}
 use Rattle.hotel_rows.specs.Stored.{number_of, kind_text, stay_entry}
-use Rattle.hotel_rows.specs.RowTests.{is_room_of_kind}
+use Rattle.hotel_rows.specs.RowTests.{is_number_up_to, is_room_of_kind}
 
 -- one of the rows is of the kind
 abbrev pub names_kind : List ℕ → List PlainKind → Bool
@@ -40,10 +40,6 @@ tells_night c plain =
     && nat_lt (kinds.rooms_in c.kinds (string_bytes plain.kind)) (2 ^ 32 - 1)
 
 -- ---- rows that can be counted
-
--- from 1 up to a greatest number
-abbrev pub is_number_up_to : ℕ → ℕ → Bool
-is_number_up_to most n = nat_le 1 n && nat_le n most
 
 -- in house, 1, at a room's number; or booked, done or cancelled, 0, 2 or 3, without a room
 abbrev pub tells_state : ℕ → Option ℕ → Bool

@@ -1,5 +1,5 @@
 -- What is known of stored rows, beside them.
-use Rattle.std.specs.Prelude.{◌≡◌, true}
+use Rattle.std.specs.Prelude.{ℕ, ◌≡◌, true, List}
 use Rattle.hotel_model.specs.SoundRooms.{kinds_read}
 use Rattle.hotel_rows.specs.declared.damage.known.Known.{Known}
 use Rattle.hotel_rows.specs.declared.stored.Stored.{Stored}
@@ -9,10 +9,13 @@ use Rattle.hotel_rows.specs.FitRuns.{FitsOf}
 use Rattle.hotel_rows.specs.Placed.{PlacesOf}
 use Rattle.hotel_rows.specs.RowTests.{HasKinds}
 
--- The kinds read as such, and what is known is of these rows.
-pub record IsOfRows (known : Known) (s : Stored) : Type 0 where
+-- The kinds of the rows read as such, and the map has exactly these.
+pub record KindsOf (kinds : List (List ℕ × ℕ)) (s : Stored) : Type 0 where
   pub read : kinds_read (rows_of s) ≡ true
-  pub kinds : HasKinds known.kinds.entries (rows_of s).kinds
+  pub known : HasKinds kinds (rows_of s).kinds
+
+-- What is known beside the kinds is of these rows.
+pub record IsOfRows (known : Known) (s : Stored) : Type 0 where
   pub places : AreOf known.places s
   pub fits : FitsOf known.fits (plain_fits s)
   pub placed : PlacesOf known.placed.entries s.codes.items

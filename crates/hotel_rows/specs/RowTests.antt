@@ -13,13 +13,12 @@ use Rattle.keycard_rules.specs.declared.numbers.TheConstants.{LAST_ROOM}
 use Rattle.hotel_nights.specs.declared.stay.Stay.{Stay}
 use Rattle.hotel_nights.specs.Guests.{is_guest}
 use Rattle.hotel_model.specs.declared.rows.RoomRow.{RoomRow}
-use Rattle.hotel_model.specs.declared.rows.CodeRow.{CodeRow}
 use Rattle.hotel_model.specs.Words.{said_of}
 use Rattle.hotel_model.specs.Rows.{Rows, InsideKey, has_kind, at_number, fits_at, begins_fit, room_is}
 use Rattle.hotel_model.specs.Stays.{room_of_state}
 use Rattle.hotel_model.specs.SoundRooms.{is_home_of, is_day}
 use Rattle.hotel_model.specs.SoundStays.{has_party}
-use Rattle.hotel_model.specs.SoundCards.{are_neighbours, code_is, stands_at, is_newest, has_newest}
+use Rattle.hotel_model.specs.SoundCards.{code_is, stands_at, is_newest, has_newest}
 use Rattle.hotel_model.specs.SoundNotes.{comes_later, card_is, act_fits, fits_inside}
 use Rattle.hotel_rows.specs.declared.stored.PlainRoom.{PlainRoom}
 use Rattle.hotel_rows.specs.declared.stored.PlainStay.{PlainStay}
@@ -39,9 +38,13 @@ HasKinds known kinds = (q : List ℕ)
 
 -- ---- room
 
+-- from 1 up to a greatest number
+abbrev pub is_number_up_to : ℕ → ℕ → Bool
+is_number_up_to most n = nat_le 1 n && nat_le n most
+
 -- the room's number is in range
 abbrev pub is_room_number : PlainRoom → Bool
-is_room_number plain = nat_le 1 (number_of plain.room) && nat_le (number_of plain.room) LAST_ROOM
+is_room_number plain = is_number_up_to LAST_ROOM (number_of plain.room)
 
 -- a fit of the room begins with its last code
 abbrev pub ends_with_fit : Stored → PlainRoom → Bool
@@ -86,8 +89,7 @@ stay_has_home s plain = has_home (rows_of s) (stay_row plain)
 abbrev pub stay_fits : Stored → PlainStay → Bool
 stay_fits s plain =
     stay_columns plain && is_guest (string_bytes plain.guest) && has_kind (rows_of s) (string_bytes plain.kind)
-    && are_stay_days plain
-    && has_home (rows_of s) (stay_row plain)
+    && are_stay_days plain && stay_has_home s plain
 
 abbrev pub is_room_of_kind : List ℕ → PlainRoom → Bool
 is_room_of_kind kind plain = bytes_eq (string_bytes plain.kind) kind
@@ -103,12 +105,6 @@ has_night s plain =
 
 abbrev pub code_fits : Rows → PlainCode → Bool
 code_fits rows plain = nat_lt (number_of plain.code) (2 ^ 48) && is_some (at_number rows.rooms (number_of plain.room))
-
-abbrev pub are_apart : ℕ → CodeRow → CodeRow → Bool
-are_apart = are_neighbours
-
-abbrev pub comes_after : ℕ → CodeRow → CodeRow → Bool
-comes_after = comes_later
 
 abbrev pub recoding_fits : Rows → ℕ → ℕ → ℕ → Bool
 recoding_fits rows room from to = code_is rows from (λ first. code_is rows to (comes_later room first))

@@ -1,5 +1,5 @@
 -- Stored rows as the rows of the books.
-use Rattle.std.specs.Prelude.{ℕ, ◌-◌, ◌^◌, ◌==◌, ℤ, pos, negsuc, List, map, Option, option_map, string_bytes}
+use Rattle.std.specs.Prelude.{ℕ, ◌==◌, ℤ, pos, negsuc, List, map, Option, option_map, string_bytes}
 use Rattle.std.specs.Prelude.{if◌then◌else◌, unwrap_or}
 use Rattle.keycard_rules.specs.declared.card.Card.{Card}
 use Rattle.keycard_rules.specs.declared.card.Link.{Link}
@@ -23,16 +23,13 @@ use Rattle.hotel_rows.specs.declared.stored.PlainInside.{PlainInside}
 use Rattle.hotel_rows.specs.declared.stored.PlainNote.{PlainNote}
 use Rattle.hotel_rows.specs.declared.stored.PlainFit.{PlainFit}
 use Rattle.hotel_rows.specs.declared.stored.Stored.{Stored}
+use Rattle.hotel_rows.specs.declared.damage.numbers.TheConstants.{NO_NUMBER}
 use Rattle.hotel_rows.specs.Joined.{with_fit, under_fit, FitEntries}
 
--- A stored number; one below 0 is read as a number that no rule takes.
+-- A stored number; one below 0 is read as one that no rule takes.
 abbrev pub number_of : ℤ → ℕ
 number_of (pos n) = n
-number_of (negsuc n) = 2 ^ 64 - 1
-
--- a number that stands where there is none
-abbrev pub no_number : ℕ
-no_number = 2 ^ 64 - 1
+number_of (negsuc n) = NO_NUMBER
 
 -- a room; its table has no column for its fit, nor for the notes before it
 abbrev pub room_row : PlainRoom → RoomRow
@@ -51,7 +48,7 @@ room_row plain = record {
 -- how a stay stands, by the number of the state and the room; the columns are tested by a rule of their own
 abbrev pub state_of : ℕ → Option ℕ → StayState
 state_of n room =
-    if n == 0 then state.Booked else if n == 1 then state.InHouse (unwrap_or room no_number)
+    if n == 0 then state.Booked else if n == 1 then state.InHouse (unwrap_or room NO_NUMBER)
     else if n == 2 then state.Done else state.Cancelled
 
 -- a stay
@@ -81,8 +78,8 @@ card_row plain = record { number = number_of plain.number; party = number_of pla
 -- are tested by a rule of their own
 abbrev pub act_of : ℕ → Option ℕ → ℕ → ℕ → Act
 act_of n card first second =
-    if n == 0 then act.Entered (unwrap_or card no_number) (record { old_code = first; new_code = second })
-    else if n == 1 then act.Left (unwrap_or card no_number) (record { old_code = first; new_code = second })
+    if n == 0 then act.Entered (unwrap_or card NO_NUMBER) (record { old_code = first; new_code = second })
+    else if n == 1 then act.Left (unwrap_or card NO_NUMBER) (record { old_code = first; new_code = second })
     else act.Recoded first second
 
 -- a note: its table has no column for its fit, and its number is that among all notes of the room

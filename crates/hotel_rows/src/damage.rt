@@ -1,9 +1,11 @@
 //! The first damaged table of stored rows.
 ghost use Rattle.std.specs.Prelude.{◌≡◌, ◌∷◌, [], true, IfOk};
+ghost use Rattle.std.specs.List.{list_all};
 ghost use Rattle.hotel_rows.specs.declared.stored.TableName.TheVariants as table;
-ghost use Rattle.hotel_rows.specs.Damage.{UndamagedIsSound, first_damaged_of, first_of_tables, stay_holds};
+ghost use Rattle.hotel_rows.specs.Damage.{UndamagedIsSound, first_damaged_of, first_of_tables};
 ghost use Rattle.hotel_rows.specs.Stored.{plain_fits};
 ghost use Rattle.hotel_rows.specs.Known.{IsOfRows};
+ghost use Rattle.hotel_rows.specs.RowTests.{stay_has_home};
 
 mod cards;
 mod codes;
@@ -36,7 +38,7 @@ use crate::stored::{PlainFit, Stored, TableName};
 use keycard_rules::Memory;
 use std::alloc::Global;
 
-/// The first damaged one of the tables of codes, cards, insides, notes and fits, where the stays are sound.
+/// The first damaged one of the tables of codes, cards, insides, notes and fits, where each stay in house has its room.
 fn first_of_later(
     alloc: Global,
     known: &Known,
@@ -45,7 +47,7 @@ fn first_of_later(
 ) -> Result<Option<TableName>, Memory>
     requires known { IsOfRows known.now stored.now }
     requires plain { plain.now ≡ plain_fits stored.now }
-    requires stays { stay_holds stored.now ≡ true }
+    requires homes { list_all (stay_has_home stored.now) stored.now.stays.items ≡ true }
     ensures { IfOk result (λ first.
         first ≡ first_of_tables (table.Code ∷ table.Card ∷ table.Inside ∷ table.Note ∷ table.Fit ∷ []) stored.now) }
 {

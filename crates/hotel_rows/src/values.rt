@@ -5,7 +5,8 @@ ghost use Rattle.hotel_nights.specs.Guests.{is_guest};
 ghost use Rattle.hotel_nights.specs.Kinds.{is_kind};
 ghost use Rattle.hotel_model.specs.SoundRooms.{is_day};
 ghost use Rattle.hotel_rows.specs.Stored.{state_of};
-ghost use Rattle.hotel_rows.specs.Counts.{is_number_up_to, tells_state};
+ghost use Rattle.hotel_rows.specs.RowTests.{is_number_up_to};
+ghost use Rattle.hotel_rows.specs.Counts.{tells_state};
 
 use hotel_nights::{Day, Guest, GuestFault, KindCode, StayState};
 use keycard_rules::{LookFault, Number};

@@ -30,9 +30,10 @@ use Rattle.hotel_rows.specs.declared.stored.Stored.{Stored}
 use Rattle.hotel_rows.specs.Stored.{number_of, kind_text, rows_of, state_of, room_row, stay_row}
 use Rattle.hotel_rows.specs.Keys.{are_numbered, room_key, stay_key}
 use Rattle.hotel_rows.specs.Damage.{first_damaged_of, most_notes, room_columns, stay_columns}
-use Rattle.hotel_rows.specs.RowTests.{are_stay_days, has_home, has_night, is_at_home, is_room_number, is_room_of_kind}
+use Rattle.hotel_rows.specs.RowTests.{are_stay_days, has_home, has_night, is_at_home, is_number_up_to}
+use Rattle.hotel_rows.specs.RowTests.{is_room_number, is_room_of_kind}
 use Rattle.hotel_rows.specs.RowTests.{is_secured_as_due, has_few_codes, room_fits, stay_fits}
-use Rattle.hotel_rows.specs.Counts.{KnowsKinds, are_rooms_of, is_number_up_to, names_kind, tells_state, tells_stay}
+use Rattle.hotel_rows.specs.Counts.{KnowsKinds, are_rooms_of, names_kind, tells_state, tells_stay}
 use Rattle.hotel_rows.proofs.OfCounts.{named_kind}
 use Rattle.hotel_rows.proofs.OfDamage.FoundKeys.{passes_at}
 use Rattle.hotel_rows.proofs.OfDamage.KindTexts.{none_of_kinds}

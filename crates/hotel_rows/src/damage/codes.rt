@@ -1,30 +1,28 @@
 //! The rules of the table of codes, and where links stand.
-ghost use Rattle.std.specs.Prelude.{◌≡◌, IfOk, is_some};
+ghost use Rattle.std.specs.Prelude.{◌≡◌, IfOk};
 ghost use Rattle.std.specs.List.{list_all};
-ghost use Rattle.hotel_model.specs.SoundCards.{stands_at};
+ghost use Rattle.hotel_model.specs.SoundCards.{are_neighbours, stands_at};
+ghost use Rattle.hotel_model.specs.SoundNotes.{comes_later};
 ghost use Rattle.hotel_rows.specs.Stored.{rows_of, code_row};
 ghost use Rattle.hotel_rows.specs.Damage.{code_holds};
-ghost use Rattle.hotel_rows.specs.Known.{IsOfRows};
 ghost use Rattle.hotel_rows.specs.Places.{AreOf};
-ghost use Rattle.hotel_rows.specs.RowTests.{code_fits, are_apart, comes_after, recoding_fits};
+ghost use Rattle.hotel_rows.specs.Placed.{PlacesOf};
+ghost use Rattle.hotel_rows.specs.RowTests.{code_fits, recoding_fits};
 
 use crate::damage::found::{Places, code_at, code_keys, room_at};
 use crate::damage::known::Known;
 use crate::damage::numbers::{number, rise};
 use crate::damage::placed::rooms_have_places;
 use crate::stored::{PlainCode, Stored};
-use keycard_rules::Memory;
+use keycard_rules::{Code, Memory};
 use std::alloc::Global;
-
-/// The codes end below this number.
-const CODES: u64 = 281_474_976_710_656;
 
 /// Whether a code is in range and its room is there.
 fn code_fits(places: &Places, stored: &Stored, code: &PlainCode) -> bool
     requires { AreOf places.now stored.now }
     ensures { result ≡ code_fits (rows_of stored.now) code.now }
 {
-    if number(code.code) >= CODES {
+    if Code::new(number(code.code)).is_none() {
         return false;
     }
     room_at(places, stored, number(code.room)).is_some()
@@ -45,7 +43,7 @@ pub(crate) fn codes_fit(places: &Places, stored: &Stored) -> bool
 
 /// Whether the second code stands at the room, one place after the first.
 fn are_neighbours(room: u64, first: PlainCode, second: PlainCode) -> bool
-    ensures { result ≡ are_apart room (code_row first) (code_row second) }
+    ensures { result ≡ are_neighbours room (code_row first) (code_row second) }
 {
     if number(first.room) != room || number(second.room) != room {
         return false;
@@ -71,7 +69,7 @@ pub(crate) fn stands_at(places: &Places, stored: &Stored, room: u64, old: u64, n
 
 /// Whether the second code stands at the room, after the first.
 fn comes_later(room: u64, first: PlainCode, second: PlainCode) -> bool
-    ensures { result ≡ comes_after room (code_row first) (code_row second) }
+    ensures { result ≡ comes_later room (code_row first) (code_row second) }
 {
     if number(first.room) != room || number(second.room) != room {
         return false;
@@ -95,7 +93,8 @@ pub(crate) fn stands_later(places: &Places, stored: &Stored, room: u64, from: u6
 
 /// Whether the rules of the table of codes hold.
 pub(crate) fn codes_hold(alloc: Global, known: &Known, stored: &Stored) -> Result<bool, Memory>
-    requires { IsOfRows known.now stored.now }
+    requires places { AreOf known.now.places stored.now }
+    requires placed { PlacesOf known.now.placed.entries stored.now.codes.items }
     ensures { IfOk result (λ hold. hold ≡ code_holds stored.now) }
 {
     let keys = code_keys(alloc, &stored.codes)?;

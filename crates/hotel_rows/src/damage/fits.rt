@@ -3,8 +3,7 @@ ghost use Rattle.std.specs.Prelude.{◌≡◌, map, IfOk};
 ghost use Rattle.std.specs.List.{list_all};
 ghost use Rattle.hotel_rows.specs.Stored.{plain_fits, first_fit, rows_of};
 ghost use Rattle.hotel_rows.specs.Damage.{fit_holds};
-ghost use Rattle.hotel_rows.specs.FitRuns.{fitted_as_due};
-ghost use Rattle.hotel_rows.specs.Known.{IsOfRows};
+ghost use Rattle.hotel_rows.specs.FitRuns.{FitRunsOf, fitted_as_due};
 ghost use Rattle.hotel_rows.specs.Places.{AreOf};
 ghost use Rattle.hotel_rows.specs.RowTests.{has_room};
 
@@ -74,7 +73,8 @@ pub(crate) fn fits_hold(
     stored: &Stored,
     plain: &[PlainFit],
 ) -> Result<bool, Memory>
-    requires known { IsOfRows known.now stored.now }
+    requires places { AreOf known.now.places stored.now }
+    requires runs { FitRunsOf known.now.fits.runs.entries (plain_fits stored.now) }
     requires plain { plain.now ≡ plain_fits stored.now }
     ensures { IfOk result (λ hold. hold ≡ fit_holds stored.now) }
 {

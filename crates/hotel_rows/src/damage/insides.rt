@@ -5,7 +5,7 @@ ghost use Rattle.hotel_rows.specs.Stored.{number_of, plain_fits, rows_of};
 ghost use Rattle.hotel_rows.specs.Stored.{room_row, code_row, card_row, inside_pair};
 ghost use Rattle.hotel_model.specs.SoundNotes.{fits_inside, has_entered};
 ghost use Rattle.hotel_rows.specs.Damage.{inside_holds};
-ghost use Rattle.hotel_rows.specs.FitRuns.{FitsOf};
+ghost use Rattle.hotel_rows.specs.FitRuns.{FitRunsOf};
 ghost use Rattle.hotel_rows.specs.Known.{IsOfRows};
 ghost use Rattle.hotel_rows.specs.Placed.{placed_as_due};
 ghost use Rattle.hotel_rows.specs.RowTests.{inside_fits};
@@ -22,7 +22,7 @@ use std::alloc::Global;
 
 /// Whether the code's place is after that of the room's last fit, and not after the lock's.
 fn has_entered(stored: &Stored, fits: &RoomFits, room: &PlainRoom, code: PlainCode) -> bool
-    requires { FitsOf fits.now (plain_fits stored.now) }
+    requires { FitRunsOf fits.now.runs.entries (plain_fits stored.now) }
     ensures { result
         ≡ has_entered (rows_of stored.now) (number_of room.now.room) (room_row room.now) (code_row code) }
 {

@@ -4,9 +4,10 @@ ghost use Rattle.std.specs.List.{list_all, list_any};
 ghost use Rattle.std.specs.Ordering.{nat_cmp, is_lt};
 ghost use Rattle.std.specs.Cmp.Lexicographic.{slice_cmp};
 ghost use Rattle.hotel_nights.specs.Kinds.{is_kind};
-ghost use Rattle.hotel_model.specs.SoundRooms.{are_in_order, kinds_read};
-ghost use Rattle.hotel_rows.specs.Stored.{kind_text, rows_of};
+ghost use Rattle.hotel_model.specs.SoundRooms.{are_in_order};
+ghost use Rattle.hotel_rows.specs.Stored.{kind_text};
 ghost use Rattle.hotel_rows.specs.Damage.{kind_holds, meta_holds};
+ghost use Rattle.hotel_rows.specs.Known.{KindsOf};
 ghost use Rattle.hotel_rows.specs.RowTests.{HasKinds};
 
 use crate::damage::numbers::number_if;
@@ -82,8 +83,7 @@ pub(crate) fn kinds_hold(
     stored: &Stored,
 ) -> Result<Option<BTreeMap<KindCode, u32>>, Memory>
     ensures { IfOk result (λ read. MatchOption read (kind_holds stored.now ≡ false)
-        (λ known. (kind_holds stored.now ≡ true) × (kinds_read (rows_of stored.now) ≡ true)
-        × HasKinds known.entries (rows_of stored.now).kinds)) }
+        (λ known. (kind_holds stored.now ≡ true) × KindsOf known.entries stored.now)) }
 {
     if !kinds_rise(&stored.kinds) {
         return Ok(None);

@@ -1,9 +1,7 @@
 //! What is known of stored rows, beside them.
-ghost use Rattle.std.specs.Prelude.{◌≡◌, true, IfOk};
-ghost use Rattle.hotel_model.specs.SoundRooms.{kinds_read};
-ghost use Rattle.hotel_rows.specs.Stored.{plain_fits, rows_of};
-ghost use Rattle.hotel_rows.specs.RowTests.{HasKinds};
-ghost use Rattle.hotel_rows.specs.Known.{IsOfRows};
+ghost use Rattle.std.specs.Prelude.{◌≡◌, IfOk};
+ghost use Rattle.hotel_rows.specs.Stored.{plain_fits};
+ghost use Rattle.hotel_rows.specs.Known.{KindsOf, IsOfRows};
 
 use crate::damage::fit_runs::{RoomFits, room_fits};
 use crate::damage::found::{Places, places_of};
@@ -30,10 +28,10 @@ pub(crate) fn known_of(
     kinds: BTreeMap<KindCode, u32>,
     plain: &[PlainFit],
 ) -> Result<Known, Memory>
-    requires read { kinds_read (rows_of stored.now) ≡ true }
-    requires kinds { HasKinds kinds.entries (rows_of stored.now).kinds }
+    requires kinds { KindsOf kinds.entries stored.now }
     requires plain { plain.now ≡ plain_fits stored.now }
-    ensures { IfOk result (λ known. IsOfRows known stored.now) }
+    ensures kinds { IfOk result (λ known. KindsOf known.kinds.entries stored.now) }
+    ensures rows { IfOk result (λ known. IsOfRows known stored.now) }
 {
     let places = places_of(alloc, stored)?;
     let fits = room_fits(alloc, plain)?;

@@ -8,9 +8,9 @@ ghost use Rattle.hotel_rows.specs.Lasts.{link_of_pair, link_pair, LastsOf};
 ghost use Rattle.hotel_rows.specs.Owners.{OwnersOf, owner_in};
 ghost use Rattle.hotel_model.specs.Words.{said_of};
 ghost use Rattle.hotel_rows.specs.Keys.{Finds, new_code_of};
-ghost use Rattle.hotel_rows.specs.FitRuns.{FitsOf};
+ghost use Rattle.hotel_rows.specs.FitRuns.{BeginsOf};
 ghost use Rattle.hotel_rows.specs.Known.{IsOfRows};
-ghost use Rattle.hotel_rows.specs.Placed.{are_due_at, placed_as_due};
+ghost use Rattle.hotel_rows.specs.Placed.{PlacesOf, are_due_at, placed_as_due};
 ghost use Rattle.hotel_rows.specs.RowTests.{agrees, begins_one, is_brought, is_owned};
 ghost use Rattle.hotel_rows.specs.RowTests.{has_owner, has_last, stay_has_home};
 
@@ -54,7 +54,7 @@ fn has_brought(brought: &BTreeMap<u64, usize>, stored: &Stored, code: u64) -> bo
 }
 
 fn begins_one(fits: &RoomFits, stored: &Stored, code: &PlainCode) -> bool
-    requires { FitsOf fits.now (plain_fits stored.now) }
+    requires { BeginsOf fits.now.begins.entries (plain_fits stored.now) }
     ensures { result ≡ begins_one stored.now code.now }
 {
     begins_fit(fits, number(code.room), number(code.place))
@@ -67,7 +67,7 @@ fn is_brought(
     code: &PlainCode,
 ) -> bool
     requires brought { Finds brought.now.entries (map new_code_of stored.now.cards.items) }
-    requires fits { FitsOf fits.now (plain_fits stored.now) }
+    requires begins { BeginsOf fits.now.begins.entries (plain_fits stored.now) }
     ensures { result ≡ is_brought stored.now code.now }
 {
     let has_card = has_brought(brought, stored, number(code.code));
@@ -80,7 +80,7 @@ fn is_brought(
 /// Whether a card brought each code but the first of its room, and those that fits begin with, which none did.
 pub(crate) fn all_brought(brought: &BTreeMap<u64, usize>, fits: &RoomFits, stored: &Stored) -> bool
     requires brought { Finds brought.now.entries (map new_code_of stored.now.cards.items) }
-    requires fits { FitsOf fits.now (plain_fits stored.now) }
+    requires begins { BeginsOf fits.now.begins.entries (plain_fits stored.now) }
     ensures { result ≡ list_all (is_brought stored.now) stored.now.codes.items }
 {
     for i in 0..stored.codes.len() {
@@ -113,7 +113,8 @@ fn all_owned(
 ) -> bool
     requires owners { OwnersOf owners.now.entries stored.now.cards.items }
     requires own { list_all (agrees stored.now) stored.now.cards.items ≡ true }
-    requires known { IsOfRows known.now stored.now }
+    requires begins { BeginsOf known.now.fits.begins.entries (plain_fits stored.now) }
+    requires placed { PlacesOf known.now.placed.entries stored.now.codes.items }
     requires due { are_due_at known.now.placed.entries room codes ≡ true }
     ensures { result ≡ list_all (is_owned stored.now room party) stored.now.cards.items }
 {
@@ -134,7 +135,8 @@ fn has_owner(
 ) -> bool
     requires owners { OwnersOf owners.now.entries stored.now.cards.items }
     requires own { list_all (agrees stored.now) stored.now.cards.items ≡ true }
-    requires known { IsOfRows known.now stored.now }
+    requires begins { BeginsOf known.now.fits.begins.entries (plain_fits stored.now) }
+    requires placed { PlacesOf known.now.placed.entries stored.now.codes.items }
     requires due { placed_as_due known.now.placed.entries room.now ≡ true }
     ensures { result ≡ has_owner stored.now room.now }
 {
@@ -154,7 +156,8 @@ pub(crate) fn all_have_owners(
 ) -> bool
     requires owners { OwnersOf owners.now.entries stored.now.cards.items }
     requires own { list_all (agrees stored.now) stored.now.cards.items ≡ true }
-    requires known { IsOfRows known.now stored.now }
+    requires begins { BeginsOf known.now.fits.begins.entries (plain_fits stored.now) }
+    requires placed { PlacesOf known.now.placed.entries stored.now.codes.items }
     requires due { list_all (placed_as_due known.now.placed.entries) stored.now.rooms.items ≡ true }
     ensures { result ≡ list_all (has_owner stored.now) stored.now.rooms.items }
 {

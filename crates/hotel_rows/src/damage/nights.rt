@@ -12,7 +12,7 @@ use crate::counts::{Counts, counts_of};
 use crate::damage::numbers::number;
 use crate::stored::{PlainRoom, PlainStay, Stored};
 use crate::values::{day, kind_code};
-use keycard_rules::{LookFault, Memory};
+use keycard_rules::{LAST_DAY, LookFault, Memory};
 use std::alloc::Global;
 
 /// Whether a stay is booked or in house, of the kind, and takes the night.
@@ -78,7 +78,7 @@ fn has_night_by(counts: &Counts, stay: &PlainStay) -> Option<bool>
         return None;
     };
     let arrive = number(stay.arrive);
-    if arrive > 36_523 {
+    if arrive >= u64::from(LAST_DAY) {
         return None;
     }
     let Ok(first) = day(arrive) else {

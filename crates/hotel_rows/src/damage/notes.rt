@@ -12,7 +12,7 @@ ghost use Rattle.hotel_rows.specs.RowTests.{plain_note_fits};
 use crate::damage::codes::{stands_at, stands_later};
 use crate::damage::found::{Places, card_at, note_keys, room_at};
 use crate::damage::note_runs::{rooms_have_counts, runs_of};
-use crate::damage::numbers::{number, number_if, rise_in_pairs};
+use crate::damage::numbers::{NO_NUMBER, number, number_if, rise_in_pairs};
 use crate::stored::{PlainNote, Stored};
 use keycard_rules::{LAST_DAY, LAST_SECOND, Memory};
 use std::alloc::Global;
@@ -51,7 +51,7 @@ fn act_fits(places: &Places, stored: &Stored, note: &PlainNote) -> bool
 {
     let act = number(note.act);
     let room = number(note.room);
-    let card = number_if(note.card).unwrap_or(u64::MAX);
+    let card = number_if(note.card).unwrap_or(NO_NUMBER);
     let first = number(note.first_code);
     let second = number(note.second_code);
     if act == 0 || act == 1 {

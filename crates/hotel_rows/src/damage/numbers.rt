@@ -8,12 +8,15 @@ ghost use Rattle.hotel_rows.specs.Stored.{number_of};
 
 use keycard_rules::LAST_NUMBER;
 
-/// A stored number; one below 0 is read as the greatest number, which no rule takes.
+/// The greatest number, which no rule takes: it stands where there is none.
+pub(crate) const NO_NUMBER: u64 = u64::MAX;
+
+/// A stored number; one below 0 is read as one that no rule takes.
 pub(crate) fn number(stored: i64) -> u64
     ensures { result ≡ number_of stored }
 {
     if stored < 0 {
-        return u64::MAX;
+        return NO_NUMBER;
     }
     stored as u64
 }

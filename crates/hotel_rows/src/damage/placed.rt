@@ -1,5 +1,5 @@
 //! The codes of each room by their places.
-ghost use Rattle.std.specs.Prelude.{◌≡◌, ℕ, ◌&&◌, ◌==◌, ◌+◌, ◌-◌, ◌<◌, ◌^◌, IfOk, OnOk, None, true, option_map};
+ghost use Rattle.std.specs.Prelude.{◌≡◌, ℕ, ◌==◌, ◌+◌, ◌<◌, ◌^◌, IfOk, OnOk, None, true, option_map};
 ghost use Rattle.std.specs.List.{list_all};
 ghost use Rattle.std.specs.Prelude.{if◌then◌else◌};
 ghost use Rattle.std.specs.Ordering.{nat_cmp};
@@ -12,7 +12,7 @@ ghost use Rattle.hotel_model.specs.SoundCards.{is_newest};
 ghost use Rattle.hotel_model.specs.SoundRooms.{count_up};
 ghost use Rattle.hotel_rows.specs.Stored.{number_of, plain_fits, rows_of};
 ghost use Rattle.hotel_rows.specs.Lasts.{link_of_pair, link_of_both};
-ghost use Rattle.hotel_rows.specs.FitRuns.{FitsOf};
+ghost use Rattle.hotel_rows.specs.FitRuns.{BeginsOf};
 ghost use Rattle.hotel_rows.specs.Placed.{places_in, listed_in, PlacesOf, placed_as_due, are_due_at, is_last_link};
 
 use crate::damage::fit_runs::{RoomFits, ends_with_fit};
@@ -144,13 +144,20 @@ pub(crate) fn rooms_have_places(placed: &BTreeMap<u64, Placed>, stored: &Stored)
     true
 }
 
+/// The code at a place of a room.
+fn code_of(placed: &BTreeMap<u64, Placed>, room: u64, place: u64) -> Option<u64>
+    ensures { result ≡ at_number (places_in placed.now.entries room) place }
+{
+    let Some(found) = placed.get(&room) else {
+        return None;
+    };
+    found.by_place.get(&place).copied()
+}
+
 fn is_at_place(placed: &BTreeMap<u64, Placed>, room: u64, place: u64, code: u64) -> bool
     ensures { result ≡ is_that (at_number (places_in placed.now.entries room) place) code }
 {
-    let Some(found) = placed.get(&room) else {
-        return false;
-    };
-    let Some(there) = found.by_place.get(&place).copied() else {
+    let Some(there) = code_of(placed, room, place) else {
         return false;
     };
     there == code
@@ -180,7 +187,7 @@ pub(crate) fn is_newest(
     new: u64,
 ) -> bool
     requires placed { PlacesOf placed.now.entries stored.now.codes.items }
-    requires fits { FitsOf fits.now (plain_fits stored.now) }
+    requires begins { BeginsOf fits.now.begins.entries (plain_fits stored.now) }
     requires due { placed_as_due placed.now.entries room.now ≡ true }
     ensures { result ≡ is_newest (rows_of stored.now) (number_of room.now.room)
         (record { old_code = old; new_code = new }) }
@@ -191,15 +198,6 @@ pub(crate) fn is_newest(
         return false;
     }
     is_newest_in(placed, named, codes, old, new)
-}
-
-fn code_of(placed: &BTreeMap<u64, Placed>, room: u64, place: u64) -> Option<u64>
-    ensures { result ≡ at_number (places_in placed.now.entries room) place }
-{
-    let Some(found) = placed.get(&room) else {
-        return None;
-    };
-    found.by_place.get(&place).copied()
 }
 
 /// The link of the last two codes of a room with so many.

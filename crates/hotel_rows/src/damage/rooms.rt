@@ -4,9 +4,9 @@ ghost use Rattle.std.specs.List.{list_all};
 ghost use Rattle.hotel_model.specs.Stays.{room_of_state};
 ghost use Rattle.hotel_rows.specs.Stored.{plain_fits, rows_of, room_row, stay_row};
 ghost use Rattle.hotel_rows.specs.Damage.{most_notes, room_columns, room_holds};
-ghost use Rattle.hotel_rows.specs.Known.{IsOfRows};
+ghost use Rattle.hotel_rows.specs.Known.{KindsOf};
 ghost use Rattle.hotel_rows.specs.Places.{AreOf};
-ghost use Rattle.hotel_rows.specs.FitRuns.{FitsOf};
+ghost use Rattle.hotel_rows.specs.FitRuns.{FitRunsOf, BeginsOf, FitsOf};
 ghost use Rattle.hotel_rows.specs.RowTests.{is_room_number, is_secured_as_due, has_few_codes, is_at_home};
 ghost use Rattle.hotel_rows.specs.RowTests.{room_fits};
 
@@ -14,7 +14,7 @@ use crate::damage::fit_runs::{RoomFits, ends_with_fit, fits_of_room};
 use crate::damage::found::{Places, room_keys, stay_at};
 use crate::damage::kinds::has_kind;
 use crate::damage::known::Known;
-use crate::damage::numbers::{number, number_if, rise};
+use crate::damage::numbers::{NO_NUMBER, number, number_if, rise};
 use crate::stored::{PlainRoom, PlainStay, Stored};
 use keycard_rules::{LAST_FIT, LAST_NUMBER, LAST_ROOM, Memory};
 use std::alloc::Global;
@@ -44,7 +44,7 @@ fn has_number(room: &PlainRoom) -> bool
 
 /// Whether the room has at most as many codes as there are cards, and those that its fits begin with.
 fn has_few_codes(stored: &Stored, fits: &RoomFits, room: &PlainRoom) -> bool
-    requires { FitsOf fits.now (plain_fits stored.now) }
+    requires { FitRunsOf fits.now.runs.entries (plain_fits stored.now) }
     ensures { result ≡ has_few_codes stored.now room.now }
 {
     let codes = number(room.codes);
@@ -54,7 +54,7 @@ fn has_few_codes(stored: &Stored, fits: &RoomFits, room: &PlainRoom) -> bool
 
 /// Whether the lock holds the last code, not the first one nor that of a fit, if the room is secured.
 fn is_secured_as_due(stored: &Stored, fits: &RoomFits, room: &PlainRoom) -> bool
-    requires { FitsOf fits.now (plain_fits stored.now) }
+    requires { BeginsOf fits.now.begins.entries (plain_fits stored.now) }
     ensures { result ≡ is_secured_as_due stored.now room.now }
 {
     if number(room.secured) != 1 {
@@ -78,7 +78,7 @@ pub(crate) fn home_of(stay: &PlainStay) -> Option<u64>
     if state != 1 {
         return None;
     }
-    Some(number_if(stay.room).unwrap_or(u64::MAX))
+    Some(number_if(stay.room).unwrap_or(NO_NUMBER))
 }
 
 /// Whether the party of the room, if it has one, is in house there, with a stay of its kind.
@@ -99,7 +99,9 @@ fn has_guest(places: &Places, stored: &Stored, room: &PlainRoom) -> bool
 }
 
 fn room_fits(known: &Known, stored: &Stored, room: &PlainRoom) -> bool
-    requires { IsOfRows known.now stored.now }
+    requires kinds { KindsOf known.now.kinds.entries stored.now }
+    requires places { AreOf known.now.places stored.now }
+    requires fits { FitsOf known.now.fits (plain_fits stored.now) }
     ensures { result ≡ room_fits stored.now room.now }
 {
     if !has_columns(room) || !has_number(room) {
@@ -121,7 +123,9 @@ fn room_fits(known: &Known, stored: &Stored, room: &PlainRoom) -> bool
 }
 
 fn rooms_fit(known: &Known, stored: &Stored) -> bool
-    requires { IsOfRows known.now stored.now }
+    requires kinds { KindsOf known.now.kinds.entries stored.now }
+    requires places { AreOf known.now.places stored.now }
+    requires fits { FitsOf known.now.fits (plain_fits stored.now) }
     ensures { result ≡ list_all (room_fits stored.now) stored.now.rooms.items }
 {
     for i in 0..stored.rooms.len() {
@@ -134,7 +138,9 @@ fn rooms_fit(known: &Known, stored: &Stored) -> bool
 
 /// Whether the rules of the table of rooms hold, where those of the kinds do.
 pub(crate) fn rooms_hold(alloc: Global, known: &Known, stored: &Stored) -> Result<bool, Memory>
-    requires { IsOfRows known.now stored.now }
+    requires kinds { KindsOf known.now.kinds.entries stored.now }
+    requires places { AreOf known.now.places stored.now }
+    requires fits { FitsOf known.now.fits (plain_fits stored.now) }
     ensures { IfOk result (λ hold. hold ≡ room_holds stored.now) }
 {
     let keys = room_keys(alloc, &stored.rooms)?;

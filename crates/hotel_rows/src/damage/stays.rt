@@ -4,7 +4,7 @@ ghost use Rattle.std.specs.List.{list_all};
 ghost use Rattle.hotel_nights.specs.Guests.{is_guest};
 ghost use Rattle.hotel_rows.specs.Stored.{rows_of, stay_row};
 ghost use Rattle.hotel_rows.specs.Damage.{stay_columns, stay_holds};
-ghost use Rattle.hotel_rows.specs.Known.{IsOfRows};
+ghost use Rattle.hotel_rows.specs.Known.{KindsOf};
 ghost use Rattle.hotel_rows.specs.Places.{AreOf};
 ghost use Rattle.hotel_rows.specs.RowTests.{are_stay_days, has_home, stay_fits};
 
@@ -75,7 +75,8 @@ fn stay_fits(
     stored: &Stored,
     stay: &PlainStay,
 ) -> Result<bool, Memory>
-    requires { IsOfRows known.now stored.now }
+    requires kinds { KindsOf known.now.kinds.entries stored.now }
+    requires places { AreOf known.now.places stored.now }
     ensures { IfOk result (λ fits. fits ≡ stay_fits stored.now stay.now) }
 {
     if !has_columns(stay) {
@@ -95,7 +96,8 @@ fn stay_fits(
 
 /// Whether each stay fits by itself.
 pub(crate) fn stays_fit(alloc: Global, known: &Known, stored: &Stored) -> Result<bool, Memory>
-    requires { IsOfRows known.now stored.now }
+    requires kinds { KindsOf known.now.kinds.entries stored.now }
+    requires places { AreOf known.now.places stored.now }
     ensures { IfOk result (λ fit. fit ≡ list_all (stay_fits stored.now) stored.now.stays.items) }
 {
     for i in 0..stored.stays.len() {
@@ -108,7 +110,8 @@ pub(crate) fn stays_fit(alloc: Global, known: &Known, stored: &Stored) -> Result
 
 /// Whether the rules of the table of stays hold, where those of the kinds do.
 pub(crate) fn stays_hold(alloc: Global, known: &Known, stored: &Stored) -> Result<bool, Memory>
-    requires { IsOfRows known.now stored.now }
+    requires kinds { KindsOf known.now.kinds.entries stored.now }
+    requires places { AreOf known.now.places stored.now }
     ensures { IfOk result (λ hold. hold ≡ stay_holds stored.now) }
 {
     let keys = stay_keys(alloc, &stored.stays)?;

@@ -1,47 +1,35 @@
-use Rattle.std.proofs.Common.{◌&&◌, map, ap, sym, ◌∙◌}
+use Rattle.std.proofs.Common.{map, ap, sym, ◌∙◌}
 use Rattle.std.specs.List.{list_all}
 use Rattle.hotel_model.specs.Words.{pair_cmp}
 use Rattle.hotel_model.specs.SoundRooms.{are_in_order}
-use Rattle.hotel_rows.specs.Stored.{plain_fits, rows_of}
+use Rattle.hotel_rows.specs.Stored.{rows_of}
 use Rattle.hotel_rows.specs.Keys.{fit_key}
 use Rattle.hotel_rows.specs.RowTests.{has_room}
-use Rattle.hotel_rows.specs.FitRuns.{fitted_as_due}
+use Rattle.hotel_rows.proofs.OfDamage.InTurn.{first_fails, second_fails, third_tells}
 use Rattle.hotel_rows.proofs.OfDamage.FitsTogether.{fits_together}
 use Rattle.hotel_rows.proofs.damage.fits.fits_hold.Goals as goal
 
 pub returns-then-not-rise_in_pairs : goal.returns-then-not-rise_in_pairs
 returns-then-not-rise_in_pairs c =
-    let s = c.args.stored.now in
-    let runs = c.args.known.now.fits.runs.entries in
+    let together = fits_together c.args.stored.now c.args.known.now.fits.runs.entries c.requires.runs in
     let order = c.rise_in_pairs.ensures ∙ ap (are_in_order pair_cmp)
     (c.deref.ensures.value ∙ c.in_ok-keys.ensures ∙ ap (map fit_key) c.requires.plain) in
-    sym (fits_together s runs c.requires.known.fits.runs
-    ∙ ap (λ b. b && list_all (has_room (rows_of s)) (plain_fits s) && list_all (fitted_as_due runs) s.rooms.items)
-    (sym order ∙ c.if-not-rise_in_pairs.true))
+    first_fails _ _ together (sym order ∙ c.if-not-rise_in_pairs.true)
 
 pub returns-then-not-fits_have_rooms : goal.returns-then-not-fits_have_rooms
 returns-then-not-fits_have_rooms c =
-    let s = c.args.stored.now in
-    let runs = c.args.known.now.fits.runs.entries in
+    let together = fits_together c.args.stored.now c.args.known.now.fits.runs.entries c.requires.runs in
     let order = c.rise_in_pairs.ensures ∙ ap (are_in_order pair_cmp)
     (c.deref.ensures.value ∙ c.in_ok-keys.ensures ∙ ap (map fit_key) c.requires.plain) in
-    sym (fits_together s runs c.requires.known.fits.runs
-    ∙ ap (λ b. b && list_all (has_room (rows_of s)) (plain_fits s) && list_all (fitted_as_due runs) s.rooms.items)
-    (sym order ∙ c.if-not-rise_in_pairs.false)
-    ∙ ap (λ b. b && list_all (fitted_as_due runs) s.rooms.items)
-    (ap (list_all (has_room (rows_of s))) (sym c.requires.plain) ∙ sym c.fits_have_rooms.ensures
-    ∙ c.if-not-fits_have_rooms.true))
+    second_fails _ together (sym order ∙ c.if-not-rise_in_pairs.false)
+    (ap (list_all (has_room (rows_of c.args.stored.now))) (sym c.requires.plain) ∙ sym c.fits_have_rooms.ensures
+    ∙ c.if-not-fits_have_rooms.true)
 
 pub returns : goal.returns
 returns c =
-    let s = c.args.stored.now in
-    let runs = c.args.known.now.fits.runs.entries in
+    let together = fits_together c.args.stored.now c.args.known.now.fits.runs.entries c.requires.runs in
     let order = c.rise_in_pairs.ensures ∙ ap (are_in_order pair_cmp)
     (c.deref.ensures.value ∙ c.in_ok-keys.ensures ∙ ap (map fit_key) c.requires.plain) in
-    c.rooms_are_fitted.ensures
-    ∙ sym (fits_together s runs c.requires.known.fits.runs
-    ∙ ap (λ b. b && list_all (has_room (rows_of s)) (plain_fits s) && list_all (fitted_as_due runs) s.rooms.items)
-    (sym order ∙ c.if-not-rise_in_pairs.false)
-    ∙ ap (λ b. b && list_all (fitted_as_due runs) s.rooms.items)
-    (ap (list_all (has_room (rows_of s))) (sym c.requires.plain) ∙ sym c.fits_have_rooms.ensures
-    ∙ c.if-not-fits_have_rooms.false))
+    c.rooms_are_fitted.ensures ∙ third_tells together (sym order ∙ c.if-not-rise_in_pairs.false)
+    (ap (list_all (has_room (rows_of c.args.stored.now))) (sym c.requires.plain) ∙ sym c.fits_have_rooms.ensures
+    ∙ c.if-not-fits_have_rooms.false)

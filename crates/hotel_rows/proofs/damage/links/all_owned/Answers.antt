@@ -19,7 +19,7 @@ returns-then-ends_with_fit c =
     let placed = c.args.known.now.placed.entries in
     let begins = c.args.known.now.fits.begins.entries in
     let plain_rows = s.cards.items in
-    let newest = newest_known s placed begins c.args.room c.args.codes c.requires.known.placed c.requires.known.fits.begins
+    let newest = newest_known s placed begins c.args.room c.args.codes c.requires.placed c.requires.begins
     c.requires.due
     ∙ ap (λ b. cond b None (last_link_of (values_of (places_in placed c.args.room))))
     (sym c.ends_with_fit.ensures ∙ c.if-ends_with_fit.true) in
@@ -34,7 +34,7 @@ returns-in_default c =
     let begins = c.args.known.now.fits.begins.entries in
     let plain_rows = s.cards.items in
     let none : c.newest_of.result ≡ None = search rules in
-    let newest = newest_known s placed begins c.args.room c.args.codes c.requires.known.placed c.requires.known.fits.begins
+    let newest = newest_known s placed begins c.args.room c.args.codes c.requires.placed c.requires.begins
     c.requires.due
     ∙ ap (λ b. cond b None (last_link_of (values_of (places_in placed c.args.room))))
     (sym c.ends_with_fit.ensures ∙ c.if-ends_with_fit.false)
@@ -49,7 +49,7 @@ returns c =
     let placed = c.args.known.now.placed.entries in
     let begins = c.args.known.now.fits.begins.entries in
     let plain_rows = s.cards.items in
-    let newest = newest_known s placed begins c.args.room c.args.codes c.requires.known.placed c.requires.known.fits.begins
+    let newest = newest_known s placed begins c.args.room c.args.codes c.requires.placed c.requires.begins
     c.requires.due
     ∙ ap (λ b. cond b None (last_link_of (values_of (places_in placed c.args.room))))
     (sym c.ends_with_fit.ensures ∙ c.if-ends_with_fit.false)

@@ -42,11 +42,11 @@ returns-in_default-clause-told c = λ h.
     absurd (false≢true
     (sym c.in_default.ensures.err.1 ∙ ap is_kind c.as_str.ensures.value ∙ (tells c.args.counts.now c.args.stay.now h).0))
 
-pub returns-then-arrive-gt36523-clause-told : goal.returns-then-arrive-gt36523-clause-told
-returns-then-arrive-gt36523-clause-told c = λ h.
+pub returns-then-arrive-from-clause-told : goal.returns-then-arrive-from-clause-told
+returns-then-arrive-from-clause-told c = λ h.
     let stored : c.number-arrive.result ≡ number_of c.args.stay.now.arrive = search rules in
     let next = (tells c.args.counts.now c.args.stay.now h).1 in
-    grind (arith, nat_tests, next, stored, c.if-arrive-gt36523.true)
+    grind (arith, nat_tests, next, stored, c.if-arrive-from.true)
 
 pub returns-in_default-day-clause-told : goal.returns-in_default-day-clause-told
 returns-in_default-day-clause-told c = λ h.

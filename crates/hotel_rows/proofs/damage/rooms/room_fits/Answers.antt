@@ -23,4 +23,4 @@ returns-then-not-has_kind c =
     (has_few_codes s plain)
     (nat_le (number_of plain.notes) (most_notes s)) (is_at_home rows (room_row plain)) (is_secured_as_due s plain)
     (ap (λ t. list_any (λ k. bytes_eq k t) rows.kinds) (sym c.as_str.ensures.value)
-    ∙ sym (c.has_kind.ensures rows.kinds c.requires.read c.requires.kinds) ∙ c.if-not-has_kind.true)
+    ∙ sym (c.has_kind.ensures rows.kinds c.requires.kinds.read c.requires.kinds.known) ∙ c.if-not-has_kind.true)
