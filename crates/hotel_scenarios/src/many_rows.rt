@@ -1,6 +1,5 @@
 //! Look-ups that no command makes: those that answer several rows, the number of a kind's rooms, and a room's locks
-//! with
-//! the notes of each.
+//! with the notes of each.
 use crate::desks::{Desk, room};
 use crate::replaced_locks::REPLACED_LOCK;
 use crate::scenarios::{CHECKED_IN, OPENED, SPARE_KEEPS_ROOM_OPEN};
@@ -53,8 +52,7 @@ fn rooms_are_counted<B: Books>(books: &mut B) -> Result<bool, Fail> {
 
 /// Over these empty books, scenario `spare-keeps-room-open` up to the second guest's entry: whether the stays of a kind
 /// and the cards inside a room are found as it says, where another kind and another room have none; and whether the
-/// rooms
-/// of a kind are counted.
+/// rooms of a kind are counted.
 pub fn many_rows_are_found<B: Books + Drop>(alloc: Global, books: B) -> Result<bool, Fail> {
     let entered = SPARE_KEEPS_ROOM_OPEN.get(..8).ok_or("eight steps")?;
     let mut desk = Desk::over(alloc, books, &[0xa0, 0xa1, 0xa2, 0xb0])?;
@@ -135,8 +133,8 @@ fn notes_are_found<B: Books>(books: &mut B) -> Result<bool, Fail> {
 }
 
 /// Over these empty books, scenario `replaced-lock`: whether each lock of the room is found, with its first code's
-/// place
-/// and the number of notes before it, and so is each note by its lock and count; and what the room's row says of them.
+/// place and the number of notes before it, and so is each note by its lock and count; and what the room's row says of
+/// them.
 pub fn locks_and_notes_are_found<B: Books + Drop>(alloc: Global, books: B) -> Result<bool, Fail> {
     let mut desk = Desk::over(alloc, books, &[0xa0, 0xa1, 0xa2, 0xa3])?;
     desk.goes_through(&[OPENED, CHECKED_IN, REPLACED_LOCK])?;

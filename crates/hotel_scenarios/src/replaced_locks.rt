@@ -232,8 +232,7 @@ pub static OF_REPLACED_LOCKS: [Scenario; 5] = [
 ];
 
 /// Scenario `fits-used-up` over these empty books: whether a room gets 98 locks after its first one, each with the code
-/// of
-/// its number, and no more.
+/// of its number, and no more.
 pub fn fits_are_used_up<B: Walks + Drop>(alloc: Global, books: B) -> Result<bool, Fail> {
     let mut codes = Vec::new(alloc);
     for code in 1..=100u64 {

@@ -1,7 +1,6 @@
 //! The worked scenarios: what is asked of a desk with empty books, step by step, and what each step answers. The
 //! computed scenes of the model have the same names, codes and lines, in the same order, and `.ci/scenes` compares
-//! them; a
-//! scenario may have lists and lines that aren't read which its scene lacks.
+//! them; a scenario may have lists and lines that aren't read which its scene lacks.
 use crate::chains::TWO_CODES;
 
 /// What is asked of a desk, and what it answers.

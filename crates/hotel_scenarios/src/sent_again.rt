@@ -8,8 +8,7 @@ use std::alloc::Global;
 use std::test::Fail;
 
 /// A file, and what came before it. By how many lines were answered: how many notes the room has then, and what the
-/// file
-/// is answered when it comes again.
+/// file is answered when it comes again.
 #[derive(Clone, Copy)]
 pub struct Sent {
     /// The file.
@@ -124,8 +123,7 @@ fn once(alloc: Global, sent: &Sent) -> Result<RoomNow, Fail> {
 }
 
 /// After so many answered lines the file comes again: whether the answered lines stand, the others are answered for,
-/// and
-/// the tables are those of the whole file.
+/// and the tables are those of the whole file.
 pub fn comes_again<B: Books>(
     alloc: Global,
     books: &mut B,

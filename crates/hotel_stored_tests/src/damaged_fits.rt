@@ -1,6 +1,5 @@
 //! Tables of desks with several locks that statements damage: each rule of the table of fits, and the rules of other
-//! tables
-//! that look at fits.
+//! tables that look at fits.
 use crate::connections::new_tables;
 use crate::stored_rows::stored;
 use crate::tables::{is_damaged, tables_behind};
@@ -98,8 +97,7 @@ static OF_FITS: [Damage; 10] = [
 ];
 
 /// The rules of other tables: how many codes a room has; that no card has secured a new lock; that a fit's first code
-/// is
-/// the later one of no card, and any other code is that of one; and that no card of an earlier lock is inside.
+/// is the later one of no card, and any other code is that of one; and that no card of an earlier lock is inside.
 static OF_OTHERS: [Damage; 6] = [
     Damage {
         parts: &[OPENED],

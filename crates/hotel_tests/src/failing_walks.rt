@@ -10,8 +10,7 @@ use std::process::Abort;
 use std::test::Fail;
 
 /// Room 101 was never entered, and its second guest is in house; the guest of room 102 came and went out; and one more
-/// is to
-/// arrive two days later.
+/// is to arrive two days later.
 static ALL_LISTS: [&[u8]; 14] = [
     b"begin 2031-05-01",
     b"add-kind DBL",
@@ -37,8 +36,7 @@ fn listed_desk(alloc: Global) -> Result<Desk, Fail> {
 }
 
 /// A list: the line that asks for it, its text, how many calls of the books it makes (one before each row and one
-/// behind the
-/// last one; and a room is looked up first), and how many lines stand before the first of these.
+/// behind the last one; and a room is looked up first), and how many lines stand before the first of these.
 #[derive(Clone, Copy)]
 struct Asked {
     line: &'static [u8],
@@ -205,8 +203,7 @@ fn joined(alloc: Global, texts: &[&[u8]]) -> Result<Vec<u8>, Fail> {
 }
 
 /// A script asks for the list twice. The call of this number fails for this cause: the first lines before it are
-/// followed by the
-/// refusal, and then the list is whole.
+/// followed by the refusal, and then the list is whole.
 fn fails_in_script(
     rt: &(impl Abort + AllocGlobal),
     asked: &Asked,

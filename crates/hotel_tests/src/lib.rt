@@ -1,6 +1,5 @@
 //! Tests of the crates that need no tables, in a crate of their own: so none of those is proved a second time with its
-//! tests.
-//! `hotel_stored_tests` has those over tables; `hotel_scenarios` has what both are made of.
+//! tests. `hotel_stored_tests` has those over tables; `hotel_scenarios` has what both are made of.
 #![tactic(auto)]
 
 #[cfg(test)]

@@ -65,8 +65,7 @@ fn ended_by<A: Abort>(rt: &A, ended: Option<LookFault>, cause: LookFault, call: 
 }
 
 /// Imports the file into books of which this call fails for this cause, which they count by that cause alone: how many
-/// lines
-/// were answered, where it was stopped.
+/// lines were answered, where it was stopped.
 fn stopped_at(
     rt: &(impl Abort + AllocGlobal),
     books: &mut StoppingBooks,

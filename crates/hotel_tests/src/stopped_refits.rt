@@ -34,8 +34,7 @@ fn stopping(desk: Desk, call: u64, cause: LookFault) -> Desk<StoppingBooks> {
 }
 
 /// The calls of the books that a refit makes, in order, and what the refit that is asked for again behind their failure
-/// is
-/// answered: a word that was examined is gone.
+/// is answered: a word that was examined is gone.
 static CALLS: [(&str, &[u8]); 4] = [
     ("the day", b"lock 2 code 0000000000a2\n"),
     ("the room", b"lock 2 code 0000000000a2\n"),
@@ -51,8 +50,7 @@ fn is_refitted<A: Abort>(rt: &A, now: &RoomNow) {
 }
 
 /// The refit of which the call of this number fails for this cause is refused so and changes nothing; asked for again
-/// it is
-/// answered so.
+/// it is answered so.
 fn fails_at(
     rt: &(impl Abort + AllocGlobal),
     call: u64,
@@ -91,8 +89,7 @@ fn no_later_call_of_a_refit(rt: HostRuntime) -> Result<(), Fail> {
 }
 
 /// A refit that is refused, of a desk that hasn't begun or one on which party 1 is in room 101; and how many calls of
-/// the
-/// books come before.
+/// the books come before.
 static REFUSED: [(&[&[Step]], &[u8], &[u8], u64); 3] = [
     (&[], b"refit 101", b"refused 1 NotBegun\n", 1),
     (&[OPENED], b"refit 102", b"refused 6 NoRoom\n", 2),
