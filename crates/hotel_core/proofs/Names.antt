@@ -55,7 +55,9 @@ pub use Rattle.hotel_nights.specs.Block.{one_if}
 pub use Rattle.keycard_rules.specs.Draw.{Draws, fault_in}
 unfoldable pub use Rattle.keycard_rules.specs.Draw.{drawn}
 pub use Rattle.keycard_rules.specs.Numbers.{IsNumberUpTo}
+pub use Rattle.keycard_rules.proofs.Sinces.{since_refl, since_then}
 pub use Rattle.keycard_rules.specs.Rise.{HasRisen, HasRisenBy, NoFewer}
+pub use Rattle.keycard_rules.specs.Since.{Since}
 pub use Rattle.keycard_rules.specs.declared.issued.LookFault.{LookFault}
 pub use Rattle.std.proofs.lemmas.Cmp.{tied_itself}
 pub use Rattle.std.proofs.lemmas.List.{length-map, take_more}

@@ -23,29 +23,9 @@ pub fn add_room<S: Alter>(
     ensures makes { WritesBy S.Store (opens_room room kind code) (IsNewRoom room)
         (made (change.Room room kind code)) tx.old.conn.now tx.new.conn.now result }
 {
-    let first = FitNo::new(1).unwrap();
-    let row = RoomRow {
-        room,
-        kind,
-        lock_place: 0,
-        codes: 1,
-        secured: false,
-        party: None,
-        notes: 0,
-        fit: first,
-        before: 0,
-    };
-    insert_room(tx, row)?;
+    insert_room(tx, RoomRow::of_new_room(room, kind))?;
     insert_code(tx, code, CodeRow { room, place: 0 })?;
-    insert_fit(
-        tx,
-        FitRow {
-            room,
-            fit: first,
-            place: 0,
-            before: 0,
-        },
-    )
+    insert_fit(tx, FitRow::of_new_room(room))
 }
 
 /// Ends a stay, and leaves its room without a party.

@@ -14,7 +14,7 @@ comes_of rows a b o e = subst (λ x. IsOutcome rows x) e o
 pub comes_now : {S : Type 0} {I : IssuedOf S} {B : BooksOf S} {v : Bool} {facts : Rows → Type 0} {start now : S} (outcome : Rows → Outcome Change)
     → SoFar I B v facts start now → (I.is_clean start → facts (B.rows start) → IsOutcome (B.rows start) (outcome (B.rows start)))
     → I.is_clean now → IsOutcome (B.rows now) (outcome (B.rows now))
-comes_now outcome s h clean = subst (λ rs. IsOutcome rs (outcome rs)) (sym (s.same clean)) (h (s.was_clean clean) (s.facts_hold clean))
+comes_now outcome s h clean = subst (λ rs. IsOutcome rs (outcome rs)) (sym (s.same clean)) (h (s.since.was_clean clean) (s.facts_hold clean))
 
 -- the command is accepted with this change and this reply
 pub answers : {S : Type 0} {I : IssuedOf S} {B : BooksOf S} {v : Bool} {facts : Rows → Type 0} {start now : S} {change : Change} {reply : Reply}
@@ -35,8 +35,8 @@ pub drawn_answers : {S : Type 0} {I : IssuedOf S} {B : BooksOf S} {v : Bool} {fa
     → (I.is_clean start → facts (B.rows start) → IsOutcome (B.rows start) (by_draw (draw_from (codes_in (B.rows start)) (words 64 source)) reply_with change_with))
     → I.is_clean new → IsAnswered (B.rows new) (change_with code) (reply_with code)
 drawn_answers {B = B} {start = start} {old = old} {source = source} {code = code} reply_with change_with s d h clean =
-    let before = d.was_clean clean in
-    let o = h (s.was_clean before) (s.facts_hold before) in
+    let before = d.since.was_clean clean in
+    let o = h (s.since.was_clean before) (s.facts_hold before) in
     let drawn = ap (λ rs. (draw_from (codes_in rs) (words 64 source)).code) (sym (s.same before)) ∙ (d.answer clean).0 in
     subst (λ rs. IsAnswered rs (change_with code) (reply_with code)) (sym (d.same clean ∙ s.same before))
     ((draw_from (codes_in (B.rows start)) (words 64 source)).examined, (o.0, o.1, o.2, drawn_answer (B.rows start) _ reply_with change_with source code o.3 drawn))

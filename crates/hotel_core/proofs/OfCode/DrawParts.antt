@@ -1,16 +1,17 @@
 -- A draw as a part of a step.
 use Rattle.std.proofs.Common.{ℕ, ◌≡◌, Bool, true, false, Some, None, Result, Ok, Err, IsErrAnd, List, refl, ap, sym}
 use Rattle.std.proofs.Common.{◌∙◌, arith, subst, option_map, IfSome, inr}
-use Rattle.hotel_core.proofs.Names.{false≢true, LookFault, Stream, HasRisen, NoFewer, Draw, Draws, fault_in, draw_from}
-use Rattle.hotel_core.proofs.Names.{drawn, words, past, Change, Reply, Refused, Refusal, NoFreshCode, said_of, Rows}
-use Rattle.hotel_core.proofs.Names.{codes_in, is_failed, Outcome, accepted, by_draw, made, GoesIf, made_by, AreWhole}
-use Rattle.hotel_core.proofs.Names.{StepsAs, DrawsCode, Drew, DrewNone, drawn_or, has_failed, refusal_of, reply_of}
+use Rattle.hotel_core.proofs.Names.{false≢true, LookFault, Stream, HasRisen, Since, since_then, Draw, Draws, fault_in}
+use Rattle.hotel_core.proofs.Names.{draw_from, drawn, words, past, Change, Reply, Refused, Refusal, NoFreshCode}
+use Rattle.hotel_core.proofs.Names.{said_of, Rows, codes_in, is_failed, Outcome, accepted, by_draw, made, GoesIf}
+use Rattle.hotel_core.proofs.Names.{made_by, AreWhole, StepsAs, DrawsCode, Drew, DrewNone, drawn_or, has_failed}
+use Rattle.hotel_core.proofs.Names.{refusal_of, reply_of}
 use Rattle.hotel_core.proofs.Names.{Ghosts as BooksOf}
 use Rattle.keycard_rules.specs.Draw.{MovedAtMost}
 use Rattle.keycard_rules.specs.declared.issued.LookFault.TheVariants as look
 use Rattle.keycard_rules.specs.{declared.draw.DrawFault.DrawFault, declared.issued.Issued.Ghosts as IssuedOf}
 use Rattle.keycard_rules.specs.declared.draw.DrawFault.TheVariants as fault
-use Rattle.hotel_core.proofs.OfCode.Parts.{SoFar, passed_on, risen_later}
+use Rattle.hotel_core.proofs.OfCode.Parts.{SoFar, passed_on, risen_since}
 
 drew : (found : Result ℕ DrawFault) (issued : List ℕ) (source rest : Stream) → Draws issued source found rest → Drew (draw_from issued (words 64 source)) source rest (drawn_or found)
 unfolding drawn
@@ -51,18 +52,16 @@ failed_moves (Err fault.Store) issued source rest e d = d
 -- a draw over books
 pub draws : {S : Type 0} {I : IssuedOf S} {B : BooksOf S} {is_kept : S → S → Type 0} {issued : S → List ℕ} {old new : S} {source rest : Stream} (found : Result ℕ DrawFault) (result : Result ℕ Refusal) → result ≡ drawn_or found
     → ((a b : S) → is_kept a b → B.rows b ≡ B.rows a) → ((a : S) → issued a ≡ codes_in (B.rows a))
-    → (I.is_clean new → I.is_honest new) → (I.is_honest new → Draws (issued old) source found rest) → (I.is_clean new → is_kept old new) → (I.is_clean new → I.is_clean old)
-    → (I.is_honest new → I.is_honest old) → (I.is_honest new → fault_in found ≡ None → I.is_clean new) → NoFewer (I.failures old) (I.failures new)
+    → (I.is_clean new → I.is_honest new) → (I.is_honest new → Draws (issued old) source found rest) → (I.is_clean new → is_kept old new)
+    → Since I.is_clean I.is_honest I.failures old new → (I.is_honest new → fault_in found ≡ None → I.is_clean new)
     → IfSome (fault_in found) (λ cause. HasRisen (I.failures old cause) (I.failures new cause)) → (I.never_fails → fault_in found ≡ None)
     → DrawsCode I B old new source rest result
-draws {I = I} {B = B} {old = old} {new = new} {source = source} {rest = rest} found result e kept_rows issued_are ch d k w wh v counted risen sure = subst (λ r. DrawsCode I B old new source rest r) (sym e) (record {
+draws {I = I} {B = B} {old = old} {new = new} {source = source} {rest = rest} found result e kept_rows issued_are ch d k since v risen sure = subst (λ r. DrawsCode I B old new source rest r) (sym e) (record {
   answer = λ clean. drew found _ source rest (subst (λ codes. Draws codes source found rest) (issued_are old) (d (ch clean)));
   same = λ clean. kept_rows old new (k clean);
-  was_clean = w;
-  was_honest = wh;
+  since = since;
   vouched = λ honest k. v honest (unfaulted found k);
   moved = λ honest k. failed_moves found _ source rest k (subst (λ codes. Draws codes source found rest) (issued_are old) (d honest));
-  counted = counted;
   fault = λ cause e. risen_of (λ x. HasRisen (I.failures old x) (I.failures new x)) found cause risen e;
   sure = λ n e. absurd (false≢true (sym (unfailed found (sure n)) ∙ e));
 })
@@ -91,22 +90,20 @@ pub undrawn : {S : Type 0} {I : IssuedOf S} {B : BooksOf S} {facts : Rows → Ty
 undrawn {I = I} {B = B} {start = start} {old = old} {new = new} {source = source} {rest = rest} {e = e} {outcome = outcome} r reply_with change_with p s d h =
     subst (λ answer. StepsAs I B outcome start new source rest answer) (sym (passed_on r e p)) (record {
       goes = λ clean.
-          let before = d.was_clean clean in
+          let before = d.since.was_clean clean in
           undrawn_at (is_failed (Refused e)) (outcome (B.rows start)) (draw_from (codes_in (B.rows start)) (words 64 source)) (B.rows start) (B.rows new) source rest e reply_with change_with
           (h (s.facts_hold before)) (d.same clean ∙ s.same before)
           (subst (λ rs. DrewNone (is_failed (Refused e)) (draw_from (codes_in rs) (words 64 source)) source rest e) (s.same before) (d.answer clean));
-      was_clean = λ clean. s.was_clean (d.was_clean clean);
-      was_honest = λ honest. s.was_honest (d.was_honest honest);
+      since = since_then s.since d.since;
       vouched = λ honest k. d.vouched honest k;
       moved = λ honest k.
-          let before = s.vouched refl (d.was_honest honest) in
+          let before = s.vouched refl (d.since.was_honest honest) in
           inr (
-            s.was_clean before,
+            s.since.was_clean before,
             examined_by (outcome (B.rows start)) (draw_from (codes_in (B.rows old)) (words 64 source)) (draw_from (codes_in (B.rows start)) (words 64 source)) source rest reply_with change_with
                 (h (s.facts_hold before)) (ap (λ rs. draw_from (codes_in rs) (words 64 source)) (s.same before)) (d.moved honest k),
           );
-      counted = λ cause. omega (arith, s.counted cause, d.counted cause);
-      fault = λ clean w cause k. risen_later (I.failures start cause) (I.failures old cause) (I.failures new cause) (s.counted cause) (d.fault cause (cc)) (d.counted cause);
+      fault = λ clean w cause k. risen_since cause s.since d.since (d.fault cause (cc));
     })
 
 made_after : (b : Bool) (o : Outcome Change) (draw : Draw) (code : ℕ) (reply_with : ℕ → Reply) (change_with : ℕ → Change) (rows mid later : Rows) (source rest : Stream) (answer : Reply)
@@ -128,27 +125,25 @@ pub drawn_ends : {S : Type 0} {I : IssuedOf S} {B : BooksOf S} {v : Bool} {facts
     → StepsAs I B outcome start new source rest answer
 drawn_ends {I = I} {B = B} {start = start} {old = old} {mid = mid} {new = new} {source = source} {rest = rest} {code = code} {outcome = outcome} {answer = answer} reply_with change_with s d t h = record {
   goes = λ clean.
-      let then = t.was_clean clean in
-      let before = d.was_clean then in
+      let then = t.since.was_clean clean in
+      let before = d.since.was_clean then in
       let drawn = d.answer then in
       made_after (is_failed answer) (outcome (B.rows start)) (draw_from (codes_in (B.rows start)) (words 64 source)) code reply_with change_with (B.rows start) (B.rows mid) (B.rows new) source rest answer
       (h (s.facts_hold before)) (ap (λ rs. (draw_from (codes_in rs) (words 64 source)).code) (sym (s.same before)) ∙ drawn.0)
       (drawn.1 ∙ ap (λ rs. past (draw_from (codes_in rs) (words 64 source)).examined source) (s.same before))
       (d.same then ∙ s.same before) (t.goes clean);
-  was_clean = λ clean. s.was_clean (d.was_clean (t.was_clean clean));
-  was_honest = λ honest. s.was_honest (d.was_honest (t.was_honest honest));
+  since = since_then s.since (since_then d.since t.since);
   vouched = t.vouched;
   moved = λ honest k.
-      let then = d.vouched (t.was_honest honest) refl in
-      let before = d.was_clean then in
+      let then = d.vouched (t.since.was_honest honest) refl in
+      let before = d.since.was_clean then in
       inr (
-        s.was_clean before,
+        s.since.was_clean before,
         examined_by (outcome (B.rows start)) (draw_from (codes_in (B.rows old)) (words 64 source)) (draw_from (codes_in (B.rows start)) (words 64 source)) source rest reply_with change_with
             (h (s.facts_hold before)) (ap (λ rs. draw_from (codes_in rs) (words 64 source)) (s.same before)) (_, omega arith, (d.answer then).1),
       );
-  counted = λ cause. omega (arith, s.counted cause, d.counted cause, t.counted cause);
   fault = λ clean w cause e.
-      let then = t.was_clean clean in
-      let here = subst AreWhole (sym (d.same then ∙ s.same (d.was_clean then))) w in
-      risen_later (I.failures start cause) (I.failures mid cause) (I.failures new cause) (omega (arith, s.counted cause, d.counted cause)) (t.fault clean here cause e) (t.counted cause);
+      let then = t.since.was_clean clean in
+      let here = subst AreWhole (sym (d.same then ∙ s.same (d.since.was_clean then))) w in
+      risen_since cause (since_then s.since d.since) t.since (t.fault clean here cause e);
 }

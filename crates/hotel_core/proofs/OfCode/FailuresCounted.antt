@@ -39,8 +39,8 @@ pub step_counted : {S : Type 0} {I : IssuedOf S} {B : BooksOf S} {outcome : Rows
     → (I.is_clean old → IsSound (B.rows old)) → StepsAs I B outcome old new source rest answer
     → I.is_clean new → AreCounted (I.failures old) (I.failures new) (failure_in answer)
 step_counted {I = I} {B = B} {old = old} {new = new} {answer = answer} sound step clean =
-    let whole = sound_whole (B.rows old) (sound (step.was_clean clean)) in
-    counted_reply answer (I.failures old) (I.failures new) step.counted (step.fault clean whole)
+    let whole = sound_whole (B.rows old) (sound (step.since.was_clean clean)) in
+    counted_reply answer (I.failures old) (I.failures new) step.since.counted (step.fault clean whole)
 
 -- a failed step changed no row
 pub failed_same : (given : Reply) (o : Outcome Change) (rows later : Rows) (source rest : Stream) → is_failed given ≡ true → Goes o rows source given later rest → later ≡ rows

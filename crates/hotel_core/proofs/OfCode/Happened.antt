@@ -20,7 +20,7 @@ step_went {I = I} {B = B} {old = old} {new = new} h s s' command reply n r t hon
     by : (b : Bool) → is_failed reply ≡ b → (h' : History) × Reached h' × (I.is_clean new → B.rows new ≡ rows_of h') × Steps h s command reply h' s' × Assured h'
     by false k =
         let clean = t.vouched honest k in
-        let went = steps_lift h (B.rows old) s command reply (B.rows new) s' (reached, stands (t.was_clean clean)) n r (t.goes clean) in
+        let went = steps_lift h (B.rows old) s command reply (B.rows new) s' (reached, stands (t.since.was_clean clean)) n r (t.goes clean) in
         (went.0, went.1.0, (λ _. went.1.1), went.2, assured went.0 went.1.0)
     by true k = moved_by k (t.moved honest k)
       where
@@ -29,7 +29,7 @@ step_went {I = I} {B = B} {old = old} {new = new} h s s' command reply n r t hon
 
         moved_by : is_failed reply ≡ true → (s' ≡ s) ⊎ (I.is_clean old × MovedAtMost (outcome_on (B.rows old) (words 64 s) command).examined s s') → (h' : History) × Reached h' × (I.is_clean new → B.rows new ≡ rows_of h') × Steps h s command reply h' s' × Assured h'
         moved_by k (inl e) =
-            (h, reached, (λ clean. same k clean ∙ stands (t.was_clean clean)), subst (λ b. StepsIf b h s command reply h s') (sym k) (refl, (0, omega arith, e ∙ sym (past-zero s))), assured h reached)
+            (h, reached, (λ clean. same k clean ∙ stands (t.since.was_clean clean)), subst (λ b. StepsIf b h s command reply h s') (sym k) (refl, (0, omega arith, e ∙ sym (past-zero s))), assured h reached)
         moved_by k (inr (clean, m)) =
             let o = outcome_on (B.rows old) (words 64 s) command in
             let went = steps_lift h (B.rows old) s command reply (B.rows old) s' (reached, stands clean) n r (subst (λ b. GoesIf b o (B.rows old) s reply (B.rows old) s') (sym k) (refl, m)) in

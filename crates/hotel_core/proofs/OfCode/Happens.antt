@@ -2,8 +2,8 @@
 use Rattle.std.proofs.Common.{◌≡◌, Bool, true, false, not, List, [], ◌∷◌, ◌++◌, length, zip, refl, ap, arith}
 use Rattle.std.specs.Prelude.{⊤}
 use Rattle.std.proofs.lemmas.Bool.{not-true}
-use Rattle.hotel_core.proofs.Names.{false≢true, Stream, NoFewer, AreCounted, failure_in, is_failed, Steps, Command}
-use Rattle.hotel_core.proofs.Names.{Reply, Refusal, Rows, History}
+use Rattle.hotel_core.proofs.Names.{false≢true, Stream, Since, since_refl, since_then, AreCounted, failure_in}
+use Rattle.hotel_core.proofs.Names.{is_failed, Steps, Command, Reply, Refusal, Rows, History}
 use Rattle.hotel_model.proofs.Invariants.Assurance.{assured}
 use Rattle.hotel_core.proofs.{OfCode.FailuresCounted.none_counted, OfCode.FailuresCounted.counted_join}
 use Rattle.hotel_model.specs.Leads.{LeadsOn}
@@ -42,11 +42,11 @@ tells_once true counted vouched was = record { counted = counted; began = λ k. 
 tells_once false counted vouched was = record { counted = counted; began = λ k. absurd (false≢true k); ends = λ k. absurd k }
 
 -- books that were asked, and then asked again
-pub tells_join : {S : Type 0} {I : IssuedOf S} {old mid new : S} (failed more : List Refusal) (first later : List Bool) → NoFewer (I.failures mid) (I.failures new)
-    → (I.is_clean new → I.is_clean mid) → (I.is_clean mid → I.is_clean old) → Tells I old mid failed first → Tells I mid new more later → Tells I old new (failed ++ more) (first ++ later)
-tells_join {I = I} {old = old} {mid = mid} {new = new} failed more first later fewer back was a b = record {
-  counted = λ clean. counted_join (I.failures old) (I.failures mid) (I.failures new) failed more fewer (a.counted (back clean)) (b.counted clean);
-  began = answer_in (I.is_clean old) first later a.began (λ k. was (b.began k));
+pub tells_join : {S : Type 0} {I : IssuedOf S} {old mid new : S} (failed more : List Refusal) (first later : List Bool) → Since I.is_clean I.is_honest I.failures old mid
+    → Since I.is_clean I.is_honest I.failures mid new → Tells I old mid failed first → Tells I mid new more later → Tells I old new (failed ++ more) (first ++ later)
+tells_join {I = I} {old = old} {mid = mid} {new = new} failed more first later before after a b = record {
+  counted = λ clean. counted_join (I.failures old) (I.failures mid) (I.failures new) failed more after.counted (a.counted (after.was_clean clean)) (b.counted clean);
+  began = answer_in (I.is_clean old) first later a.began (λ k. before.was_clean (b.began k));
   ends = λ k. b.ends (known_from (known_after (I.is_clean old) first) (I.is_clean mid) later a.ends (known_on (I.is_clean old) first later k));
 }
 
@@ -54,22 +54,20 @@ tells_join {I = I} {old = old} {mid = mid} {new = new} failed more first later f
 pub so_by : {S : Type 0} {I : IssuedOf S} {rows : S → Rows} {old new : S} {went : Type 0 → (List Refusal → List Bool → Type 0) → History → History → Type 0}
     → ((kept kept' : Type 0) (told told' : List Refusal → List Bool → Type 0) (h h' : History) → (kept' → kept) → ((failed : List Refusal) (answered : List Bool) → told failed answered → told' failed answered)
     → went kept told h h' → went kept' told' h h')
-    → ((a : S) → I.is_clean a → I.is_honest a) → (I.is_clean new → I.is_clean old) → (I.is_honest new → I.is_honest old) → NoFewer (I.failures old) (I.failures new)
+    → ((a : S) → I.is_clean a → I.is_honest a) → Since I.is_clean I.is_honest I.failures old new
     → (I.is_honest new → LeadsOn (I.is_clean old) (rows old) (went (I.is_clean new) (Tells I old new)) (I.is_clean new) (rows new)) → HappensBy I rows old went new
-so_by {I = I} {rows = rows} {old = old} {new = new} {went = went} weaken clean_honest was_clean was_honest counted happened = record {
+so_by {I = I} {rows = rows} {old = old} {new = new} {went = went} weaken clean_honest since happened = record {
   leads = λ clean h stands.
       let p = happened (clean_honest new clean) h stands.0 (λ was. stands.1) in
       let told = weaken (I.is_clean new) ⊤ (Tells I old new) (λ failed answered. AreCounted (I.failures old) (I.failures new) failed) h p.0 (λ any. clean) (λ failed answered t. t.counted clean) p.3 in
       (p.0, (p.1, p.2 clean), told, p.4);
   happened = happened;
-  was_clean = was_clean;
-  was_honest = was_honest;
-  counted = counted;
+  since = since;
 }
 
 pub happens_so : {S : Type 0} {I : IssuedOf S} {rows : S → Rows} {old new : S} {went : (List Refusal → List Bool → Type 0) → History → History → Type 0}
     → ((told told' : List Refusal → List Bool → Type 0) (h h' : History) → ((failed : List Refusal) (answered : List Bool) → told failed answered → told' failed answered) → went told h h' → went told' h h')
-    → ((a : S) → I.is_clean a → I.is_honest a) → (I.is_clean new → I.is_clean old) → (I.is_honest new → I.is_honest old) → NoFewer (I.failures old) (I.failures new)
+    → ((a : S) → I.is_clean a → I.is_honest a) → Since I.is_clean I.is_honest I.failures old new
     → (I.is_honest new → LeadsOn (I.is_clean old) (rows old) (went (Tells I old new)) (I.is_clean new) (rows new)) → Happens I rows old went new
 happens_so weaken = so_by (λ kept kept' told told' h h' back more. weaken told told' h h' more)
 
@@ -79,9 +77,7 @@ pub idle_by : {S : Type 0} (I : IssuedOf S) (rows : S → Rows) (old : S) (went 
 idle_by I rows old went stays = record {
   leads = λ clean h stands. (h, stands, stays ⊤ (λ failed answered. AreCounted (I.failures old) (I.failures old) failed) h (none_counted _ _ (λ cause. omega arith)), assured h stands.0);
   happened = λ honest h reached stands. (h, reached, stands, stays (I.is_clean old) (Tells I old old) h (tells_none I old), assured h reached);
-  was_clean = λ clean. clean;
-  was_honest = λ honest. honest;
-  counted = λ cause. omega arith;
+  since = since_refl;
 }
 
 pub happens_idle : {S : Type 0} (I : IssuedOf S) (rows : S → Rows) (old : S) (went : (List Refusal → List Bool → Type 0) → History → History → Type 0)
@@ -98,20 +94,18 @@ pub then_by : {S : Type 0} {I : IssuedOf S} {rows : S → Rows} {old mid new : S
     → HappensBy I rows old went mid → HappensBy I rows mid next new → HappensBy I rows old both new
 then_by {I = I} {rows = rows} {old = old} {mid = mid} {new = new} {went = went} {next = next} {both = both} join a b = record {
   leads = λ clean h stands.
-      let p = a.leads (b.was_clean clean) h stands in
+      let p = a.leads (b.since.was_clean clean) h stands in
       let q = b.leads clean p.0 p.1 in
       let told = join ⊤ ⊤ (λ failed answered. AreCounted (I.failures old) (I.failures new) failed) (λ failed answered. AreCounted (I.failures old) (I.failures mid) failed) (λ failed answered. AreCounted (I.failures mid) (I.failures new) failed)
-      h p.0 q.0 (λ any. any) (λ failed more answered later x y. counted_join (I.failures old) (I.failures mid) (I.failures new) failed more b.counted x y) p.2 q.2 in
+      h p.0 q.0 (λ any. any) (λ failed more answered later x y. counted_join (I.failures old) (I.failures mid) (I.failures new) failed more b.since.counted x y) p.2 q.2 in
       (q.0, q.1, told, q.3);
   happened = λ honest h reached stands.
-      let p = a.happened (b.was_honest honest) h reached stands in
+      let p = a.happened (b.since.was_honest honest) h reached stands in
       let q = b.happened honest p.0 p.1 p.2 in
       let told = join (I.is_clean mid) (I.is_clean new) (Tells I old new) (Tells I old mid) (Tells I mid new)
-      h p.0 q.0 b.was_clean (λ failed more answered later x y. tells_join failed more answered later b.counted b.was_clean a.was_clean x y) p.3 q.3 in
+      h p.0 q.0 b.since.was_clean (λ failed more answered later x y. tells_join failed more answered later a.since b.since x y) p.3 q.3 in
       (q.0, q.1, q.2, told, q.4);
-  was_clean = λ clean. a.was_clean (b.was_clean clean);
-  was_honest = λ honest. a.was_honest (b.was_honest honest);
-  counted = λ cause. omega (arith, a.counted cause, b.counted cause);
+  since = since_then a.since b.since;
 }
 
 pub happens_then : {S : Type 0} {I : IssuedOf S} {rows : S → Rows} {old mid new : S} {went next both : (List Refusal → List Bool → Type 0) → History → History → Type 0}
@@ -125,9 +119,7 @@ pub as_by : {S : Type 0} {I : IssuedOf S} {rows : S → Rows} {old new : S} {wen
 as_by {I = I} {old = old} {new = new} say a = record {
   leads = λ clean h stands. let p = a.leads clean h stands in (p.0, p.1, say ⊤ (λ failed answered. AreCounted (I.failures old) (I.failures new) failed) h p.0 p.2, p.3);
   happened = λ honest h reached stands. let p = a.happened honest h reached stands in (p.0, p.1, p.2, say (I.is_clean new) (Tells I old new) h p.0 p.3, p.4);
-  was_clean = a.was_clean;
-  was_honest = a.was_honest;
-  counted = a.counted;
+  since = a.since;
 }
 
 pub happens_as : {S : Type 0} {I : IssuedOf S} {rows : S → Rows} {old new : S} {went other : (List Refusal → List Bool → Type 0) → History → History → Type 0}
@@ -136,15 +128,15 @@ happens_as say = as_by (λ kept. say)
 
 -- A command was carried out.
 pub step_happens : {S : Type 0} {I : IssuedOf S} {rows : S → Rows} {old new : S} (s s' : Stream) (command : Command) (reply : Reply)
-    → ((a : S) → I.is_clean a → I.is_honest a) → (I.is_clean new → I.is_clean old) → (I.is_honest new → I.is_honest old) → NoFewer (I.failures old) (I.failures new)
+    → ((a : S) → I.is_clean a → I.is_honest a) → Since I.is_clean I.is_honest I.failures old new
     → (I.is_honest new → LeadsOn (I.is_clean old) (rows old) (λ h h'. Steps h s command reply h' s') (I.is_clean new) (rows new))
     → (I.is_clean new → AreCounted (I.failures old) (I.failures new) (failure_in reply)) → (I.is_honest new → is_failed reply ≡ false → I.is_clean new)
     → Happens I rows old (StepTold s command reply s') new
-step_happens s s' command reply clean_honest was_clean was_honest counted step failed vouched =
-    happens_so (λ told told' h h' more went. (went.0, more _ _ went.1)) clean_honest was_clean was_honest counted
+step_happens s s' command reply clean_honest since step failed vouched =
+    happens_so (λ told told' h h' more went. (went.0, more _ _ went.1)) clean_honest since
     (λ honest h reached stands.
     let p = step honest h reached stands in
-    (p.0, p.1, p.2, (p.3, tells_once (not (is_failed reply)) failed (λ k. vouched honest (not-true (is_failed reply) k)) was_clean), p.4))
+    (p.0, p.1, p.2, (p.3, tells_once (not (is_failed reply)) failed (λ k. vouched honest (not-true (is_failed reply) k)) since.was_clean), p.4))
 
 -- two lists of one length beside each other, with one more at the end of each
 pub zip-push : {A B : Type 0} (xs : List A) (ys : List B) (x : A) (y : B) → length ys ≡ length xs → zip (xs ++ x ∷ []) (ys ++ y ∷ []) ≡ zip xs ys ++ (x, y) ∷ []

@@ -35,11 +35,9 @@ pub excluded : {S : Type 0} {I : IssuedOf S} {B : BooksOf S} {v : Bool} {facts :
     → StepsAs I B outcome start now source source (Refused Store)
 excluded {source = source} s h = record {
   goes = λ clean. (s.same clean, (0, omega arith, sym (past-zero source)));
-  was_clean = s.was_clean;
-  was_honest = s.was_honest;
+  since = s.since;
   vouched = λ honest k. absurd (false≢true (sym k));
   moved = λ honest k. inl refl;
-  counted = s.counted;
   fault = λ clean w cause e. absurd (h w (s.facts_hold clean));
 }
 
@@ -49,11 +47,9 @@ pub says : {S : Type 0} {I : IssuedOf S} {B : BooksOf S} {facts : Rows → Type 
     → StepsAs I B outcome start now source source answer
 says {B = B} {start = start} {now = now} {outcome = outcome} {source = source} answer k s h = record {
   goes = λ clean. said_at (is_failed answer) answer (outcome (B.rows start)) (B.rows start) (B.rows now) source k (h (s.facts_hold clean)) (s.same clean);
-  was_clean = s.was_clean;
-  was_honest = s.was_honest;
+  since = s.since;
   vouched = λ honest _. s.vouched refl honest;
   moved = λ honest e. absurd (false≢true (sym k ∙ e));
-  counted = s.counted;
   fault = λ clean w cause e. absurd (false≢true (sym k ∙ (ap is_failed e ∙ faults cause)));
 }
   where

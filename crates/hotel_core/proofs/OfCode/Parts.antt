@@ -1,10 +1,10 @@
 -- The parts of a step, one after the other.
 use Rattle.std.proofs.Common.{ℕ, ◌≡◌, ◌≤◌, Bool, true, false, Option, Some, None, Result, Ok, Err, refl, ap, sym, ◌∙◌}
 use Rattle.std.proofs.Common.{arith, subst, IsErrAnd, List, [], ◌∷◌, ◌++◌, ◌+◌, ◌⊎◌, inl, inr, nat_lt, cond}
-use Rattle.hotel_core.proofs.Names.{false≢true, Stream, past, HasRisen, NoFewer, LookFault, Change, Reply, Refused}
-use Rattle.hotel_core.proofs.Names.{Refusal, Store, Rows, number_after, is_failed, Outcome, refused, accepted, unless}
-use Rattle.hotel_core.proofs.Names.{made, GoesIf, Goes, made_by, AreWhole, StepsAs, Finds, AnyRows, reply_of}
-use Rattle.hotel_core.proofs.Names.{refusal_of, first_refusal, Ghosts as BooksOf}
+use Rattle.hotel_core.proofs.Names.{false≢true, Stream, past, HasRisen, LookFault, Since, since_refl, since_then}
+use Rattle.hotel_core.proofs.Names.{Change, Reply, Refused, Refusal, Store, Rows, number_after, is_failed, Outcome}
+use Rattle.hotel_core.proofs.Names.{refused, accepted, unless, made, GoesIf, Goes, made_by, AreWhole, StepsAs, Finds}
+use Rattle.hotel_core.proofs.Names.{AnyRows, reply_of, refusal_of, first_refusal, Ghosts as BooksOf}
 use Rattle.keycard_rules.proofs.Drawing.{past-zero}
 use Rattle.keycard_rules.specs.Draw.{MovedAtMost}
 use Rattle.keycard_rules.specs.declared.issued.LookFault.TheVariants as look
@@ -15,27 +15,25 @@ use Rattle.keycard_rules.specs.declared.issued.Issued.{Ghosts as IssuedOf}
 pub record SoFar {S : Type 0} (I : IssuedOf S) (B : BooksOf S) (v : Bool) (facts : Rows → Type 0) (start now : S) : Type 0 where
   pub facts_hold : I.is_clean now → facts (B.rows start)
   pub same : I.is_clean now → B.rows now ≡ B.rows start
-  pub was_clean : I.is_clean now → I.is_clean start
-  pub was_honest : I.is_honest now → I.is_honest start
+  pub since : Since I.is_clean I.is_honest I.failures start now
   pub vouched : v ≡ true → I.is_honest now → I.is_clean now
-  pub counted : NoFewer (I.failures start) (I.failures now)
 
 -- a fault's refusal is a failure
 pub faults : (fault : LookFault) → is_failed (Refused (refusal_of fault)) ≡ true
 faults look.Memory = refl
 faults look.Store = refl
 
--- at the start nothing is known
-pub begun : {S : Type 0} {I : IssuedOf S} {B : BooksOf S} {start : S} → SoFar I B false AnyRows start start
-begun = record { facts_hold = λ _. tt; same = λ _. refl; was_clean = λ clean. clean; was_honest = λ honest. honest; vouched = λ e. absurd (false≢true e); counted = λ cause. omega arith }
-
 -- at the start this is known
 pub given : {S : Type 0} {I : IssuedOf S} {B : BooksOf S} (facts : Rows → Type 0) {start : S} → (I.is_clean start → facts (B.rows start)) → SoFar I B false facts start start
-given facts h = record { facts_hold = h; same = λ _. refl; was_clean = λ clean. clean; was_honest = λ honest. honest; vouched = λ e. absurd (false≢true e); counted = λ cause. omega arith }
+given facts h = record { facts_hold = h; same = λ _. refl; since = since_refl; vouched = λ e. absurd (false≢true e) }
+
+-- at the start nothing is known
+pub begun : {S : Type 0} {I : IssuedOf S} {B : BooksOf S} {start : S} → SoFar I B false AnyRows start start
+begun = given AnyRows (λ _. tt)
 
 -- the same, at a state that is clean if it is honest
 pub given_vouched : {S : Type 0} {I : IssuedOf S} {B : BooksOf S} (facts : Rows → Type 0) {start : S} → (I.is_clean start → facts (B.rows start)) → (I.is_honest start → I.is_clean start) → SoFar I B true facts start start
-given_vouched facts h k = record { facts_hold = h; same = λ _. refl; was_clean = λ clean. clean; was_honest = λ honest. honest; vouched = λ _. k; counted = λ cause. omega arith }
+given_vouched facts h k = record { facts_hold = h; same = λ _. refl; since = since_refl; vouched = λ _. k }
 
 -- the facts, in the rows as they are now
 pub at_now : {S : Type 0} {I : IssuedOf S} {B : BooksOf S} {v : Bool} {facts : Rows → Type 0} {start now : S}
@@ -47,17 +45,20 @@ pub then_found : {S A : Type 0} {I : IssuedOf S} {B : BooksOf S} {v : Bool} {fac
     → SoFar I B v facts start old → Finds I B are_whole why wanted old new (Ok a)
     → SoFar I B true (λ rs. facts rs × (wanted rs ≡ Some a)) start new
 then_found {wanted = wanted} s f = record {
-  facts_hold = λ clean. (s.facts_hold (f.was_clean clean), ap wanted (sym (s.same (f.was_clean clean))) ∙ f.answer clean);
-  same = λ clean. f.same clean ∙ s.same (f.was_clean clean);
-  was_clean = λ clean. s.was_clean (f.was_clean clean);
-  was_honest = λ honest. s.was_honest (f.was_honest honest);
+  facts_hold = λ clean. (s.facts_hold (f.since.was_clean clean), ap wanted (sym (s.same (f.since.was_clean clean))) ∙ f.answer clean);
+  same = λ clean. f.same clean ∙ s.same (f.since.was_clean clean);
+  since = since_then s.since f.since;
   vouched = λ _ honest. f.vouched honest refl;
-  counted = λ cause. omega (arith, s.counted cause, f.counted cause);
 }
 
 -- a count that rose later has risen
 pub risen_later : (a b c : ℕ) → a ≤ b → HasRisen b c → b ≤ c → HasRisen a c
 risen_later a b c h r k = grind arith
+
+-- a failure that was counted later was counted
+pub risen_since : {S : Type 0} {is_clean is_honest : S → Type 0} {failures : S → LookFault → ℕ} {start old new : S} (cause : LookFault)
+    → Since is_clean is_honest failures start old → Since is_clean is_honest failures old new → HasRisen (failures old cause) (failures new cause) → HasRisen (failures start cause) (failures new cause)
+risen_since cause first second risen = risen_later _ _ _ (first.counted cause) risen (second.counted cause)
 
 goes_at : (b : Bool) (o : Outcome Change) (rows later : Rows) (source : Stream) (why : Refusal)
     → (b ≡ false → o ≡ refused why) → later ≡ rows → GoesIf b o rows source (Refused why) later source
@@ -75,15 +76,14 @@ pub stopped_where : {S A : Type 0} {I : IssuedOf S} {B : BooksOf S} {v : Bool} {
 stopped_where {I = I} {B = B} {are_whole = are_whole} {wanted = wanted} {start = start} {old = old} {new = new} {e = e} {outcome = outcome} {source = source} s f whole h = record {
   goes = λ clean. goes_at (is_failed (Refused e)) (outcome (B.rows start)) (B.rows start) (B.rows new) source e
       (λ k. let a = f.answer clean k in
-      h (s.facts_hold (f.was_clean clean)) (ap wanted (sym (s.same (f.was_clean clean))) ∙ a.0) (ap (λ x. is_failed (Refused x)) (sym a.1) ∙ k) ∙ ap refused (sym a.1))
-      (f.same clean ∙ s.same (f.was_clean clean));
-  was_clean = λ clean. s.was_clean (f.was_clean clean);
-  was_honest = λ honest. s.was_honest (f.was_honest honest);
+      h (s.facts_hold (f.since.was_clean clean)) (ap wanted (sym (s.same (f.since.was_clean clean))) ∙ a.0) (ap (λ x. is_failed (Refused x)) (sym a.1) ∙ k) ∙ ap refused (sym a.1))
+      (f.same clean ∙ s.same (f.since.was_clean clean));
+  since = since_then s.since f.since;
   vouched = λ honest k. f.vouched honest k;
   moved = λ honest k. inl refl;
-  counted = λ cause. omega (arith, s.counted cause, f.counted cause);
-  fault = λ clean w cause k. risen_later (I.failures start cause) (I.failures old cause) (I.failures new cause) (s.counted cause)
-      (f.fault clean (subst are_whole (sym (s.same (f.was_clean clean))) (whole w (s.facts_hold (f.was_clean clean)))) cause (cc)) (f.counted cause);
+  fault = λ clean w cause k.
+      let before = f.since.was_clean clean in
+      risen_since cause s.since f.since (f.fault clean (subst are_whole (sym (s.same before)) (whole w (s.facts_hold before))) cause (cc));
 }
 
 -- the reply of a refusal that was passed on
@@ -119,11 +119,9 @@ pub refuses : {S : Type 0} {I : IssuedOf S} {B : BooksOf S} {facts : Rows → Ty
     → StepsAs I B outcome start now source source (Refused why)
 refuses {B = B} {start = start} {now = now} {outcome = outcome} {source = source} why k s h = record {
   goes = λ clean. goes_at (is_failed (Refused why)) (outcome (B.rows start)) (B.rows start) (B.rows now) source why (λ _. h (s.facts_hold clean)) (s.same clean);
-  was_clean = s.was_clean;
-  was_honest = s.was_honest;
+  since = s.since;
   vouched = λ honest _. s.vouched refl honest;
   moved = λ honest e. absurd (false≢true (sym k ∙ e));
-  counted = s.counted;
   fault = λ clean w cause e. absurd (false≢true (sym k ∙ (ap is_failed e ∙ faults cause)));
 }
 
@@ -142,17 +140,15 @@ pub ends : {S : Type 0} {I : IssuedOf S} {B : BooksOf S} {v : Bool} {facts : Row
     → StepsAs I B outcome start new source rest answer
 ends {I = I} {B = B} {start = start} {old = old} {new = new} {outcome = outcome} {last = last} {source = source} {rest = rest} {answer = answer} s t h = record {
   goes = λ clean.
-      let before = t.was_clean clean in
+      let before = t.since.was_clean clean in
       let g : Goes (last (B.rows start)) (B.rows start) source answer (B.rows new) rest = subst (λ rs. Goes (last rs) rs source answer (B.rows new) rest) (s.same before) (t.goes clean) in
       subst (λ o. Goes o (B.rows start) source answer (B.rows new) rest) (sym (h (s.facts_hold before))) g;
-  was_clean = λ clean. s.was_clean (t.was_clean clean);
-  was_honest = λ honest. s.was_honest (t.was_honest honest);
+  since = since_then s.since t.since;
   vouched = t.vouched;
   moved = λ honest k. moved_as (I.is_clean old) (I.is_clean start) (last (B.rows old)).examined (outcome (B.rows start)).examined source rest
-      (λ before. (s.was_clean before, ap (λ rs. (last rs).examined) (s.same before) ∙ ap (λ (o : Outcome Change). o.examined) (sym (h (s.facts_hold before))))) (t.moved honest k);
-  counted = λ cause. omega (arith, s.counted cause, t.counted cause);
+      (λ before. (s.since.was_clean before, ap (λ rs. (last rs).examined) (s.same before) ∙ ap (λ (o : Outcome Change). o.examined) (sym (h (s.facts_hold before))))) (t.moved honest k);
   fault = λ clean w cause e.
-      risen_later (I.failures start cause) (I.failures old cause) (I.failures new cause) (s.counted cause) (t.fault clean (subst AreWhole (sym (s.same (t.was_clean clean))) w) cause e) (t.counted cause);
+      risen_since cause s.since t.since (t.fault clean (subst AreWhole (sym (s.same (t.since.was_clean clean))) w) cause e);
 }
 
 pub only : {A : Type 0} {x y : A} → Some x ≡ Some y → x ≡ y
@@ -164,15 +160,13 @@ made_at false answer change rows later source k same = (refl, same, sym (past-ze
 
 -- the change was made
 pub makes : {S : Type 0} {I : IssuedOf S} {B : BooksOf S} {old new : S} (answer : Reply) (change : Change) (source : Stream)
-    → is_failed answer ≡ false → (I.is_clean new → B.rows new ≡ made change (B.rows old)) → (I.is_clean new → I.is_clean old) → (I.is_honest new → I.is_honest old) → (I.is_honest new → I.is_clean new) → NoFewer (I.failures old) (I.failures new)
+    → is_failed answer ≡ false → (I.is_clean new → B.rows new ≡ made change (B.rows old)) → Since I.is_clean I.is_honest I.failures old new → (I.is_honest new → I.is_clean new)
     → StepsAs I B (λ _. accepted answer change) old new source source answer
-makes {B = B} {old = old} {new = new} answer change source k m w wh v counted = record {
+makes {B = B} {old = old} {new = new} answer change source k m since v = record {
   goes = λ clean. made_at (is_failed answer) answer change (B.rows old) (B.rows new) source k (m clean);
-  was_clean = w;
-  was_honest = wh;
+  since = since;
   vouched = λ honest _. v honest;
   moved = λ honest e. absurd (false≢true (sym k ∙ e));
-  counted = counted;
   fault = λ clean whole cause e. absurd (false≢true (sym k ∙ (ap is_failed e ∙ faults cause)));
 }
 
@@ -184,16 +178,14 @@ same_fault look.Store look.Store e = refl
 
 -- a change that was not made
 pub fails : {S : Type 0} {I : IssuedOf S} {B : BooksOf S} {old new : S} (o : Outcome Change) (fault : LookFault) (why : Refusal) (source : Stream)
-    → why ≡ refusal_of fault → (I.is_clean new → B.rows new ≡ B.rows old) → (I.is_clean new → I.is_clean old) → (I.is_honest new → I.is_honest old) → NoFewer (I.failures old) (I.failures new) → HasRisen (I.failures old fault) (I.failures new fault)
+    → why ≡ refusal_of fault → (I.is_clean new → B.rows new ≡ B.rows old) → Since I.is_clean I.is_honest I.failures old new → HasRisen (I.failures old fault) (I.failures new fault)
     → StepsAs I B (λ _. o) old new source source (Refused why)
-fails {I = I} {B = B} {old = old} {new = new} o fault why source e m w wh counted risen =
+fails {I = I} {B = B} {old = old} {new = new} o fault why source e m since risen =
     subst (λ r. StepsAs I B (λ _. o) old new source source (Refused r)) (sym e) (record {
       goes = λ clean. goes_at (is_failed (Refused (refusal_of fault))) o (B.rows old) (B.rows new) source (refusal_of fault) (λ k. absurd (false≢true (sym k ∙ faults fault))) (m clean);
-      was_clean = w;
-      was_honest = wh;
+      since = since;
       vouched = λ honest k. absurd (false≢true (sym k ∙ faults fault));
       moved = λ honest k. inl refl;
-      counted = counted;
       fault = λ clean whole cause k. subst (λ x. HasRisen (I.failures old x) (I.failures new x)) (same_fault fault cause k) risen;
     })
 

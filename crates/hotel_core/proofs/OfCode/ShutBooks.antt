@@ -19,7 +19,7 @@ is_failure true k n = refl
 is_failure false k n = absurd (n (k refl))
 
 pub finds_nothing : {S : Type 0} (I : IssuedOf S) (A R : Type 0) → FindsNothing I A R
-finds_nothing I A R takes_memory said wanted old new result l shut = is_fault result (l.vouched shut.0) (λ clean. shut.1 (l.was_clean clean))
+finds_nothing I A R takes_memory said wanted old new result l shut = is_fault result (l.vouched shut.0) (λ clean. shut.1 (l.since.was_clean clean))
 
 pub changes_nothing : {S : Type 0} (I : IssuedOf S) → ChangesNothing I
 changes_nothing I old new result vouched was_clean shut = is_fault result (vouched shut.0) (λ clean. shut.1 (was_clean clean))
@@ -50,7 +50,7 @@ pub happens_shut : {S : Type 0} {I : IssuedOf S} {rows : S → Rows} {old new : 
     → HappensBy I rows old went new → BeganShut I old new → (h h' : History) × went (I.is_clean new) (Tells I old new) h h' × (I.is_clean new → ⊥)
 happens_shut a shut =
     let w = a.happened shut.0 (start no_rows) none_sound (λ was. absurd (shut.1 was)) in
-    (start no_rows, w.0, w.3, λ now. shut.1 (a.was_clean now))
+    (start no_rows, w.0, w.3, λ now. shut.1 (a.since.was_clean now))
 
 none_is : (answers : Bool) → (answers ≡ true → ⊥) → answers ≡ false
 none_is true k = absurd (k refl)
@@ -74,5 +74,5 @@ command_fails I rows stream old new asked went shut =
 
 pub runs_nothing : {S R : Type 0} (I : IssuedOf S) (rows : S → Rows) (stream : R → Stream) → RunsNothing I rows stream
 runs_nothing I rows stream =
-    passes_shut I (λ s. s.0) (CommandHappens I rows stream) (λ a. is_failed a.1 ≡ true) (λ old new a went. went.was_honest) (λ old new a went. went.was_clean)
+    passes_shut I (λ s. s.0) (CommandHappens I rows stream) (λ a. is_failed a.1 ≡ true) (λ old new a went. went.since.was_honest) (λ old new a went. went.since.was_clean)
     (command_fails I rows stream)

@@ -93,27 +93,12 @@ impl Tables {
         ensures ok { OnOk result (self.new ≡ made (change.Room room kind code) self.old) }
         ensures err { OnErr result (self.new ≡ self.old) }
     {
-        let fit = FitNo::new(1).unwrap();
-        let row = RoomRow {
-            room,
-            kind,
-            lock_place: 0,
-            codes: 1,
-            secured: false,
-            party: None,
-            notes: 0,
-            fit,
-            before: 0,
-        };
+        let row = RoomRow::of_new_room(room, kind);
         let Ok(_) = self.rooms.insert(room, row) else {
             return Err(Memory);
         };
-        let first = FitRow {
-            room,
-            fit,
-            place: 0,
-            before: 0,
-        };
+        let first = FitRow::of_new_room(room);
+        let fit = first.fit;
         let Ok(_) = self.fits.insert((room, fit), first) else {
             self.rooms.remove(&room);
             return Err(Memory);

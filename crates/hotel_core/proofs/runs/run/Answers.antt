@@ -1,5 +1,5 @@
 use Rattle.std.proofs.Common.{◌≡◌, ◌+◌, take, length, zip, ◌++◌, ◌∷◌, [], sym, ap, ◌∙◌, arith, subst}
-use Rattle.hotel_core.proofs.{Names.take_more, Names.RunsTo, OfCode.FailuresCounted.counted_join}
+use Rattle.hotel_core.proofs.{Names.take_more, Names.RunsTo, Names.since_then, OfCode.FailuresCounted.counted_join}
 use Rattle.hotel_core.proofs.{OfCode.FailuresCounted.failures_in-push}
 use Rattle.std.proofs.lemmas.List.{take_all, length-take-le}
 use Rattle.hotel_model.proofs.{Lifted.RunParts.runs_step, Invariants.Assurance.runs_safely}
@@ -13,41 +13,35 @@ use Rattle.hotel_core.proofs.runs.run.Goals as goal
 
 pub loop-command-preserved : goal.loop-command-preserved
 loop-command-preserved g c =
-    let before = c.step-reply.ensures.was_clean in
+    let step = c.step-reply.ensures in
+    let so_far = c.loop-command.invariant in
+    let xs = c.args.commands.now in
+    let i = c.loop-command.command-index in
+    let replies = c.loop-command.replies in
+    let command = c.command-item.result in
+    let reply = c.step-reply.result in
+    let e : take (i + 1) xs ≡ take i xs ++ command ∷ [] = take_more xs i command c.loop-command-test.true ∙ ap (λ x. take i xs ++ x ∷ []) (sym c.command-item.is) in
     record {
-      was_clean = λ clean. c.loop-command.invariant.was_clean (before clean);
-      was_honest = λ honest. c.loop-command.invariant.was_honest (c.step-reply.ensures.was_honest honest);
+      since = since_then so_far.since step.since;
       through =
-          let step = c.step-reply.ensures in
-          let xs = c.args.commands.now in
-          let i = c.loop-command.command-index in
-          let replies = c.loop-command.replies in
-          let e : take (i + 1) xs ≡ take i xs ++ c.command-item.result ∷ [] = take_more xs i c.command-item.result c.loop-command-test.true ∙ ap (λ x. take i xs ++ x ∷ []) (sym c.command-item.is) in
-          let n : length replies.items ≡ length (take i xs) = omega (arith, length-take-le i xs (omega (arith, c.loop-command-test.true)), replies.ok.0, c.loop-command.invariant.answered) in
-          let went = step_happens _ _ c.command-item.result c.step-reply.result g.met.B.Issued.clean_honest step.was_clean step.was_honest step.counted step.happened step.failed step.vouched in
-          rw (e, c.in-Ok-push.ensures.items, zip-push (take i xs) replies.items c.command-item.result c.step-reply.result n)
-          (passes_push (CommandHappens g.B.Issued g.B.Books.rows g.R.Rng.stream) _ (zip (take i xs) replies.items) c.loop-command.invariant.through went);
+          let n : length replies.items ≡ length (take i xs) = omega (arith, length-take-le i xs (omega (arith, c.loop-command-test.true)), replies.ok.0, so_far.answered) in
+          let went = step_happens _ _ command reply g.met.B.Issued.clean_honest step.since step.happened step.failed step.vouched in
+          rw (e, c.in-Ok-push.ensures.items, zip-push (take i xs) replies.items command reply n)
+          (passes_push (CommandHappens g.B.Issued g.B.Books.rows g.R.Rng.stream) _ (zip (take i xs) replies.items) so_far.through went);
       happened = λ honest h reached stands.
-          let r = run_goes_on _ _ h _ _ _ _ _ c.command-item.result c.step-reply.result (g.B.Books.rows c.step-reply.new.books) (g.R.Rng.stream c.step-reply.new.source) (c.loop-command.invariant.happened (c.step-reply.ensures.was_honest honest) h reached stands) (λ mid ok stands. let w = c.step-reply.ensures.happened honest mid ok stands in (w.0, w.1, w.2, w.3)) in
-          let xs = c.args.commands.now in
-          let i = c.loop-command.command-index in
-          let e : take (i + 1) xs ≡ take i xs ++ c.command-item.result ∷ [] = take_more xs i c.command-item.result c.loop-command-test.true ∙ ap (λ x. take i xs ++ x ∷ []) (sym c.command-item.is) in
+          let r = run_goes_on _ _ h _ _ _ _ _ command reply (g.B.Books.rows c.step-reply.new.books) (g.R.Rng.stream c.step-reply.new.source) (so_far.happened (step.since.was_honest honest) h reached stands) (λ mid ok stands. let w = step.happened honest mid ok stands in (w.0, w.1, w.2, w.3)) in
           rw (e, c.in-Ok-push.ensures.items) r;
       vouched = λ honest k.
-          any_answered-push c.loop-command.replies.items c.step-reply.result (rw c.in-Ok-push.ensures.items at k) (c.loop-command.invariant.vouched (c.step-reply.ensures.was_honest honest))
-          (λ answered. c.loop-command.invariant.was_clean (before (c.step-reply.ensures.vouched honest answered)));
-      vouched_last = λ honest k. c.step-reply.ensures.vouched honest (last_answered-push c.loop-command.replies.items c.step-reply.result (rw c.in-Ok-push.ensures.items at k));
-      counted = λ cause. omega (arith, c.step-reply.ensures.counted cause, c.loop-command.invariant.counted cause);
+          any_answered-push replies.items reply (rw c.in-Ok-push.ensures.items at k) (so_far.vouched (step.since.was_honest honest))
+          (λ answered. so_far.since.was_clean (step.since.was_clean (step.vouched honest answered)));
+      vouched_last = λ honest k. step.vouched honest (last_answered-push replies.items reply (rw c.in-Ok-push.ensures.items at k));
       failed = λ clean.
-          rw (c.in-Ok-push.ensures.items, failures_in-push c.loop-command.replies.items c.step-reply.result)
-          (counted_join _ _ _ _ _ c.step-reply.ensures.counted (c.loop-command.invariant.failed (before clean)) (c.step-reply.ensures.failed clean));
-      room = omega (arith, c.in-Ok-push.ensures.capacity, c.loop-command.invariant.room);
-      answered = omega (arith, c.in-Ok-push.ensures.len, c.loop-command.invariant.answered);
+          rw (c.in-Ok-push.ensures.items, failures_in-push replies.items reply)
+          (counted_join _ _ _ _ _ step.since.counted (so_far.failed (step.since.was_clean clean)) (step.failed clean));
+      room = omega (arith, c.in-Ok-push.ensures.capacity, so_far.room);
+      answered = omega (arith, c.in-Ok-push.ensures.len, so_far.answered);
       ran = λ clean h stands.
-          let r = runs_step h _ _ _ _ _ c.command-item.result c.step-reply.result (g.B.Books.rows c.step-reply.new.books) (g.R.Rng.stream c.step-reply.new.source) (c.loop-command.invariant.ran (before clean) h stands) (λ k s. let r = c.step-reply.ensures.step clean k s in (r.0, r.1, r.2)) in
-          let xs = c.args.commands.now in
-          let i = c.loop-command.command-index in
-          let e : take (i + 1) xs ≡ take i xs ++ c.command-item.result ∷ [] = take_more xs i c.command-item.result c.loop-command-test.true ∙ ap (λ x. take i xs ++ x ∷ []) (sym c.command-item.is) in
+          let r = runs_step h _ _ _ _ _ command reply (g.B.Books.rows c.step-reply.new.books) (g.R.Rng.stream c.step-reply.new.source) (so_far.ran (step.since.was_clean clean) h stands) (λ k s. let r = step.step clean k s in (r.0, r.1, r.2)) in
           rw (e, c.in-Ok-push.ensures.items) r;
     }
 

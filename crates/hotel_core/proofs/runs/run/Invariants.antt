@@ -1,5 +1,5 @@
 use Rattle.std.proofs.Common.{◌≡◌, ◌≤◌, true, take, length, vec_len, vec_capacity, zip}
-use Rattle.hotel_core.proofs.Names.{NoFewer, History, Reached, rows_of, StandsFor, RunsTo, AreCounted, any_answered}
+use Rattle.hotel_core.proofs.Names.{Since, History, Reached, rows_of, StandsFor, RunsTo, AreCounted, any_answered}
 use Rattle.hotel_core.proofs.Names.{failures_in, last_answered}
 use Rattle.hotel_core.proofs.OfCode.Happened.{RunsOn}
 use Rattle.hotel_core.specs.Books.Happens.{CommandHappens}
@@ -13,14 +13,12 @@ invariant-loop-command g l =
     let is_clean = g.B.Issued.is_clean in
     let is_honest = g.B.Issued.is_honest in
     record {
-      was_clean : is_clean l.books → is_clean l.fn.books;
-      was_honest : is_honest l.books → is_honest l.fn.books;
+      since : Since is_clean is_honest g.B.Issued.failures l.fn.books l.books;
       through : Passes (CommandHappens g.B.Issued rows stream) (l.fn.books, l.fn.source) (zip (take l.command-index l.commands) l.replies.items) (l.books, l.source);
       happened : is_honest l.books → (h : History) → Reached h → (is_clean l.fn.books → rows l.fn.books ≡ rows_of h) →
           RunsOn (is_clean l.books) h (stream l.fn.source) (take l.command-index l.commands) l.replies.items (rows l.books) (stream l.source);
       vouched : is_honest l.books → any_answered l.replies.items ≡ true → is_clean l.fn.books;
       vouched_last : is_honest l.books → last_answered l.replies.items ≡ true → is_clean l.books;
-      counted : NoFewer (g.B.Issued.failures l.fn.books) (g.B.Issued.failures l.books);
       failed : is_clean l.books → AreCounted (g.B.Issued.failures l.fn.books) (g.B.Issued.failures l.books) (failures_in l.replies.items);
       room : length l.commands ≤ vec_capacity l.replies;
       answered : vec_len l.replies ≡ l.command-index;

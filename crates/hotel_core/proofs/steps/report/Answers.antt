@@ -24,11 +24,8 @@ returns-clause-note g c = λ clean. rw c.reply_of-reply.ensures (note_reply _ _ 
 pub returns-clause-unchanged : goal.returns-clause-unchanged
 returns-clause-unchanged g c = λ clean failed. failed_same _ _ _ _ _ _ (rw c.reply_of-reply.ensures at failed) ((c.take_note-taken.ensures silent).goes clean)
 
-pub returns-clause-was_clean : goal.returns-clause-was_clean
-returns-clause-was_clean g c = (c.take_note-taken.ensures silent).was_clean
-
-pub returns-clause-counted : goal.returns-clause-counted
-returns-clause-counted g c = (c.take_note-taken.ensures silent).counted
+pub returns-clause-since : goal.returns-clause-since
+returns-clause-since g c = (c.take_note-taken.ensures silent).since
 
 pub returns-clause-happened : goal.returns-clause-happened
 returns-clause-happened g c = λ honest source h reached stands.
@@ -36,6 +33,3 @@ returns-clause-happened g c = λ honest source h reached stands.
 
 pub returns-clause-vouched : goal.returns-clause-vouched
 returns-clause-vouched g c = λ honest k. (c.take_note-taken.ensures silent).vouched honest (rw c.reply_of-reply.ensures at k)
-
-pub returns-clause-was_honest : goal.returns-clause-was_honest
-returns-clause-was_honest g c = (c.take_note-taken.ensures silent).was_honest

@@ -12,11 +12,8 @@ returns-clause-sure g c = λ never takes. rw c.reply_of-reply.ensures (c.carry_o
 pub returns-clause-failed : goal.returns-clause-failed
 returns-clause-failed g c = λ clean. rw c.reply_of-reply.ensures (step_counted c.known_sound.ensures c.carry_out-outcome.ensures.steps clean)
 
-pub returns-clause-was_clean : goal.returns-clause-was_clean
-returns-clause-was_clean g c = c.carry_out-outcome.ensures.steps.was_clean
-
-pub returns-clause-counted : goal.returns-clause-counted
-returns-clause-counted g c = c.carry_out-outcome.ensures.steps.counted
+pub returns-clause-since : goal.returns-clause-since
+returns-clause-since g c = c.carry_out-outcome.ensures.steps.since
 
 pub returns-clause-happened : goal.returns-clause-happened
 returns-clause-happened g c = λ honest h reached stands.
@@ -24,6 +21,3 @@ returns-clause-happened g c = λ honest h reached stands.
 
 pub returns-clause-vouched : goal.returns-clause-vouched
 returns-clause-vouched g c = λ honest k. c.carry_out-outcome.ensures.steps.vouched honest (rw c.reply_of-reply.ensures at k)
-
-pub returns-clause-was_honest : goal.returns-clause-was_honest
-returns-clause-was_honest g c = c.carry_out-outcome.ensures.steps.was_honest

@@ -9,8 +9,8 @@ apply-requires g c = λ clean.
 
 pub returns-in-Ok-clause-steps : goal.returns-in-Ok-clause-steps
 returns-in-Ok-clause-steps g c = λ source.
-    makes c.args.reply c.args.change source c.requires.is_answer c.in-Ok.ensures.ok c.apply.ensures.was_clean c.apply.ensures.was_honest c.in-Ok.ensures.vouched c.apply.ensures.counted
+    makes c.args.reply c.args.change source c.requires.is_answer c.in-Ok.ensures.ok c.apply.ensures.since c.in-Ok.ensures.vouched
 
 pub returns-in-Err-clause-steps : goal.returns-in-Err-clause-steps
 returns-in-Err-clause-steps g c = λ source.
-    fails (accepted c.args.reply c.args.change) c.in-Err.fault c.refusal_of.result source c.refusal_of.ensures c.in-Err.ensures.err c.apply.ensures.was_clean c.apply.ensures.was_honest c.apply.ensures.counted c.in-Err.ensures.fault
+    fails (accepted c.args.reply c.args.change) c.in-Err.fault c.refusal_of.result source c.refusal_of.ensures c.in-Err.ensures.err c.apply.ensures.since c.in-Err.ensures.fault

@@ -4,4 +4,4 @@ use Rattle.hotel_core.proofs.commands.fresh_codes.fresh.Goals as goal
 pub returns : goal.returns
 returns g c =
     let d = c.draw_fresh-drawn.ensures in
-    draws c.draw_fresh-drawn.result c.drawn_or.result c.drawn_or.ensures g.met.B.Books.kept_rows g.met.B.Books.issued_are (g.met.B.Issued.clean_honest _) d.drawn d.kept d.was_clean d.was_honest d.vouched d.counted d.fault d.sure
+    draws c.draw_fresh-drawn.result c.drawn_or.result c.drawn_or.ensures g.met.B.Books.kept_rows g.met.B.Books.issued_are (g.met.B.Issued.clean_honest _) d.drawn d.kept d.since d.vouched d.fault d.sure

@@ -1,5 +1,5 @@
 use Rattle.std.proofs.Common.{◌<◌, ◌-◌, ◌==◌, nat_lt, Some, refl, ap, sym, ◌∙◌, arith}
-use Rattle.hotel_core.proofs.{Names.note_at, OfCode.LaterNotes.no_later_note}
+use Rattle.hotel_core.proofs.{Names.note_at, Names.since_refl, OfCode.LaterNotes.no_later_note}
 use Rattle.hotel_model.proofs.{OfTables.Tests.and_true, OfTables.Tests.eq_from, OfTables.Tests.lt_from}
 use Rattle.hotel_core.proofs.commands.lock_codes.kept_note.Goals as goal
 
@@ -13,9 +13,7 @@ returns-then-is_past g c =
       answer = λ clean. ap Some (ap (λ z. note_at (g.B.Books.rows c.args.books.now) note.room z note.count) (eq_from note.fit row.fit p.0)
           ∙ no_later_note (g.B.Books.rows c.args.books.now) (c.known_sound.ensures clean) note.room note.count row (omega arith) later (c.requires.there clean));
       same = λ clean. refl;
-      was_clean = λ clean. clean;
-      was_honest = λ honest. honest;
+      since = since_refl;
       vouched = λ honest _. c.requires.vouched honest;
-      counted = λ cause. omega arith;
       fault = λ clean w cause e. cc;
     }

@@ -6,4 +6,4 @@ pub returns : goal.returns
 returns g c =
     let rows = chain_on c.args.self.now.rows c.args.room in
     let hands : Hands g.S.Sink.after g.S.Sink.after_stop rows c.args.sink.now c.walk_chain.new.sink c.walk_chain.result = search rules in
-    record { hands = (rows, hands, λ _. refl); kept = search rules; was_clean = search rules; was_honest = search rules; vouched = search rules; stop = search rules; counted = search rules; fault = search rules; cause = λ honest store. cc; sure = search rules }
+    record { hands = (rows, hands, λ _. refl); kept = search rules; since = search rules; vouched = search rules; stop = search rules; fault = search rules; cause = λ honest store. cc; sure = search rules }

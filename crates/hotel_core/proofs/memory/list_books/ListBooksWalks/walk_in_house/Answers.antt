@@ -7,4 +7,4 @@ pub returns : goal.returns
 returns g c =
     let rows = in_house_on c.args.self.now.rows in
     let hands : Hands g.S.Sink.after g.S.Sink.after_stop rows c.args.sink.now c.walk_in_house-end.new.sink c.ended.result = search rules in
-    record { hands = (rows, hands, λ _. refl); kept = search rules; was_clean = search rules; was_honest = search rules; vouched = search rules; stop = search rules; counted = search rules; fault = search rules; cause = λ honest failed. not_store _ c.walk_in_house-end.ensures.no_store (ap failure_of (sym c.ended.ensures.same) ∙ failed); sure = search rules }
+    record { hands = (rows, hands, λ _. refl); kept = search rules; since = search rules; vouched = search rules; stop = search rules; fault = search rules; cause = λ honest failed. not_store _ c.walk_in_house-end.ensures.no_store (ap failure_of (sym c.ended.ensures.same) ∙ failed); sure = search rules }

@@ -9,4 +9,4 @@ returns g c =
     let listed = hands.2 tt ∙ ap (λ (b : Stopping). left_behind_on b.rows) c.self.view_is in
     let whole = handed_on g.S.Sink.after g.S.Sink.after_stop hands.0 _ _ _ _ _ _ c.new-passing.ensures.untouched c.ended.ensures.ends hands.1 listed in
     let back = sym (same_sink g.S.Sink.after g.S.Sink.after_stop hands.0 _ _ _ hands.1 ∙ c.new-passing.ensures.same_sink) in
-    record { hands = search rules; kept = search rules; was_clean = search rules; was_honest = search rules; vouched = search rules; stop = search rules; counted = search rules; fault = search rules; cause = search rules; sure = search rules }
+    record { hands = search rules; kept = search rules; since = search rules; vouched = search rules; stop = search rules; fault = search rules; cause = search rules; sure = search rules }
