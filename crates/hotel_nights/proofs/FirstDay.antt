@@ -6,13 +6,15 @@ use Rattle.std.proofs.lemmas.Bool.Decides.{nat_tests}
 use Rattle.hotel_nights.specs.{Days.day_of_number, FullNight.first_day, FullNight.IsFirst}
 
 -- a day that the test refuses is passed over
-pub first_day-more : (test : ℕ → Bool) (d after : ℕ) → d < after → test d ≡ false → first_day test d (after - d) ≡ first_day test (d + 1) (after - (d + 1))
+pub first_day-more : (test : ℕ → Bool) (d after : ℕ)
+    → d < after → test d ≡ false → first_day test d (after - d) ≡ first_day test (d + 1) (after - (d + 1))
 unfolding first_day
 first_day-more test d after h f =
     let e : after - d ≡ suc (after - (d + 1)) = omega arith in
     rw (e, f, add-one) refl
 
-pub first_day-found : (test : ℕ → Bool) (d after : ℕ) → d < after → test d ≡ true → Some d ≡ first_day test d (after - d)
+pub first_day-found : (test : ℕ → Bool) (d after : ℕ)
+    → d < after → test d ≡ true → Some d ≡ first_day test d (after - d)
 unfolding first_day
 first_day-found test d after h y =
     let e : after - d ≡ suc (after - (d + 1)) = omega arith in
@@ -33,9 +35,11 @@ split-some test d (suc m) n r h =
       | inr nope ↦ rw (q, nope) (split-some test (suc d) m n r (rw nope at h))
     ]
 
-split-none : (test : ℕ → Bool) (d m n : ℕ) → first_day test d m ≡ None → first_day test d (m + n) ≡ first_day test (d + m) n
+split-none : (test : ℕ → Bool) (d m n : ℕ)
+    → first_day test d m ≡ None → first_day test d (m + n) ≡ first_day test (d + m) n
 unfolding first_day
-split-none test d zero n h = let q : zero + n ≡ n = omega arith in let q2 : d + zero ≡ d = omega arith in rw (q, q2) refl
+split-none test d zero n h =
+    let q : zero + n ≡ n = omega arith in let q2 : d + zero ≡ d = omega arith in rw (q, q2) refl
 split-none test d (suc m) n h =
     let q : suc m + n ≡ suc (m + n) = omega arith in
     let q2 : d + suc m ≡ suc d + m = omega arith in
@@ -44,12 +48,14 @@ split-none test d (suc m) n h =
       | inr nope ↦ rw (q, q2, nope) (split-none test (suc d) m n (rw nope at h))
     ]
 
-pub block-some : (test : ℕ → Bool) (d mid after r : ℕ) → d ≤ mid → mid ≤ after → Some r ≡ first_day test d (mid - d) → Some r ≡ first_day test d (after - d)
+pub block-some : (test : ℕ → Bool) (d mid after r : ℕ)
+    → d ≤ mid → mid ≤ after → Some r ≡ first_day test d (mid - d) → Some r ≡ first_day test d (after - d)
 block-some test d mid after r h k e =
     let q : after - d ≡ (mid - d) + (after - mid) = omega arith in
     rw q (sym (split-some test d (mid - d) (after - mid) r (sym e)))
 
-pub block-none : (test : ℕ → Bool) (d mid after : ℕ) → d ≤ mid → mid ≤ after → None ≡ first_day test d (mid - d) → first_day test d (after - d) ≡ first_day test mid (after - mid)
+pub block-none : (test : ℕ → Bool) (d mid after : ℕ) → d ≤ mid → mid ≤ after → None ≡ first_day test d (mid - d)
+    → first_day test d (after - d) ≡ first_day test mid (after - mid)
 block-none test d mid after h k e =
     let q : after - d ≡ (mid - d) + (after - mid) = omega arith in
     let q2 : d + (mid - d) ≡ mid = omega arith in
@@ -78,7 +84,8 @@ either_day d e h = elim (cases_Bool (nat_lt d e)) [
 ]
 
 -- where the test refuses a day, the first from the next day on is the first from it on
-first-later : (test : ℕ → Bool) (d after : ℕ) (o : Option ℕ) → test d ≡ false → IsFirst test (suc d) after o → IsFirst test d after o
+first-later : (test : ℕ → Bool) (d after : ℕ) (o : Option ℕ)
+    → test d ≡ false → IsFirst test (suc d) after o → IsFirst test d after o
 first-later test d after None f k = λ e low high. elim (either_day d e low) [
   | inl q ↦ subst (λ x. test x ≡ false) q f
   | inr lt ↦ k e lt high
@@ -100,7 +107,8 @@ first_day-of test d (suc n) =
     let q : d + suc n ≡ suc d + n = omega arith in
     elim (cases_Bool (test d)) [
       | inl y ↦ rw y (omega arith, omega arith, y, λ e low high. absurd (omega arith))
-      | inr nope ↦ rw (q, nope) (first-later test d (suc d + n) (first_day test (suc d) n) nope (first_day-of test (suc d) n))
+      | inr nope ↦ rw (q, nope)
+          (first-later test d (suc d + n) (first_day test (suc d) n) nope (first_day-of test (suc d) n))
     ]
 
 -- the first of the days before another is that
@@ -108,5 +116,7 @@ pub first_day-is : (test : ℕ → Bool) (d after : ℕ) → IsFirst test d afte
 first_day-is test d after = elim (cases_Bool (nat_le d after)) [
   | inl y ↦ let le : d ≤ after = grind (arith, nat_tests) in let q : d + (after - d) ≡ after = omega arith in
       subst (λ n. IsFirst test d n (first_day test d (after - d))) q (first_day-of test d (after - d))
-  | inr nope ↦ let lt : after < d = grind (arith, nat_tests) in rw (← first_day-end test d after (omega arith)) (λ e low high. absurd (omega arith))
+  | inr nope ↦
+      let lt : after < d = grind (arith, nat_tests) in
+      rw (← first_day-end test d after (omega arith)) (λ e low high. absurd (omega arith))
 ]

@@ -10,7 +10,8 @@ use Rattle.hotel_nights.proofs.guest.is_guest.Goals as goal
 pub returns : goal.returns
 returns c =
     let text = c.args.text.now in
-    let rest = nat_le 1 (length text) && nat_le (length text) 60 && not (slice_index text 0 == 32) && not (slice_index text (length text - 1) == 32)
+    let rest = nat_le 1 (length text) && nat_le (length text) 60 && not (slice_index text 0 == 32)
+    && not (slice_index text (length text - 1) == 32)
     && list_all (λ d. not (is_control d)) (chars text) in
     let same : c.has_no_control.result ≡ rest = grind (arith, common_steps) in
     same ∙ ap (λ b. b && rest) (sym (is_utf8-from_IsUtf8 text c.utf8.text))

@@ -19,20 +19,28 @@ returns-in-Ok-false-clause-drawn g c = λ honest.
     let clean = c.in-Ok-false.ensures.vouched honest in
     let so_far = c.loop.invariant.so_far (c.is_issued.ensures.since.was_honest honest) in
     let before = c.is_issued.ensures.since.was_clean clean in
-    let hit = answer_at _ _ _ _ _ _ (c.in-Ok-false.ensures.answer clean) c.in-Ok-false.field-0-test (g.met.I.Issued.kept_issued _ _ (c.loop.invariant.kept before)) c.of_word-code.ensures in
+    let hit = answer_at _ _ _ _ _ _ (c.in-Ok-false.ensures.answer clean) c.in-Ok-false.field-0-test
+    (g.met.I.Issued.kept_issued _ _ (c.loop.invariant.kept before)) c.of_word-code.ensures in
     let d = found _ _ _ _ _ _ so_far c.loop-test.true c.next_u64.ensures hit in
     let m = moved_on _ _ _ _ _ _ so_far c.loop-test.true c.next_u64.ensures in
-    draw_is _ _ _ _ _ (d ∙ ap (λ (x : ℕ). let r : Draw = record { code = Some x; examined = c.loop.counter + 1 } in r) (sym c.of_word-code.ensures)) m
+    draw_is _ _ _ _ _ (d ∙ ap (λ (x : ℕ). let r : Draw = record { code = Some x; examined = c.loop.counter + 1 } in
+    r) (sym c.of_word-code.ensures)) m
 
 pub returns-in-Err-Memory-clause-drawn : goal.returns-in-Err-Memory-clause-drawn
 returns-in-Err-Memory-clause-drawn g c = λ honest.
-    let before = c.is_issued.ensures.since.was_honest honest in
-    (_, examines _ _ _ _ _ _ (c.loop.invariant.so_far before) c.loop-test.true c.next_u64.ensures, moved_on _ _ _ _ _ _ (c.loop.invariant.so_far before) c.loop-test.true c.next_u64.ensures)
+    let before = c.is_issued.ensures.since.was_honest honest in (
+      _,
+      examines _ _ _ _ _ _ (c.loop.invariant.so_far before) c.loop-test.true c.next_u64.ensures,
+      moved_on _ _ _ _ _ _ (c.loop.invariant.so_far before) c.loop-test.true c.next_u64.ensures,
+    )
 
 pub returns-in-Err-Store-clause-drawn : goal.returns-in-Err-Store-clause-drawn
 returns-in-Err-Store-clause-drawn g c = λ honest.
-    let before = c.is_issued.ensures.since.was_honest honest in
-    (_, examines _ _ _ _ _ _ (c.loop.invariant.so_far before) c.loop-test.true c.next_u64.ensures, moved_on _ _ _ _ _ _ (c.loop.invariant.so_far before) c.loop-test.true c.next_u64.ensures)
+    let before = c.is_issued.ensures.since.was_honest honest in (
+      _,
+      examines _ _ _ _ _ _ (c.loop.invariant.so_far before) c.loop-test.true c.next_u64.ensures,
+      moved_on _ _ _ _ _ _ (c.loop.invariant.so_far before) c.loop-test.true c.next_u64.ensures,
+    )
 
 pub loop-preserved : goal.loop-preserved
 loop-preserved g c = record {
@@ -40,12 +48,14 @@ loop-preserved g c = record {
   since = since_then c.loop.invariant.since c.is_issued.ensures.since;
   vouched = λ some honest. c.in-Ok-true.ensures.vouched honest;
   kept = λ clean.
-      g.met.I.Issued.kept_trans _ _ _ (c.loop.invariant.kept (c.is_issued.ensures.since.was_clean clean)) (c.is_issued.ensures.kept clean);
+      g.met.I.Issued.kept_trans _ _ _ (c.loop.invariant.kept (c.is_issued.ensures.since.was_clean clean))
+      (c.is_issued.ensures.kept clean);
   so_far = λ honest.
       let clean = c.in-Ok-true.ensures.vouched honest in
       let so_far = c.loop.invariant.so_far (c.is_issued.ensures.since.was_honest honest) in
       let before = c.is_issued.ensures.since.was_clean clean in
-      let hit = answer_at _ _ _ _ _ _ (c.in-Ok-true.ensures.answer clean) c.in-Ok-true.field-0-test (g.met.I.Issued.kept_issued _ _ (c.loop.invariant.kept before)) c.of_word-code.ensures in
+      let hit = answer_at _ _ _ _ _ _ (c.in-Ok-true.ensures.answer clean) c.in-Ok-true.field-0-test
+      (g.met.I.Issued.kept_issued _ _ (c.loop.invariant.kept before)) c.of_word-code.ensures in
       so_far_more _ _ _ _ _ _ so_far c.loop-test.true c.next_u64.ensures hit;
 }
 
@@ -60,13 +70,16 @@ returns-clause-none_fresh g c = λ clean is.
     drawn-none _ _ (ap (λ (x : Draw). x.code) d)
 
 pub returns-in-Ok-false-clause-moved : goal.returns-in-Ok-false-clause-moved
-returns-in-Ok-false-clause-moved g c = (c.loop.counter + 1, omega arith, past-next _ _ _ _ _ c.loop.invariant.moved c.next_u64.ensures)
+returns-in-Ok-false-clause-moved g c =
+    (c.loop.counter + 1, omega arith, past-next _ _ _ _ _ c.loop.invariant.moved c.next_u64.ensures)
 
 pub returns-in-Err-Memory-clause-moved : goal.returns-in-Err-Memory-clause-moved
-returns-in-Err-Memory-clause-moved g c = (c.loop.counter + 1, omega arith, past-next _ _ _ _ _ c.loop.invariant.moved c.next_u64.ensures)
+returns-in-Err-Memory-clause-moved g c =
+    (c.loop.counter + 1, omega arith, past-next _ _ _ _ _ c.loop.invariant.moved c.next_u64.ensures)
 
 pub returns-in-Err-Store-clause-moved : goal.returns-in-Err-Store-clause-moved
-returns-in-Err-Store-clause-moved g c = (c.loop.counter + 1, omega arith, past-next _ _ _ _ _ c.loop.invariant.moved c.next_u64.ensures)
+returns-in-Err-Store-clause-moved g c =
+    (c.loop.counter + 1, omega arith, past-next _ _ _ _ _ c.loop.invariant.moved c.next_u64.ensures)
 
 pub returns-clause-moved : goal.returns-clause-moved
 returns-clause-moved g c = (c.loop.counter, omega arith, c.loop.invariant.moved)

@@ -7,7 +7,8 @@ use Rattle.keycard_rules.proofs.numerals.write_fixed.Goals as goal
 pub loop-place-preserved : goal.loop-place-preserved
 loop-place-preserved c = record {
   within = omega (arith, length-set c.loop-place.into (c.loop-place.place - 1) c.byte_of_digit.result);
-  text = rw c.byte_of_digit.ensures (fixed_text-write c.args.base c.loop-place.place c.loop-place.rest c.args.number c.loop-place.into c.loop-place-test.true (omega arith) c.loop-place.invariant.text);
+  text = rw c.byte_of_digit.ensures (fixed_text-write c.args.base c.loop-place.place c.loop-place.rest c.args.number
+      c.loop-place.into c.loop-place-test.true (omega arith) c.loop-place.invariant.text);
 }
 
 pub returns : goal.returns

@@ -20,15 +20,19 @@ high y0 m d r y e le civil k = let k2 = rw e at k in omega (arith, count-high y0
 pub overflow_cast-result : goal.overflow_cast-result
 overflow_cast-result c =
     let dt = c.to_plain.result in
-    let y : dt.year ≡ pos c.in_ok-year.year = (rw (← c.to_plain.ensures) at c.in-Ok.ensures.value).0 ∙ to_z_pos w16 c.in_ok-year.year (omega arith) in
-    let h = high c.in_ok-year.year dt.month dt.day c.days_since_min.result dt.year y (omega arith) (dt.year_in, dt.month_in, dt.day_in) (count_of _ _ _ _ c.days_since_min.ensures.value) in
+    let y : dt.year ≡ pos c.in_ok-year.year =
+    (rw (← c.to_plain.ensures) at c.in-Ok.ensures.value).0 ∙ to_z_pos w16 c.in_ok-year.year (omega arith) in
+    let h = high c.in_ok-year.year dt.month dt.day c.days_since_min.result dt.year y (omega arith)
+    (dt.year_in, dt.month_in, dt.day_in) (count_of _ _ _ _ c.days_since_min.ensures.value) in
     omega arith
 
 pub invariant_of-result : goal.invariant_of-result
 invariant_of-result c =
     let dt = c.to_plain.result in
-    let y : dt.year ≡ pos c.in_ok-year.year = (rw (← c.to_plain.ensures) at c.in-Ok.ensures.value).0 ∙ to_z_pos w16 c.in_ok-year.year (omega arith) in
-    let h = high c.in_ok-year.year dt.month dt.day c.days_since_min.result dt.year y (omega arith) (dt.year_in, dt.month_in, dt.day_in) (count_of _ _ _ _ c.days_since_min.ensures.value) in
+    let y : dt.year ≡ pos c.in_ok-year.year =
+    (rw (← c.to_plain.ensures) at c.in-Ok.ensures.value).0 ∙ to_z_pos w16 c.in_ok-year.year (omega arith) in
+    let h = high c.in_ok-year.year dt.month dt.day c.days_since_min.result dt.year y (omega arith)
+    (dt.year_in, dt.month_in, dt.day_in) (count_of _ _ _ _ c.days_since_min.ensures.value) in
     omega arith
 
 pub returns : goal.returns
@@ -39,5 +43,6 @@ returns c =
     let m : dt.month ≡ c.in_ok-year.month = cc (v.1 ∙ to_z_pos w8 c.in_ok-year.month (omega arith)) in
     let d : dt.day ≡ c.in_ok-year.day = cc (v.2 ∙ to_z_pos w8 c.in_ok-year.day (omega arith)) in
     let count = count_of _ _ _ _ c.days_since_min.ensures.value in
-    read_day-is c.args.text.now c.in_ok-year.year c.in_ok-year.month c.in_ok-year.day c.days_since_min.result c.in_ok-year.ensures (omega arith) (omega arith)
+    read_day-is c.args.text.now c.in_ok-year.year c.in_ok-year.month c.in_ok-year.day c.days_since_min.result
+    c.in_ok-year.ensures (omega arith) (omega arith)
     (rw m at dt.month_in) (rw (y, m, d) at dt.day_in) (rw (y, m, d) at count)

@@ -8,4 +8,5 @@ pub invariant_of-result : goal.invariant_of-result
 invariant_of-result c =
     let text = c.args.text.now in
     let k : is_kind text ≡ true = grind (arith, nat_tests) in
-    subst (λ (l : List ℕ). IsPadded (l ++ drop (length text) (replicate 8 0)) (length text)) (sym c.copy_from_slice.ensures.after) (padded text (omega arith) k)
+    subst (λ (l : List ℕ). IsPadded (l ++ drop (length text) (replicate 8 0)) (length text))
+    (sym c.copy_from_slice.ensures.after) (padded text (omega arith) k)

@@ -7,4 +7,5 @@ pub returns : goal.returns
 returns c =
     let items = c.self.inside.codes.items in
     let n : c.len.result ≡ length items = omega (arith, c.self.inside.codes.ok.0) in
-    rw (← c.self.view_is) (rw n at (get_or_read_under items (c.len.result - 1) (length items) c.index.result.now 0 c.index.ensures (omega arith) refl) ∙ sym (last-at items c.self.inside.place c.self.invariant.0))
+    rw (← c.self.view_is) (rw n at (get_or_read_under items (c.len.result - 1) (length items) c.index.result.now 0
+    c.index.ensures (omega arith) refl) ∙ sym (last-at items c.self.inside.place c.self.invariant.0))

@@ -12,7 +12,8 @@ returns-then-ne-clause-lock_rule c =
     let p = c.self.inside.place in
     let r : c.index.result.now ≡ get_or items p 0 = get_or_read items p _ c.self.invariant.0 c.index.ensures 0 in
     let n : get_or items p 0 ≡ c.args.link.now.new_code → ⊥ = λ e. absurd (grind (arith, nat_tests)) in
-    let m : get_or items p 0 ≡ c.args.link.now.old_code → suc p < length items → get_or items (suc p) 0 ≡ c.args.link.now.new_code → ⊥ =
+    let m : get_or items p 0 ≡ c.args.link.now.old_code → suc p < length items
+    → get_or items (suc p) 0 ≡ c.args.link.now.new_code → ⊥ =
     elim c.then-ne.branch [
       | then-ne-via-then-ne w ↦ λ e l k. absurd (grind (arith, nat_tests))
       | then-ne-via-else-ne+then-next-len w ↦ λ e l k. absurd (omega (arith, c.self.inside.codes.ok.0))
