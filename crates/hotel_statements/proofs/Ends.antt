@@ -3,7 +3,8 @@ use Rattle.std.proofs.Common.{◌≡◌, inl, inr, refl, sym, ap, subst, ◌∙�
 use Rattle.std.proofs.Common.{OnErr, IfErr, IsErr, IsTrue, true≢false, arith}
 use Rattle.sqlite.specs.Effect.{Database}
 use Rattle.sqlite.specs.Order.{Row}
-use Rattle.sqlite.specs.State.{State, HasCleanDisk, IsRolledBack, Survives, Shows, KeepsCounts, ExecutesInside}
+use Rattle.sqlite.specs.State.{State, HasCleanDisk, IsRolledBack, KeepsCommit, Survives, Shows, KeepsCounts}
+use Rattle.sqlite.specs.State.{ExecutesInside}
 use Rattle.sqlite.specs.Steps.{FailsToCommit}
 use Rattle.sqlite.specs.declared.error.Error.{Error}
 use Rattle.sqlite.proofs.StateLemmas.{survives_then}
@@ -15,6 +16,16 @@ use Rattle.hotel_statements.specs.Steps.{IsMid, IsMidWith, MovesRows, RunsStatem
 
 -- ---- statements, one after the other
 
+pub none_new : {a b c : State} → Survives a b (λ _. ⊥) → Survives b c (λ _. ⊥) → Survives a c (λ _. ⊥)
+none_new {a} {b} {c} one two =
+    survives_then a b c (λ _. ⊥) (λ _. ⊥) (λ _. ⊥) (λ _ _ none. none) (λ _ _ none. none) one two
+
+pub commit_then : {a b c : State} → KeepsCommit a b → KeepsCommit b c → KeepsCommit a c
+commit_then one two = record {
+  was_open = λ is_open. one.was_open (two.was_open is_open);
+  committed = λ is_open. two.committed is_open ∙ one.committed (two.was_open is_open);
+}
+
 module _ {fits : Rows → Type 0} {f : Rows → Rows} {a b : State} where
   -- two, of which the second may fail, and wants something of the rows that the first leaves
   pub then_makes_if : {more : Rows → Type 0} {g : Rows → Rows} {c : State} {u : Unit {0}} {r : Result (Unit {0}) Error}
@@ -22,11 +33,8 @@ module _ {fits : Rows → Type 0} {f : Rows → Rows} {a b : State} where
       → MakesRows fits (λ rows. g (f rows)) a c r
   then_makes_if {more} {g} {c} {u} {r} still one two = record {
     made = λ clean. go r (was clean) (two.made clean);
-    kept = λ clean.
-        let first = one.kept (was clean) in
-        let next = two.kept clean in
-        record { was_open = λ is_open. first.was_open (next.was_open is_open); committed = λ is_open. next.committed is_open ∙ first.committed (next.was_open is_open) };
-    survives = survives_then a b c (λ _. ⊥) (λ _. ⊥) (λ _. ⊥) (λ _ _ none. none) (λ _ _ none. none) one.survives two.survives;
+    kept = λ clean. commit_then (one.kept (was clean)) (two.kept clean);
+    survives = none_new one.survives two.survives;
   }
     where
       was : HasCleanDisk c → HasCleanDisk b

@@ -1,11 +1,12 @@
 -- Statements that are run in turn.
 use Rattle.std.proofs.Common.{◌≡◌, inl, inr, subst, ◌∙◌, ap, false, IsTrue, List, [], ◌∷◌, ◌++◌, ℕ, Ok, Err, Result}
-use Rattle.std.proofs.Common.{IsErr, IsErrAnd, arith}
+use Rattle.std.proofs.Common.{IsErr, IsErrAnd, OnOk, arith}
+use Rattle.std.proofs.lemmas.Result.{on_ok_weaker}
 use Rattle.std.proofs.lemmas.Bool.{cases_Bool}
 use Rattle.sqlite.specs.Order.{Row}
 use Rattle.sqlite.specs.Tree.{Trees}
 use Rattle.sqlite.specs.Held.{Held, state}
-use Rattle.sqlite.specs.State.{ExecutesInside, Survives}
+use Rattle.sqlite.specs.State.{State, HasCleanDisk, ExecutesInside, Survives}
 use Rattle.sqlite.specs.declared.error.Error.{Error}
 use Rattle.sqlite.specs.declared.error.Error.TheVariants.{SqliteFailure}
 use Rattle.sqlite.specs.declared.error.ErrorCode.TheVariants.{TransactionState}
@@ -14,8 +15,9 @@ use Rattle.hotel_model.specs.Rows.{Rows}
 use Rattle.hotel_statements.specs.Steps as step
 use Rattle.hotel_core.specs.Refinement.Finds.{AnyRows}
 use Rattle.hotel_statements.specs.Steps.{IsMidWith, MovesRows}
-use Rattle.hotel_statements.specs.Statements.{Statement, RunsOne, RunsInTurn, RunsStatements, WritesBy}
-use Rattle.hotel_statements.proofs.Ends.{then_makes, then_makes_if, failed, as_made, makes_rows}
+use Rattle.hotel_statements.specs.Statements.{Statement, RunsOne, RunsInTurn, RunsStatements, WritesBy, MakesBy}
+use Rattle.hotel_statements.proofs.Ends.{none_new, commit_then, then_makes, then_makes_if, failed, as_made}
+use Rattle.hotel_statements.proofs.Ends.{makes_rows}
 
 pub answered : {e : Error} (r : Result (Unit {0}) Error) → IsErrAnd r (λ why. why ≡ e) → r ≡ Err e
 answered (Ok u) is = absurd is
@@ -75,6 +77,51 @@ module _ {S : Type 0} {g : Ghosts S} {one : List Statement} {a b : Held S} where
     pub writes_as : {others : Rows → Type 0} {h : Rows → Rows} {r : Result (Unit {0}) Error} → ((rows : Rows) → others rows → fits rows) → ((rows : Rows) → others rows → f rows ≡ h rows)
         → WritesBy g one fits f a b r → WritesBy g one others h a b r
     writes_as fit same it = record { runs = it.runs; rows = as_made fit same it.rows }
+
+  module _ {P : State → State → Type 0} where
+    -- two, each of which makes something
+    pub made_then : {two : List Statement} {Q R : State → State → Type 0} {c : Held S} {u : Unit {0}}
+        {r : Result (Unit {0}) Error} → (P (state g a) (state g b) → Q (state g b) (state g c) → R (state g a) (state g c))
+        → MakesBy g one P a b (Ok u) → MakesBy g two Q b c r → MakesBy g (one ++ two) R a c r
+    made_then {c = c} {r = r} both first next = record {
+      runs = runs_then first.runs next.survives next.runs;
+      made = λ clean. on_ok_weaker r (both (first.made (was clean))) (next.made clean);
+      kept = λ clean. commit_then (first.kept (was clean)) (next.kept clean);
+      survives = none_new first.survives next.survives;
+    }
+      where
+        was : HasCleanDisk (state g c) → HasCleanDisk (state g b)
+        was clean = omega (arith, next.survives.clean, clean)
+
+    -- two, whatever they make
+    pub runs_on : {two : List Statement} {Q : State → State → Type 0} {c : Held S} {u : Unit {0}}
+        {r : Result (Unit {0}) Error} → MakesBy g one P a b (Ok u) → MakesBy g two Q b c r
+        → MakesBy g (one ++ two) (λ _ _. Unit {0}) a c r
+    runs_on first next = made_then (λ _ _. tt) first next
+
+    -- one failed, and of those after it none is run
+    pub made_stopped : (two : List Statement) {R : State → State → Type 0} {e : Error} (r : Result (Unit {0}) Error)
+        → IsErr r → IsErrAnd r (λ why. why ≡ e) → MakesBy g one P a b (Err e) → MakesBy g (one ++ two) R a b r
+    made_stopped two {R} r is why it = record {
+      runs = runs_stopped two r (answered r why) it.runs;
+      made = λ _. nothing r is;
+      kept = it.kept;
+      survives = it.survives;
+    }
+      where
+        nothing : (r : Result (Unit {0}) Error) → IsErr r → OnOk r (R (state g a) (state g b))
+        nothing (Ok u) is = absurd cc
+        nothing (Err e) is = tt
+
+    -- it is made by another word
+    pub made_as : {R : State → State → Type 0} {r : Result (Unit {0}) Error}
+        → (P (state g a) (state g b) → R (state g a) (state g b)) → MakesBy g one P a b r → MakesBy g one R a b r
+    made_as {r = r} word it = record {
+      runs = it.runs;
+      made = λ clean. on_ok_weaker r word (it.made clean);
+      kept = it.kept;
+      survives = it.survives;
+    }
 
 -- one statement, given what it makes of the rows, and its parameters as they are bound
 pub writes_row : {S : Type 0} {g : Ghosts S} {text : List ℕ} {given : Row} {fits : Rows → Type 0} {make : Rows → Rows} {old new : Held S} {r : Result (Unit {0}) Error} (params : Row)

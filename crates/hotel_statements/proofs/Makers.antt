@@ -12,6 +12,8 @@ use Rattle.sqlite.specs.Does.{Tally, lacks_sequence, Does, AtPlace, Defines, Mak
 use Rattle.sqlite_schema.specs.declared.schema.Index.{Index}
 use Rattle.sqlite.specs.Listing.{understood}
 use Rattle.sqlite.specs.Effect.{Database}
+use Rattle.sqlite_trees.specs.declared.store.Store.{Ghosts}
+use Rattle.sqlite.specs.Held.{Held}
 use Rattle.sqlite.specs.State.{State, mode_of, Writes, ExecutesIn, ExecutesInside}
 use Rattle.sqlite.specs.declared.error.Error.{Error}
 use Rattle.sqlite.proofs.Callers.{runs_as}
@@ -21,9 +23,12 @@ use Rattle.hotel_statements.specs.Texts.{create_inside, create_note, create_fit,
 use Rattle.hotel_statements.specs.Schema.{no_schema, first_schema, tables_schema, with_stay_index, desk_schema}
 use Rattle.hotel_statements.specs.Schema.{meta_table, kind_table, room_table, stay_table, code_table, card_table}
 use Rattle.hotel_statements.specs.Schema.{inside_table, note_table, fit_table, at_tree, stay_by_room, card_by_party}
-use Rattle.hotel_statements.specs.NewDesk.{IsMaker, IsIndexer, HasTable, HasIndex, HasNew, IsBare}
+use Rattle.hotel_statements.specs.NewDesk.{IsMaker, IsIndexer, HasTable, HasIndex, HasNew, IsBare, IfOpenBare}
+use Rattle.hotel_statements.specs.NewDesk.{Makes, AddsTable, AddsIndex, MakesNew}
 use Rattle.hotel_statements.specs.NewDesk.{with_meta, with_kind, with_room, with_stay, with_code}
 use Rattle.hotel_statements.specs.NewDesk.{with_card, with_inside, with_note}
+use Rattle.hotel_statements.specs.Statements.{Statement, MakesBy}
+use Rattle.hotel_statements.proofs.InTurn.{made_then, made_as}
 use Rattle.hotel_statements.proofs.Writing.{went, same_value}
 
 pub creates : (schema : Schema) (text : List ℕ) (t : Table) (old new : State) (count : ℕ) → IsMaker schema text t → old.now.schema ≡ schema
@@ -182,3 +187,30 @@ make_note = record { command = refl; whole = refl; plain = (refl, refl); defines
 pub make_fit : IsMaker with_note create_fit fit_table
 unfolding understood everything
 make_fit = record { command = refl; whole = refl; plain = (refl, refl); defines = refl; uncounted = refl }
+
+-- ---- statements in turn
+
+module _ {S : Type 0} {g : Ghosts S} {text : List ℕ} {schema : Schema} {t : Table} {b : Held S}
+    (maker : IsMaker schema text t) where
+  -- a first table
+  pub bare_first : {one : List Statement} {a : Held S} {r : Result (Unit {0}) Error}
+      → MakesBy g one (λ old new. Makes text old new × AddsTable text old new) a b r
+      → MakesBy g one (IfOpenBare schema (created schema t)) a b r
+  bare_first it = made_as (λ made. made.0 schema t maker) it
+
+  -- and another one
+  pub bare_then : {before : Schema} {one two : List Statement} {a c : Held S} {u : Unit {0}}
+      {r : Result (Unit {0}) Error} → MakesBy g one (IfOpenBare before schema) a b (Ok u)
+      → MakesBy g two (λ old new. Makes text old new × AddsTable text old new) b c r
+      → MakesBy g (one ++ two) (IfOpenBare before (created schema t)) a c r
+  bare_then it more = made_then (λ bare made had. made.0 schema t maker (λ _. bare had)) it more
+
+-- the table of the fits and the two indexes, whether the eight tables have rows or not
+pub new_made : (a b c d : State) → AddsTable create_fit a b → AddsIndex create_stay_room b c
+    → AddsIndex create_card_party c d → MakesNew a d × IfOpenBare with_note desk_schema a d
+new_made a b c d fits by_room by_party =
+    let all : MakesNew a d = λ has.
+    let one = fits _ _ make_fit has in
+    let two = by_room _ _ _ _ make_stay_room (λ _. one.schema_is) in
+    all_new a b c d one two (by_party _ _ _ _ make_card_party (λ _. two.schema_is)) in
+    (all, λ bare. let did = all (λ is_open. (bare is_open).schema_is) in new_bare a d did (bare did.was_open))

@@ -29,20 +29,11 @@ use Rattle.hotel_statements.specs.Upgrade.{IsFirstDesk, IsFirstBooks, IsFirstMid
 use Rattle.hotel_statements.specs.Upgrade.{Upgrades, IsUpgradeOf, IsOutdated, IsBefore, first_of, HasFits}
 use Rattle.hotel_statements.specs.Upgrade.{GivesFits}
 use Rattle.hotel_statements.proofs.Answers.{fused}
+use Rattle.hotel_statements.proofs.Ends.{none_new, commit_then}
 use Rattle.hotel_statements.proofs.Risen.{rooms_rise, keys_rise}
 use Rattle.hotel_statements.proofs.Made.Desk.{same_tables, same_bare}
 
 -- ---- statements, one after the other
-
-none_new : {a b c : State} → Survives a b (λ _. ⊥) → Survives b c (λ _. ⊥) → Survives a c (λ _. ⊥)
-none_new {a} {b} {c} one two =
-    survives_then a b c (λ _. ⊥) (λ _. ⊥) (λ _. ⊥) (λ _ _ none. none) (λ _ _ none. none) one two
-
-commit_then : {a b c : State} → KeepsCommit a b → KeepsCommit b c → KeepsCommit a c
-commit_then one two = record {
-  was_open = λ is_open. one.was_open (two.was_open is_open);
-  committed = λ is_open. two.committed is_open ∙ one.committed (two.was_open is_open);
-}
 
 -- one statement, given what it makes, and its parameters as they are bound
 pub gives_one : {Before : State → Type 0} {text : List ℕ} {given : Row} {fits : FitEntries} {old new : State}

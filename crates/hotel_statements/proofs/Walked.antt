@@ -1,5 +1,5 @@
 -- One statement whose rows are handed over, one at a time.
-use Rattle.std.proofs.Common.{◌≡◌, ◌≢◌, ◌⊎◌, ◌≤◌, ◌+◌, ◌-◌, ◌^◌, inl, inr, refl, sym, ap, subst, ◌∙◌, List, [], ◌∷◌}
+use Rattle.std.proofs.Common.{◌≡◌, ◌≢◌, ◌⊎◌, ◌≤◌, ◌+◌, inl, inr, refl, sym, ap, subst, ◌∙◌, List, [], ◌∷◌}
 use Rattle.std.proofs.Common.{◌++◌, ℕ, suc, IsTrue, Bool, false, true}
 use Rattle.std.proofs.Common.{Option, Some, None, Ok, Err, Result, All, length, length-append, map}
 use Rattle.std.proofs.Common.{append_assoc, arith}
@@ -29,6 +29,7 @@ use Rattle.hotel_core.specs.declared.books.walks.WalkFault.TheVariants as why
 use Rattle.hotel_core.specs.Books.Passes.{Passes}
 use Rattle.hotel_core.specs.Books.Walks.{TakesFront, Hands, failure_of}
 use Rattle.hotel_core.proofs.OfCode.Walking.{one_more, all_taken}
+use Rattle.hotel_statements.specs.declared.walk.TheConstants.{MOST_ROWS}
 use Rattle.hotel_statements.specs.Schema.{desk_schema}
 use Rattle.hotel_statements.specs.Books.{IsDesk, IsKept, IsBooks, KeepsRows}
 use Rattle.hotel_statements.specs.LookUps.{Asks, LeavesNoMore, fault_of, ShowsUnread}
@@ -334,7 +335,7 @@ module _ {S A K : Type 0} (g : Ghosts S) (of : Row → A) (IsReadable : Row → 
         }
 
   -- after as many rows as a counter counts
-  pub cut : (mid : Held S) (now : K) (count : ℕ) → 2 ^ 64 - 1 ≤ count → Walking mid now count → (rows : List A)
+  pub cut : (mid : Held S) (now : K) (count : ℕ) → MOST_ROWS ≤ count → Walking mid now count → (rows : List A)
       → SaysRows of text params (state g old) rows → Ends rows mid now (Err why.Store)
   cut mid now count many so_far rows says =
       let rest = chosen (state g mid) so_far.taken rows (front rows says mid now count so_far) in
@@ -349,7 +350,7 @@ module _ {S A K : Type 0} (g : Ghosts S) (of : Row → A) (IsReadable : Row → 
             let more = so_far.keeps kept in
             let start = given_begin g text params mid it.0 it.1 in
             let all = answers_on text params says.0 says.1 (state g old) (state g mid) so_far.books kept more.1 it.0 start in
-            let long : 2 ^ 64 - 1 ≤ length (it.0 ++ all.0) =
+            let long : MOST_ROWS ≤ length (it.0 ++ all.0) =
             omega (arith, many, so_far.counted, ap length it.2, length-map it.0 of, length-append it.0 all.0) in
             inr (more.0, (says.0, says.1, it.0 ++ all.0, all.1, long));
         hands = (so_far.taken ++ rest.0, (so_far.taken, rest.0, refl, so_far.takes), rest.1);

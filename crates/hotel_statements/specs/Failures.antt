@@ -5,6 +5,7 @@ use Rattle.std.specs.BTreeMap.{is_at}
 use Rattle.sqlite_value.specs.declared.value.Value.TheVariants.{Text}
 use Rattle.sqlite.specs.Tree.{Trees}
 use Rattle.sqlite.specs.State.{State}
+use Rattle.keycard_rules.specs.declared.numbers.TheConstants.{LAST_NUMBER}
 use Rattle.keycard_rules.specs.Note.{Note}
 use Rattle.hotel_model.specs.declared.rows.RoomRow.{RoomRow}
 use Rattle.hotel_model.specs.declared.rows.FitRow.{FitRow}
@@ -52,13 +53,13 @@ abbrev pub BareNoteFails : ℕ → ℕ → State → State → Type 0
 BareNoteFails room at = FailsAt IsNote text.select_note (int room ∷ int at ∷ [])
 
 abbrev pub IsInsideFails : ℕ → ℕ → State → State → Type 0
-IsInsideFails room number = FailsAt (BeginsWith (IsNumber 9999999)) text.select_inside (int room ∷ int number ∷ [])
+IsInsideFails room number = FailsAt (BeginsWith (IsNumber LAST_NUMBER)) text.select_inside (int room ∷ int number ∷ [])
 
 abbrev pub HasInsideFails : ℕ → State → State → Type 0
-HasInsideFails room = FailsAt (BeginsWith (IsNumber 9999999)) text.select_any_inside (int room ∷ [])
+HasInsideFails room = FailsAt (BeginsWith (IsNumber LAST_NUMBER)) text.select_any_inside (int room ∷ [])
 
 abbrev pub InsideFails : ℕ → State → State → Type 0
-InsideFails room = FailsAt (BeginsWith (IsNumber 9999999)) text.select_cards_inside (int room ∷ [])
+InsideFails room = FailsAt (BeginsWith (IsNumber LAST_NUMBER)) text.select_cards_inside (int room ∷ [])
 
 abbrev pub CodeAtFails : ℕ → ℕ → State → State → Type 0
 CodeAtFails room place = FailsAt (BeginsWith IsCode) text.select_code_at (int room ∷ int place ∷ [])
@@ -67,10 +68,10 @@ abbrev pub StaysFail : List ℕ → State → State → Type 0
 StaysFail kind = FailsAt IsStay text.select_stays_of_kind (Text kind ∷ [])
 
 abbrev pub LastPartyFails : State → State → Type 0
-LastPartyFails = FailsAt (BeginsWith (IsNumber 9999999)) text.select_last_party []
+LastPartyFails = FailsAt (BeginsWith (IsNumber LAST_NUMBER)) text.select_last_party []
 
 abbrev pub LastCardFails : State → State → Type 0
-LastCardFails = FailsAt (BeginsWith (IsNumber 9999999)) text.select_last_card []
+LastCardFails = FailsAt (BeginsWith (IsNumber LAST_NUMBER)) text.select_last_card []
 
 -- ---- several
 

@@ -92,6 +92,17 @@ FailsAt = FailsIn desk_schema
 abbrev pub HasCause : {R : Type 0} → (State → State → Type 0) → State → State → Result R LookFault → Type 0
 HasCause Fails old new result = HasCleanDisk new → IfErr result (λ fault. fault ≢ why.Memory → Fails old new)
 
+-- What one statement that is read promises, of a connection from old to new: where the test holds at its end, this was
+-- found. It changes no row, and a crash in it leaves nothing new.
+pub record LooksFor {R : Type 0} (Fails : State → State → Type 0) (Found : Type 0) (old new : State)
+    (result : Result R LookFault) : Type 0 where
+  pub books : IsBooks new
+  pub keeps : KeepsRows old new
+  pub found : IsKept new → Found
+  pub unchanged : HasCleanDisk new → OnOk result (IsUnchanged old new)
+  pub cause : HasCause Fails old new result
+  pub crash : LeavesNoMore old new
+
 -- A look-up of the books, of a connection from old to new: where the test holds at its end, its answer says what is
 -- wanted of
 -- the rows. It changes no row, and a crash in it leaves nothing new.

@@ -1,7 +1,7 @@
 -- The SQL statements of each change, with the values of their parameters, and what comes of statements that are run in
 -- turn.
 use Rattle.std.specs.Prelude.{ℕ, ◌+◌, ◌≡◌, ◌⊎◌, false, Bool, IsTrue, List, [], ◌∷◌, ◌++◌, Option, Some, None, Result}
-use Rattle.std.specs.Prelude.{Ok, Err}
+use Rattle.std.specs.Prelude.{Ok, Err, OnOk}
 use Rattle.keycard_rules.specs.declared.card.Card.{Card}
 use Rattle.keycard_rules.specs.Note.{Note}
 use Rattle.hotel_nights.specs.declared.stay.Stay.{Stay}
@@ -19,7 +19,7 @@ use Rattle.hotel_model.specs.Stays.{room_of_state}
 use Rattle.hotel_model.specs.Refits.{fit_row}
 use Rattle.hotel_model.specs.Refinement.Change.{new_row}
 use Rattle.sqlite.specs.Order.{Row}
-use Rattle.sqlite.specs.State.{HasCleanDisk, ExecutesInside}
+use Rattle.sqlite.specs.State.{State, HasCleanDisk, ExecutesInside, KeepsCommit, Survives}
 use Rattle.sqlite.specs.Held as held
 use Rattle.sqlite.specs.Held.{Held}
 use Rattle.sqlite_trees.specs.declared.store.Store.{Ghosts}
@@ -42,6 +42,10 @@ Statement = List ℕ × Row
 
 abbrev pub sets_day : ℕ → Statement
 sets_day day = (text.update_day, int 1 ∷ int day ∷ [])
+
+-- the row of meta, with no day
+abbrev pub adds_meta : Statement
+adds_meta = (text.insert_meta, [])
 
 abbrev pub adds_kind : List ℕ → Statement
 adds_kind kind = (text.insert_kind, kind_written kind)
@@ -158,6 +162,23 @@ statements_of (Noted note lock_place secured insides) known = takes_note note (k
 abbrev pub makes_table : List ℕ → Statement
 makes_table text = (text, [])
 
+-- meta, kinds, rooms and stays
+abbrev pub makes_first : List Statement
+makes_first = makes_table text.create_meta ∷ makes_table text.create_kind ∷ makes_table text.create_room
+    ∷ makes_table text.create_stay ∷ []
+
+-- what the second version has beside the tables of the first: the fits and the two indexes
+abbrev pub makes_new : List Statement
+makes_new = makes_table text.create_fit ∷ makes_table text.create_stay_room ∷ makes_table text.create_card_party ∷ []
+
+-- insides and notes, and these
+abbrev pub makes_of_locks : List Statement
+makes_of_locks = makes_table text.create_inside ∷ makes_table text.create_note ∷ makes_new
+
+-- codes and cards, and these
+abbrev pub makes_last : List Statement
+makes_last = makes_table text.create_code ∷ makes_table text.create_card ∷ makes_of_locks
+
 -- ---- what comes of them
 
 module _ {S : Type 0} (g : Ghosts S) where
@@ -184,3 +205,12 @@ module _ {S : Type 0} (g : Ghosts S) where
       (result : Result (Unit {0}) Error) : Type 0 where
     pub runs : RunsStatements statements old new result
     pub rows : MakesRows fits make (held.state g old) (held.state g new) result
+
+  -- These statements are run; where none failed, this is so of the states before and after. Nothing is committed, and a
+  -- crash leaves nothing new.
+  pub record MakesBy (statements : List Statement) (Made : State → State → Type 0) (old new : Held S)
+      (result : Result (Unit {0}) Error) : Type 0 where
+    pub runs : RunsStatements statements old new result
+    pub made : HasCleanDisk (held.state g new) → OnOk result (Made (held.state g old) (held.state g new))
+    pub kept : HasCleanDisk (held.state g new) → KeepsCommit (held.state g old) (held.state g new)
+    pub survives : Survives (held.state g old) (held.state g new) (λ _. ⊥)

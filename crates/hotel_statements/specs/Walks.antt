@@ -1,5 +1,5 @@
 -- What the walks promise over a connection, and what the rows say that their statements show.
-use Rattle.std.specs.Prelude.{◌≡◌, ◌⊎◌, ◌≤◌, ◌-◌, ◌^◌, ◌==◌, ℕ, List, [], length, Some, None, Result, Ok, Err, IsTrue}
+use Rattle.std.specs.Prelude.{◌≡◌, ◌⊎◌, ◌≤◌, ◌-◌, ◌==◌, ℕ, List, [], length, Some, None, Result, Ok, Err, IsTrue}
 use Rattle.sqlite.specs.Order.{Row, column}
 use Rattle.sqlite.specs.Query.{Query, IsAnswer}
 use Rattle.sqlite.specs.Program.{overlay}
@@ -16,6 +16,7 @@ use Rattle.hotel_model.specs.declared.list_rows.BehindRow.{BehindRow}
 use Rattle.hotel_core.specs.Books.Walks.{Hands, failure_of}
 use Rattle.hotel_model.specs.Rows.{Rows}
 use Rattle.hotel_model.specs.Refinement.ListsOnRows.{state_at}
+use Rattle.hotel_statements.specs.declared.walk.TheConstants.{MOST_ROWS}
 use Rattle.hotel_statements.specs.Values.{number_of, text_of}
 use Rattle.hotel_rows.specs.Joined.{with_count, fit_of_number}
 use Rattle.hotel_statements.specs.Columns.{note_row_of}
@@ -39,7 +40,7 @@ HandsOne after after_stop row sink end (Err why.Store) = end ≡ sink
 -- an answer of the statement has at least so many rows as a walk counts
 abbrev pub ShowsMany : List ℕ → Row → Trees → Type 0
 ShowsMany text params db =
-    (q : Query) × Asks text q × (rows : List Row) × IsAnswer q (overlay db []) params rows × (2 ^ 64 - 1 ≤ length rows)
+    (q : Query) × Asks text q × (rows : List Row) × IsAnswer q (overlay db []) params rows × (MOST_ROWS ≤ length rows)
 
 -- why a walk ends early, but for want of memory and a sink that stops
 abbrev pub WalkFails : (Row → Type 0) → List ℕ → Row → State → State → Type 0

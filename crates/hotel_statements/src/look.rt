@@ -1,11 +1,10 @@
 //! One keyed statement, and the row that it finds.
-ghost use Rattle.std.specs.Prelude.{◌≡◌, ◌≢◌, IfOk, IfErr, OnOk, All, map};
+ghost use Rattle.std.specs.Prelude.{◌≡◌, ◌≢◌, IfOk, IfErr, All, map};
 ghost use Rattle.sqlite.specs.Held.{state};
-ghost use Rattle.sqlite.specs.State.{HasCleanDisk, IsUnchanged};
 ghost use Rattle.sqlite.specs.Query.{Query};
 ghost use Rattle.sqlite.specs.Values.{bound};
-ghost use Rattle.hotel_statements.specs.Books.{IsBooks, IsKept, KeepsRows};
-ghost use Rattle.hotel_statements.specs.LookUps.{Asks, FindsFirst, FindsAll, FailsAt, HasCause, LeavesNoMore};
+ghost use Rattle.hotel_statements.specs.Books.{IsBooks};
+ghost use Rattle.hotel_statements.specs.LookUps.{Asks, FindsFirst, FindsAll, FailsAt, LooksFor};
 
 use crate::from_row::{FromRow, fault_of};
 use keycard_rules::LookFault;
@@ -22,15 +21,9 @@ pub(crate) fn look<S: Alter, R: FromRow>(
 ) -> Result<Option<R>, LookFault>
     requires books { IsBooks (state S.Store conn.old) }
     requires asks { (q : Query) × Asks text.now q }
-    ensures books { IsBooks (state S.Store conn.new) }
-    ensures keeps { KeepsRows (state S.Store conn.old) (state S.Store conn.new) }
-    ensures found { IsKept (state S.Store conn.new) → FindsFirst R.FromRow.of text.now (bound params.now)
-        (state S.Store conn.old) result }
-    ensures unchanged { HasCleanDisk (state S.Store conn.new) → OnOk result
-        (IsUnchanged (state S.Store conn.old) (state S.Store conn.new)) }
-    ensures cause { HasCause (FailsAt R.FromRow.is_readable text.now (bound params.now))
+    ensures { LooksFor (FailsAt R.FromRow.is_readable text.now (bound params.now))
+        (FindsFirst R.FromRow.of text.now (bound params.now) (state S.Store conn.old) result)
         (state S.Store conn.old) (state S.Store conn.new) result }
-    ensures crash { LeavesNoMore (state S.Store conn.old) (state S.Store conn.new) }
 {
     match conn.query_row(text, params) {
         Ok(row) => Ok(Some(R::from_row(alloc, &row)?)),
@@ -63,15 +56,9 @@ pub(crate) fn look_all<S: Alter, R: FromRow + Drop>(
 ) -> Result<Vec<R>, LookFault>
     requires books { IsBooks (state S.Store conn.old) }
     requires asks { (q : Query) × Asks text.now q }
-    ensures books { IsBooks (state S.Store conn.new) }
-    ensures keeps { KeepsRows (state S.Store conn.old) (state S.Store conn.new) }
-    ensures found { IsKept (state S.Store conn.new) → FindsAll
-        (λ all. all.items) R.FromRow.of text.now (bound params.now) (state S.Store conn.old) result }
-    ensures unchanged { HasCleanDisk (state S.Store conn.new) → OnOk result
-        (IsUnchanged (state S.Store conn.old) (state S.Store conn.new)) }
-    ensures cause { HasCause (FailsAt R.FromRow.is_readable text.now (bound params.now))
+    ensures { LooksFor (FailsAt R.FromRow.is_readable text.now (bound params.now))
+        (FindsAll (λ all. all.items) R.FromRow.of text.now (bound params.now) (state S.Store conn.old) result)
         (state S.Store conn.old) (state S.Store conn.new) result }
-    ensures crash { LeavesNoMore (state S.Store conn.old) (state S.Store conn.new) }
 {
     match conn.query_all(text, params) {
         Ok(rows) => read_all(alloc, &rows),

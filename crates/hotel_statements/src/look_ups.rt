@@ -29,7 +29,7 @@ use crate::texts::{
 use hotel_core::{CodeRow, FitRow, NextNumbers, RoomRow};
 use hotel_nights::{Day, KindCode, Stay};
 use keycard_rules::{
-    Card, CardNo, Code, Count, FitNo, LockNote, LookFault, Number, PartyNo, RoomNo,
+    Card, CardNo, Code, Count, FitNo, LAST_NUMBER, LockNote, LookFault, Number, PartyNo, RoomNo,
 };
 use sqlite::{Alter, Connection};
 use std::alloc::Global;
@@ -359,8 +359,8 @@ fn last_card<S: Alter>(alloc: Global, conn: &mut Connection<S>) -> Result<Option
     look(alloc, conn, SELECT_LAST_CARD, &[])
 }
 
-/// The number after the last one, up to 9,999,999.
-fn number_after<K>(last: Option<Number<K, 9_999_999>>) -> Option<Number<K, 9_999_999>>
+/// The number after the last one, up to the last number.
+fn number_after<K>(last: Option<Number<K, LAST_NUMBER>>) -> Option<Number<K, LAST_NUMBER>>
     ensures { result ≡ number_after (unwrap_or last 0) }
 {
     match last {

@@ -1,10 +1,8 @@
 //! The statements that make a new desk, within a transaction: its nine tables, two indexes and the one row of meta.
-ghost use Rattle.std.specs.Prelude.{◌≡◌, [], ◌∷◌, OnOk};
-ghost use Rattle.sqlite.specs.Held.{state};
-ghost use Rattle.sqlite.specs.State.{HasCleanDisk, KeepsCommit, Survives};
+ghost use Rattle.std.specs.Prelude.{◌≡◌, [], ◌∷◌};
 ghost use Rattle.hotel_statements.specs.Schema.{no_schema, desk_schema};
-ghost use Rattle.hotel_statements.specs.Texts as texts;
-ghost use Rattle.hotel_statements.specs.Statements.{RunsStatements, makes_table};
+ghost use Rattle.hotel_statements.specs.Statements.{MakesBy, adds_meta, makes_table, makes_first, makes_new};
+ghost use Rattle.hotel_statements.specs.Statements.{makes_of_locks, makes_last};
 ghost use Rattle.hotel_statements.specs.NewDesk.{IfOpen, IfOpenBare, Makes, AddsTable, AddsIndex, MakesNew, IsBare};
 ghost use Rattle.hotel_statements.specs.NewDesk.{IsMade, with_stay, with_card, with_note};
 
@@ -18,14 +16,8 @@ use sqlite::{Alter, Error, Transaction};
 /// Makes a table.
 fn make<S: Alter>(tx: &mut Transaction<'_, S>, text: &str) -> Result<(), Error>
     ensures same_reference { tx.new.conn.ghost_name ≡ tx.old.conn.ghost_name }
-    ensures answers { RunsStatements S.Store (makes_table text.now ∷ []) tx.old.conn.now tx.new.conn.now result }
-    ensures made { HasCleanDisk (state S.Store tx.new.conn.now)
-        → OnOk result (Makes text.now (state S.Store tx.old.conn.now) (state S.Store tx.new.conn.now)) }
-    ensures added { HasCleanDisk (state S.Store tx.new.conn.now) →
-        OnOk result (AddsTable text.now (state S.Store tx.old.conn.now) (state S.Store tx.new.conn.now)) }
-    ensures kept { HasCleanDisk (state S.Store tx.new.conn.now)
-        → KeepsCommit (state S.Store tx.old.conn.now) (state S.Store tx.new.conn.now) }
-    ensures survives { Survives (state S.Store tx.old.conn.now) (state S.Store tx.new.conn.now) (λ _. ⊥) }
+    ensures makes { MakesBy S.Store (makes_table text.now ∷ [])
+        (λ old new. Makes text.now old new × AddsTable text.now old new) tx.old.conn.now tx.new.conn.now result }
 {
     run(tx, text, &[])
 }
@@ -33,12 +25,8 @@ fn make<S: Alter>(tx: &mut Transaction<'_, S>, text: &str) -> Result<(), Error>
 /// Makes an index.
 fn make_index<S: Alter>(tx: &mut Transaction<'_, S>, text: &str) -> Result<(), Error>
     ensures same_reference { tx.new.conn.ghost_name ≡ tx.old.conn.ghost_name }
-    ensures answers { RunsStatements S.Store (makes_table text.now ∷ []) tx.old.conn.now tx.new.conn.now result }
-    ensures added { HasCleanDisk (state S.Store tx.new.conn.now) →
-        OnOk result (AddsIndex text.now (state S.Store tx.old.conn.now) (state S.Store tx.new.conn.now)) }
-    ensures kept { HasCleanDisk (state S.Store tx.new.conn.now) →
-        KeepsCommit (state S.Store tx.old.conn.now) (state S.Store tx.new.conn.now) }
-    ensures survives { Survives (state S.Store tx.old.conn.now) (state S.Store tx.new.conn.now) (λ _. ⊥) }
+    ensures makes { MakesBy S.Store (makes_table text.now ∷ []) (AddsIndex text.now)
+        tx.old.conn.now tx.new.conn.now result }
 {
     run(tx, text, &[])
 }
@@ -46,13 +34,8 @@ fn make_index<S: Alter>(tx: &mut Transaction<'_, S>, text: &str) -> Result<(), E
 /// Makes the tables of the desk, its kinds, rooms and stays.
 pub fn make_first<S: Alter>(tx: &mut Transaction<'_, S>) -> Result<(), Error>
     ensures same_reference { tx.new.conn.ghost_name ≡ tx.old.conn.ghost_name }
-    ensures answers { RunsStatements S.Store (makes_table texts.create_meta ∷ makes_table texts.create_kind
-        ∷ makes_table texts.create_room ∷ makes_table texts.create_stay ∷ []) tx.old.conn.now tx.new.conn.now result }
-    ensures made { HasCleanDisk (state S.Store tx.new.conn.now)
-        → OnOk result (IfOpenBare no_schema with_stay (state S.Store tx.old.conn.now) (state S.Store tx.new.conn.now)) }
-    ensures kept { HasCleanDisk (state S.Store tx.new.conn.now)
-        → KeepsCommit (state S.Store tx.old.conn.now) (state S.Store tx.new.conn.now) }
-    ensures survives { Survives (state S.Store tx.old.conn.now) (state S.Store tx.new.conn.now) (λ _. ⊥) }
+    ensures makes { MakesBy S.Store makes_first (IfOpenBare no_schema with_stay)
+        tx.old.conn.now tx.new.conn.now result }
 {
     make(tx, CREATE_META)?;
     make(tx, CREATE_KIND)?;
@@ -63,16 +46,8 @@ pub fn make_first<S: Alter>(tx: &mut Transaction<'_, S>) -> Result<(), Error>
 /// Makes what the second version has beside the tables of the first: the table of fits and the two indexes.
 pub(crate) fn make_new<S: Alter>(tx: &mut Transaction<'_, S>) -> Result<(), Error>
     ensures same_reference { tx.new.conn.ghost_name ≡ tx.old.conn.ghost_name }
-    ensures answers { RunsStatements S.Store
-        (makes_table texts.create_fit ∷ makes_table texts.create_stay_room ∷ makes_table texts.create_card_party ∷ [])
-        tx.old.conn.now tx.new.conn.now result }
-    ensures made { HasCleanDisk (state S.Store tx.new.conn.now) →
-        OnOk result (MakesNew (state S.Store tx.old.conn.now) (state S.Store tx.new.conn.now)) }
-    ensures bare { HasCleanDisk (state S.Store tx.new.conn.now) →
-        OnOk result (IfOpenBare with_note desk_schema (state S.Store tx.old.conn.now) (state S.Store tx.new.conn.now)) }
-    ensures kept { HasCleanDisk (state S.Store tx.new.conn.now) →
-        KeepsCommit (state S.Store tx.old.conn.now) (state S.Store tx.new.conn.now) }
-    ensures survives { Survives (state S.Store tx.old.conn.now) (state S.Store tx.new.conn.now) (λ _. ⊥) }
+    ensures makes { MakesBy S.Store makes_new
+        (λ old new. MakesNew old new × IfOpenBare with_note desk_schema old new) tx.old.conn.now tx.new.conn.now result }
 {
     make(tx, CREATE_FIT)?;
     make_index(tx, CREATE_STAY_ROOM)?;
@@ -82,15 +57,8 @@ pub(crate) fn make_new<S: Alter>(tx: &mut Transaction<'_, S>) -> Result<(), Erro
 /// Makes the tables of insides, notes and fits, and the two indexes.
 fn make_of_locks<S: Alter>(tx: &mut Transaction<'_, S>) -> Result<(), Error>
     ensures same_reference { tx.new.conn.ghost_name ≡ tx.old.conn.ghost_name }
-    ensures answers { RunsStatements S.Store
-        (makes_table texts.create_inside ∷ makes_table texts.create_note ∷ makes_table texts.create_fit
-        ∷ makes_table texts.create_stay_room ∷ makes_table texts.create_card_party ∷ [])
+    ensures makes { MakesBy S.Store makes_of_locks (IfOpenBare with_card desk_schema)
         tx.old.conn.now tx.new.conn.now result }
-    ensures made { HasCleanDisk (state S.Store tx.new.conn.now) →
-        OnOk result (IfOpenBare with_card desk_schema (state S.Store tx.old.conn.now) (state S.Store tx.new.conn.now)) }
-    ensures kept { HasCleanDisk (state S.Store tx.new.conn.now) →
-        KeepsCommit (state S.Store tx.old.conn.now) (state S.Store tx.new.conn.now) }
-    ensures survives { Survives (state S.Store tx.old.conn.now) (state S.Store tx.new.conn.now) (λ _. ⊥) }
 {
     make(tx, CREATE_INSIDE)?;
     make(tx, CREATE_NOTE)?;
@@ -100,17 +68,8 @@ fn make_of_locks<S: Alter>(tx: &mut Transaction<'_, S>) -> Result<(), Error>
 /// Makes the tables of codes, cards, insides, notes and fits, and the two indexes.
 pub fn make_last<S: Alter>(tx: &mut Transaction<'_, S>) -> Result<(), Error>
     ensures same_reference { tx.new.conn.ghost_name ≡ tx.old.conn.ghost_name }
-    ensures answers { RunsStatements S.Store
-        (makes_table texts.create_code ∷ makes_table texts.create_card ∷ makes_table texts.create_inside
-        ∷ makes_table texts.create_note ∷ makes_table texts.create_fit ∷ makes_table texts.create_stay_room
-        ∷ makes_table texts.create_card_party ∷ [])
+    ensures makes { MakesBy S.Store makes_last (IfOpenBare with_stay desk_schema)
         tx.old.conn.now tx.new.conn.now result }
-    ensures made { HasCleanDisk (state S.Store tx.new.conn.now)
-        → OnOk result (IfOpenBare with_stay desk_schema (state S.Store tx.old.conn.now)
-        (state S.Store tx.new.conn.now)) }
-    ensures kept { HasCleanDisk (state S.Store tx.new.conn.now)
-        → KeepsCommit (state S.Store tx.old.conn.now) (state S.Store tx.new.conn.now) }
-    ensures survives { Survives (state S.Store tx.old.conn.now) (state S.Store tx.new.conn.now) (λ _. ⊥) }
 {
     make(tx, CREATE_CODE)?;
     make(tx, CREATE_CARD)?;
@@ -120,13 +79,8 @@ pub fn make_last<S: Alter>(tx: &mut Transaction<'_, S>) -> Result<(), Error>
 /// Adds the row of meta, with no day.
 pub fn enter_meta<S: Alter>(tx: &mut Transaction<'_, S>) -> Result<(), Error>
     ensures same_reference { tx.new.conn.ghost_name ≡ tx.old.conn.ghost_name }
-    ensures answers { RunsStatements S.Store ((texts.insert_meta, []) ∷ []) tx.old.conn.now tx.new.conn.now result }
-    ensures made { HasCleanDisk (state S.Store tx.new.conn.now)
-        → OnOk result (IfOpen (IsBare desk_schema) IsMade (state S.Store tx.old.conn.now)
-        (state S.Store tx.new.conn.now)) }
-    ensures kept { HasCleanDisk (state S.Store tx.new.conn.now)
-        → KeepsCommit (state S.Store tx.old.conn.now) (state S.Store tx.new.conn.now) }
-    ensures survives { Survives (state S.Store tx.old.conn.now) (state S.Store tx.new.conn.now) (λ _. ⊥) }
+    ensures makes { MakesBy S.Store (adds_meta ∷ []) (IfOpen (IsBare desk_schema) IsMade)
+        tx.old.conn.now tx.new.conn.now result }
 {
     run(tx, INSERT_META, &[])
 }

@@ -5,6 +5,7 @@ ghost use Rattle.sqlite.specs.Order.{Row as SqlRow};
 ghost use Rattle.hotel_statements.specs.PlainRows as plain;
 ghost use Rattle.hotel_statements.specs.Columns as columns;
 ghost use Rattle.hotel_statements.specs.Texts as texts;
+ghost use Rattle.hotel_statements.specs.Trees as trees;
 
 use crate::texts::{
     READ_CARD, READ_CODE, READ_FIT, READ_INSIDE, READ_KIND, READ_META, READ_NOTE, READ_ROOM,
@@ -89,7 +90,7 @@ pub fn may_be_natural(n: Option<i64>) -> bool
 impl PlainRow for PlainMeta {
     ghost text = { texts.read_meta };
 
-    ghost tree = { 0 };
+    ghost tree = { trees.meta_tree };
 
     ghost columns = { columns.meta_columns };
 
@@ -113,7 +114,7 @@ impl PlainRow for PlainMeta {
 impl PlainRow for PlainKind {
     ghost text = { texts.read_kind };
 
-    ghost tree = { 1 };
+    ghost tree = { trees.kind_tree };
 
     ghost columns = { columns.kind_columns };
 
@@ -133,7 +134,7 @@ impl PlainRow for PlainKind {
 impl PlainRow for PlainRoom {
     ghost text = { texts.read_room };
 
-    ghost tree = { 3 };
+    ghost tree = { trees.room_tree };
 
     ghost columns = { columns.room_columns };
 
@@ -161,7 +162,7 @@ impl PlainRow for PlainRoom {
 impl PlainRow for PlainStay {
     ghost text = { texts.read_stay };
 
-    ghost tree = { 5 };
+    ghost tree = { trees.stay_tree };
 
     ghost columns = { columns.stay_columns };
 
@@ -189,7 +190,7 @@ impl PlainRow for PlainStay {
 impl PlainRow for PlainCode {
     ghost text = { texts.read_code };
 
-    ghost tree = { 6 };
+    ghost tree = { trees.code_tree };
 
     ghost columns = { columns.code_columns };
 
@@ -213,7 +214,7 @@ impl PlainRow for PlainCode {
 impl PlainRow for PlainCard {
     ghost text = { texts.read_card };
 
-    ghost tree = { 8 };
+    ghost tree = { trees.card_tree };
 
     ghost columns = { columns.card_columns };
 
@@ -238,7 +239,7 @@ impl PlainRow for PlainCard {
 impl PlainRow for NumberedInside {
     ghost text = { texts.read_inside };
 
-    ghost tree = { 9 };
+    ghost tree = { trees.inside_tree };
 
     ghost columns = { plain.numbered_columns };
 
@@ -264,7 +265,7 @@ impl PlainRow for NumberedInside {
 impl PlainRow for PlainNote {
     ghost text = { texts.read_note };
 
-    ghost tree = { 11 };
+    ghost tree = { trees.note_tree };
 
     ghost columns = { columns.note_columns };
 
@@ -293,7 +294,7 @@ impl PlainRow for PlainNote {
 impl PlainRow for PlainFit {
     ghost text = { texts.read_fit };
 
-    ghost tree = { 13 };
+    ghost tree = { trees.fit_tree };
 
     ghost columns = { columns.fit_columns };
 

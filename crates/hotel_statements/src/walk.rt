@@ -43,6 +43,9 @@ fn hand_over<R: Drop, F: RowReader<R>, K: Sink<R>>(
     }
 }
 
+/// The most rows that a walk counts.
+pub(crate) const MOST_ROWS: u64 = u64::MAX;
+
 /// Hands over what the rows say that a statement shows, in its order, and keeps none of them.
 pub(crate) fn walk<S: Alter, R: Drop, F: RowReader<R>, K: Sink<R>>(
     alloc: Global,
@@ -63,7 +66,7 @@ pub(crate) fn walk<S: Alter, R: Drop, F: RowReader<R>, K: Sink<R>>(
         Ok(rows) => rows,
         Err(error) => return Err(failed(fault_of(error))),
     };
-    'rows: for _i in 0..u64::MAX {
+    'rows: for _i in 0..MOST_ROWS {
         match rows.next() {
             Ok(Some(row)) => hand_over(alloc, reader, row, sink)?,
             Ok(None) => return Ok(()),

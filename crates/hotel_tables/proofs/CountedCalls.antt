@@ -86,11 +86,13 @@ module _ {S : Type 0} (g : Ghosts S) (inside self : Tabled S) (same : inside ≡
         record {
           answer = looked_up.found;
           kept = λ kept. ap (λ (d : Database). rows_in d.trees) (looked_up.keeps kept).1;
-          was_clean = λ kept. (looked_up.keeps kept).0;
-          was_honest = search (rules, looked_up.crash);
+          since = record {
+            was_clean = λ kept. (looked_up.keeps kept).0;
+            was_honest = search (rules, looked_up.crash);
+            counted = none_fewer;
+          };
           vouched = λ honest. on_ok_weaker result (λ is_open. (honest, is_open)) (looked_up.open_on tt honest);
           stop = looked_up.crash;
-          counted = none_fewer;
           fault = IfErr-weaker result _ _ has_risen risen_so;
           cause = looked Fails LookUpFails old later result result refl (more old later) looked_up.cause;
           sure = λ never. absurd never;
@@ -120,11 +122,13 @@ module _ {S : Type 0} (g : Ghosts S) (inside self : Tabled S) (same : inside ≡
         record {
           hands = walked_over.hands;
           kept = λ kept. ap (λ (d : Database). rows_in d.trees) (walked_over.keeps kept).1;
-          was_clean = λ kept. (walked_over.keeps kept).0;
-          was_honest = search (rules, walked_over.crash);
+          since = record {
+            was_clean = λ kept. (walked_over.keeps kept).0;
+            was_honest = search (rules, walked_over.crash);
+            counted = none_fewer;
+          };
           vouched = λ honest none. (honest, walked_over.open_on honest none);
           stop = walked_over.crash;
-          counted = none_fewer;
           fault = IfSome_then (failure_of result) risen_so has_risen;
           cause = λ honest store. more old later (walked_over.cause honest store);
           sure = λ never. absurd never;
@@ -142,11 +146,13 @@ asked_in_vain g old new cause (Ok answer) looks fails counted risen handed = abs
 asked_in_vain g old new cause (Err given) looks fails counted risen handed = record {
   answer = λ _. tt;
   kept = λ kept. ap (λ (d : Database). rows_in d.trees) (looks.keeps kept).1;
-  was_clean = λ kept. (looks.keeps kept).0;
-  was_honest = search (rules, looks.crash);
+  since = record {
+    was_clean = λ kept. (looks.keeps kept).0;
+    was_honest = search (rules, looks.crash);
+    counted = counted;
+  };
   vouched = λ _. tt;
   stop = looks.crash;
-  counted = counted;
   fault = subst (λ why. HasRisen (failed old why) (failed new why)) (sym handed.1) risen;
   cause = λ honest store. fails honest (sym handed.1 ∙ store);
   sure = λ never. absurd never;

@@ -1,5 +1,5 @@
 -- An empty desk is sound, and nothing is counted there.
-use Rattle.std.proofs.Common.{◌≡◌, refl, sym, subst, [], arith}
+use Rattle.std.proofs.Common.{◌≡◌, refl, sym, subst, []}
 use Rattle.std.proofs.lemmas.Bool.{false≢true}
 use Rattle.hotel_model.specs.Rows.{Rows, no_rows}
 use Rattle.hotel_model.proofs.SoundRows.NoRows.{none_sound}

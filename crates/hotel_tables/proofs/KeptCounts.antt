@@ -13,6 +13,7 @@ use Rattle.std.specs.Map.{keys_of, values_of}
 use Rattle.std.proofs.lemmas.Bool.{false≢true}
 use Rattle.std.proofs.lemmas.Bool.Decides.{nat_tests}
 use Rattle.std.proofs.lemmas.Slice.Eq.{bytes_eq-Decides}
+use Rattle.keycard_rules.specs.declared.numbers.TheConstants.{LAST_NUMBER, LAST_ROOM}
 use Rattle.hotel_nights.specs.declared.stay.Stay.{Stay}
 use Rattle.hotel_nights.specs.declared.stay.StayState.{StayState}
 use Rattle.hotel_nights.specs.declared.stay.StayState.TheVariants as state
@@ -44,16 +45,16 @@ use Rattle.hotel_tables.specs.Counted.{CountsItsRoom}
 -- ---- the counts of sound rows are few
 
 abbrev numbered : ℕ × RoomRow → Bool
-numbered e = (e.1.room == e.0) && nat_le 1 e.0 && nat_le e.0 9999
+numbered e = (e.1.room == e.0) && nat_le 1 e.0 && nat_le e.0 LAST_ROOM
 
 numbers_of : (es : List (ℕ × RoomRow)) → list_all numbered es ≡ true → HaveRoomNumbers es
 numbers_of [] h = tt
 numbers_of (e ∷ es) h =
     let p = and_true (numbered e) (list_all numbered es) h in
-    let q = and_true ((e.1.room == e.0) && nat_le 1 e.0) (nat_le e.0 9999) p.0 in
+    let q = and_true ((e.1.room == e.0) && nat_le 1 e.0) (nat_le e.0 LAST_ROOM) p.0 in
     let r = and_true (e.1.room == e.0) (nat_le 1 e.0) q.0 in
     let low : 1 ≤ e.0 = grind (arith, nat_tests) in
-    let high : e.0 ≤ 9999 = grind (arith, nat_tests) in
+    let high : e.0 ≤ LAST_ROOM = grind (arith, nat_tests) in
     ((low, high), numbers_of es p.1)
 
 after_of : (k : ℕ) (ks : List ℕ) → AllAfter nat_cmp k ks → AllByRecursion (λ y. nat_cmp k y ≡ Less) ks
@@ -74,7 +75,7 @@ module _ {kinds : List (List ℕ × ℕ)} {nights : List ((List ℕ × ℕ) × L
 
   pub few_at_night : (kind : List ℕ) (d : ℕ) → counted nights kind d < 2 ^ 63
   few_at_night kind d =
-      let fit : length rows.stays ≤ 9999999 = stays_fit_at_start rows c.sound in
+      let fit : length rows.stays ≤ LAST_NUMBER = stays_fit_at_start rows c.sound in
       counts_fit nights rows.stays kind d c.stays (omega (arith, fit))
 
   -- nothing was changed: of the kinds and nights no more is known, and of the rows nothing

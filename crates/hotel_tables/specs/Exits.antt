@@ -1,15 +1,14 @@
 -- What is left of a connection's database where no books come of it, and why none come.
-use Rattle.std.specs.Prelude.{◌≡◌, ◌⊎◌, true, false, ℕ, List, [], ◌∷◌, Ok, Err}
+use Rattle.std.specs.Prelude.{◌≡◌, ◌⊎◌, ◌++◌, true, false, ℕ, List, [], ◌∷◌, Ok, Err}
 use Rattle.sqlite_trees.specs.declared.store.Store.{Ghosts}
 use Rattle.sqlite.specs.declared.error.Error.{Error}
 use Rattle.sqlite.specs.Held.{Held, state}
 use Rattle.sqlite.specs.State.{HasCleanDisk, Survives}
 use Rattle.sqlite.specs.Steps.{FailsToCommit}
-use Rattle.hotel_statements.specs.Texts as text
 use Rattle.hotel_statements.specs.Books.{IsKept, KeepsRows}
 use Rattle.hotel_statements.specs.LookUps.{fault_of}
 use Rattle.hotel_statements.specs.NewDesk.{IsEmptyDesk}
-use Rattle.hotel_statements.specs.Statements.{Statement, RunsStatements, makes_table}
+use Rattle.hotel_statements.specs.Statements.{Statement, RunsStatements, adds_meta, makes_first, makes_last}
 use Rattle.hotel_statements.specs.Upgrade.{Upgrades}
 use Rattle.hotel_tables.specs.declared.open_fault.OpenFault.{OpenFault}
 use Rattle.hotel_statements.specs.declared.version.Version.{Version}
@@ -21,11 +20,7 @@ use Rattle.hotel_tables.specs.Opening.{MemoryFitsIn, IsSoundDesk, IsUpgraded}
 
 -- the statements that make a desk, in the order in which they run
 abbrev pub makes_desk : List Statement
-makes_desk =
-    makes_table text.create_meta ∷ makes_table text.create_kind ∷ makes_table text.create_room
-    ∷ makes_table text.create_stay ∷ makes_table text.create_code ∷ makes_table text.create_card
-    ∷ makes_table text.create_inside ∷ makes_table text.create_note ∷ makes_table text.create_fit
-    ∷ makes_table text.create_stay_room ∷ makes_table text.create_card_party ∷ (text.insert_meta, []) ∷ []
+makes_desk = makes_first ++ (makes_last ++ adds_meta ∷ [])
 
 module _ {S : Type 0} (g : Ghosts S) where
   -- No desk was made, of a connection from old to new: one of the statements of the transaction answered this error, or

@@ -1,12 +1,12 @@
 //! A new desk: nine tables, two indexes and the one row of meta, in one transaction.
 ghost use Rattle.std.specs.Prelude.{◌≡◌, ◌↔◌, IsTrue, OnOk, OnErr, IfOk, IfErr, Err, false};
 ghost use Rattle.sqlite.specs.Held.{state};
-ghost use Rattle.sqlite.specs.State.{HasCleanDisk, KeepsCommit, Survives};
+ghost use Rattle.sqlite.specs.State.{HasCleanDisk, Survives};
 ghost use Rattle.hotel_model.specs.Rows.{no_rows};
 ghost use Rattle.hotel_statements.specs.Schema.{no_schema};
 ghost use Rattle.hotel_statements.specs.Books.{IsKept, IsBooks};
 ghost use Rattle.hotel_statements.specs.NewDesk.{IfOpen, IsBare, IsMade, IsEmptyDesk};
-ghost use Rattle.hotel_statements.specs.Statements.{RunsStatements};
+ghost use Rattle.hotel_statements.specs.Statements.{MakesBy};
 ghost use Rattle.hotel_statements.specs.Tables.{rows_in};
 ghost use Rattle.hotel_tables.specs.declared.open_fault.OpenFault.TheVariants.{NotADesk};
 ghost use Rattle.hotel_tables.specs.Exits.{makes_desk, FailsToMake, LeavesBare};
@@ -23,12 +23,8 @@ use std::alloc::Global;
 /// Runs the statements that make a desk, within a transaction.
 fn write_desk<S: Alter>(tx: &mut Transaction<'_, S>) -> Result<(), Error>
     ensures same_reference { tx.new.conn.ghost_name ≡ tx.old.conn.ghost_name }
-    ensures answers { RunsStatements S.Store makes_desk tx.old.conn.now tx.new.conn.now result }
-    ensures made { HasCleanDisk (state S.Store tx.new.conn.now) → OnOk result
-        (IfOpen (IsBare no_schema) IsMade (state S.Store tx.old.conn.now) (state S.Store tx.new.conn.now)) }
-    ensures kept { HasCleanDisk (state S.Store tx.new.conn.now) →
-        KeepsCommit (state S.Store tx.old.conn.now) (state S.Store tx.new.conn.now) }
-    ensures survives { Survives (state S.Store tx.old.conn.now) (state S.Store tx.new.conn.now) (λ _. ⊥) }
+    ensures makes { MakesBy S.Store makes_desk (IfOpen (IsBare no_schema) IsMade)
+        tx.old.conn.now tx.new.conn.now result }
 {
     make_first(tx)?;
     make_last(tx)?;

@@ -62,7 +62,7 @@ fn books_of<S: Alter + Drop>(
 
 /// The options of a connection, with a salt that is drawn at random for its log.
 fn drawn_options(rt: &HostRuntime) -> Result<Options, Error>
-    ensures log { IfOk result (λ options. options.checkpoint_frames ≡ 4000) }
+    ensures log { IfOk result (λ options. options.checkpoint_frames ≡ CHECKPOINT_FRAMES) }
     ensures refused { IfErr result (λ e. e ≡ Error.SqliteFailure ErrorCode.CannotOpen) }
 {
     let Ok(state) = RandomState::new(rt) else {

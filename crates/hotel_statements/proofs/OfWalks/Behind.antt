@@ -29,6 +29,7 @@ use Rattle.sqlite.specs.Program.{overlay}
 use Rattle.sqlite.specs.Term.{Term, lit, col, holds}
 use Rattle.sqlite_sql.specs.Term.{op2}
 use Rattle.sqlite.specs.Tree.{Trees, IsAscending}
+use Rattle.keycard_rules.specs.declared.numbers.TheConstants.{LAST_FIT, LAST_NUMBER}
 use Rattle.hotel_model.specs.declared.rows.CodeRow.{CodeRow}
 use Rattle.hotel_model.specs.declared.rows.RoomRow.{RoomRow}
 use Rattle.hotel_model.specs.declared.rows.FitRow.{FitRow}
@@ -173,13 +174,13 @@ module _ (db : Trees) (t : AreTables db) (sound : IsSound (rows_in db)) where
   lock_low e known = lt_from _ _ (found_passes (λ (e : Room). nat_lt e.1.lock_place e.1.codes) rows.rooms e.0
       (row_at e) sound.room_lock_place (there e known))
 
-  codes_low : (e : Room) → Known e → e.1.codes ≤ 10000098
+  codes_low : (e : Room) → Known e → e.1.codes ≤ LAST_NUMBER + LAST_FIT
   codes_low e known =
       let few = le_from e.1.codes (length rows.cards + length (fits_at rows.fits e.1.room))
       (found_passes (λ (e : Room). nat_le e.1.codes (length rows.cards + length (fits_at rows.fits e.1.room)))
       rows.rooms e.0 (row_at e) sound.room_codes (there e known)) in
-      let cards : length rows.cards ≤ 9999999 = le_from (length rows.cards) 9999999
-      (tests.and_true _ (nat_le (length rows.cards) 9999999) sound.card_number).1 in
+      let cards : length rows.cards ≤ LAST_NUMBER = le_from (length rows.cards) LAST_NUMBER
+      (tests.and_true _ (nat_le (length rows.cards) LAST_NUMBER) sound.card_number).1 in
       let fits = fits_low rows sound e.0 (row_at e) (there e known) in
       omega (arith, few, cards, fits)
 

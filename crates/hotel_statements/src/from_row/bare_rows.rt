@@ -1,6 +1,5 @@
 //! Rooms and notes as their tables have them, and what they are with the fits of their rooms.
 ghost use Rattle.std.specs.Prelude.{◌≡◌, None, IfOk, IfErr};
-ghost use Rattle.sqlite.specs.Order.{Row as SqlRow};
 ghost use Rattle.hotel_model.specs.Rows.{last_fit};
 ghost use Rattle.hotel_rows.specs.Joined.{with_last, with_count, fit_of_number};
 ghost use Rattle.hotel_statements.specs.Columns.{room_row_of, note_row_of};

@@ -2,6 +2,7 @@ use Rattle.std.proofs.Common.{◌∙◌, ap, ap₂, inr, []}
 use Rattle.std.specs.Prelude.{length}
 use Rattle.sqlite.specs.Held.{state}
 use Rattle.sqlite.specs.Effect.{Database}
+use Rattle.keycard_rules.specs.declared.numbers.TheConstants.{LAST_NUMBER}
 use Rattle.hotel_model.specs.Refinement.Lookups.{number_after}
 use Rattle.hotel_statements.specs.Tables.{rows_in}
 use Rattle.hotel_statements.specs.Readable.{IsNumber, BeginsWith}
@@ -21,7 +22,7 @@ returns-in_err-card g c =
     (of_look c.in_ok-party.ensures) c.last_card.ensures.books c.last_card.ensures.keeps c.last_card.ensures.crash
     (λ clean. cause_passed c.from_residual-in_err-card.result _ c.from_residual-in_err-card.ensures (λ other.
     inr (fails_later old mid new (clean_before mid new c.last_card.ensures.crash) (c.in_ok-party.ensures.unchanged tt) c.in_ok-party.ensures.crash
-    text.select_last_card [] _ selects.select_last_card c.in_ok-party.ensures.books clean (BeginsWith (IsNumber 9999999)) (c.in_err-card.ensures.cause clean other))))
+    text.select_last_card [] _ selects.select_last_card c.in_ok-party.ensures.books clean (BeginsWith (IsNumber LAST_NUMBER)) (c.in_err-card.ensures.cause clean other))))
 
 pub returns : goal.returns
 returns g c =

@@ -1,37 +1,22 @@
-use Rattle.std.proofs.Common.{arith}
-use Rattle.std.proofs.lemmas.Result.{on_ok_weaker}
-use Rattle.sqlite.specs.Held.{state}
-use Rattle.sqlite.specs.State.{HasCleanDisk}
-use Rattle.hotel_statements.specs.NewDesk.{IsBare, with_meta, with_kind, with_room}
-use Rattle.hotel_statements.proofs.Makers.{make_meta, make_kind, make_room, make_stay}
-use Rattle.hotel_statements.proofs.InTurn.{answered, runs_then, runs_stopped}
+use Rattle.hotel_statements.proofs.Makers.{make_meta, make_kind, make_room, make_stay, bare_first, bare_then}
+use Rattle.hotel_statements.proofs.InTurn.{runs_on, made_stopped}
 use Rattle.hotel_statements.proofs.new_desk.make_first.Goals as goal
 
-pub returns-clause-made : goal.returns-clause-made
-returns-clause-made g c = λ clean.
-    let s1 = state g.S.Store c.make.new.tx.conn.now in
-    let s2 = state g.S.Store c.make-2.new.tx.conn.now in
-    let s3 = state g.S.Store c.make-3.new.tx.conn.now in
-    let k3 : HasCleanDisk s3 = omega (arith, c.make-4.ensures.survives.clean, clean) in
-    let k2 : HasCleanDisk s2 = omega (arith, c.make-3.ensures.survives.clean, k3) in
-    let k1 : HasCleanDisk s1 = omega (arith, c.make-2.ensures.survives.clean, k2) in
-    on_ok_weaker c.make-4.result (λ made bare.
-    let b1 : IsBare with_meta s1 = c.in_ok-make.ensures.made k1 _ _ make_meta bare in
-    let b2 : IsBare with_kind s2 = c.in_ok-make-2.ensures.made k2 _ _ make_kind (λ _. b1) in
-    let b3 : IsBare with_room s3 = c.in_ok-make-3.ensures.made k3 _ _ make_room (λ _. b2) in
-    made _ _ make_stay (λ _. b3)) (c.make-4.ensures.made clean)
+pub returns-in_err-make-clause-makes : goal.returns-in_err-make-clause-makes
+returns-in_err-make-clause-makes g c =
+    made_stopped _ c.from_residual.result c.from_residual.ensures.0 c.from_residual.ensures.1 c.in_err-make.ensures.makes
 
-pub returns-in_err-make-2-clause-answers : goal.returns-in_err-make-2-clause-answers
-returns-in_err-make-2-clause-answers g c =
-    runs_stopped _ c.from_residual-in_err-make-2.result (answered _ c.from_residual-in_err-make-2.ensures.1)
-    (runs_then c.in_ok-make.ensures.answers c.in_err-make-2.ensures.survives c.in_err-make-2.ensures.answers)
+pub returns-in_err-make-2-clause-makes : goal.returns-in_err-make-2-clause-makes
+returns-in_err-make-2-clause-makes g c =
+    made_stopped _ c.from_residual-in_err-make-2.result c.from_residual-in_err-make-2.ensures.0 c.from_residual-in_err-make-2.ensures.1 (runs_on c.in_ok-make.ensures.makes c.in_err-make-2.ensures.makes)
 
-pub returns-in_err-make-3-clause-answers : goal.returns-in_err-make-3-clause-answers
-returns-in_err-make-3-clause-answers g c =
-    runs_stopped _ c.from_residual-in_err-make-3.result (answered _ c.from_residual-in_err-make-3.ensures.1)
-    (runs_then (runs_then c.in_ok-make.ensures.answers c.in_ok-make-2.ensures.survives c.in_ok-make-2.ensures.answers) c.in_err-make-3.ensures.survives c.in_err-make-3.ensures.answers)
+pub returns-in_err-make-3-clause-makes : goal.returns-in_err-make-3-clause-makes
+returns-in_err-make-3-clause-makes g c =
+    made_stopped _ c.from_residual-in_err-make-3.result c.from_residual-in_err-make-3.ensures.0 c.from_residual-in_err-make-3.ensures.1 (runs_on (runs_on c.in_ok-make.ensures.makes c.in_ok-make-2.ensures.makes) c.in_err-make-3.ensures.makes)
 
-pub returns-clause-answers : goal.returns-clause-answers
-returns-clause-answers g c =
-    runs_then (runs_then (runs_then c.in_ok-make.ensures.answers c.in_ok-make-2.ensures.survives c.in_ok-make-2.ensures.answers) c.in_ok-make-3.ensures.survives c.in_ok-make-3.ensures.answers)
-    c.make-4.ensures.survives c.make-4.ensures.answers
+pub returns-clause-makes : goal.returns-clause-makes
+returns-clause-makes g c =
+    bare_then make_stay
+    (bare_then make_room
+    (bare_then make_kind (bare_first make_meta c.in_ok-make.ensures.makes) c.in_ok-make-2.ensures.makes)
+    c.in_ok-make-3.ensures.makes) c.make-4.ensures.makes

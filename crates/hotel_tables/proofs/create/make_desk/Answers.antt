@@ -2,17 +2,15 @@ use Rattle.std.proofs.Common.{◌≡◌, OnOk, OnErr, IsTrue, ap, not, ◌∙◌
 use Rattle.std.specs.Prelude.{IfErr}
 use Rattle.std.proofs.lemmas.Result.{on_ok_weaker}
 use Rattle.sqlite.specs.Held.{state}
-use Rattle.sqlite.specs.State.{State, HasCleanDisk, Survives}
-use Rattle.sqlite.proofs.StateLemmas.{survives_then, survives_weaker}
+use Rattle.sqlite.specs.State.{HasCleanDisk, Survives}
+use Rattle.sqlite.proofs.StateLemmas.{survives_weaker}
 use Rattle.hotel_statements.specs.Books.{IsKept}
 use Rattle.hotel_statements.specs.NewDesk.{IsEmptyDesk}
+use Rattle.hotel_statements.proofs.Ends.{none_new}
 use Rattle.hotel_statements.proofs.InTurn.{answered}
 use Rattle.hotel_tables.specs.Exits.{FailsToMake}
 use Rattle.hotel_tables.proofs.MadeDesk.{desk_made, commit_undone, undone, not_made, not_committed}
 use Rattle.hotel_tables.proofs.create.make_desk.Goals as goal
-
-none_then : {a b c : State} → Survives a b (λ _. ⊥) → Survives b c (λ _. ⊥) → Survives a c (λ _. ⊥)
-none_then {a} {b} {c} one two = survives_then a b c (λ _. ⊥) (λ _. ⊥) (λ _. ⊥) (λ _ _ none. none) (λ _ _ none. none) one two
 
 pub returns-in_err-write_desk-clause-crash : goal.returns-in_err-write_desk-clause-crash
 returns-in_err-write_desk-clause-crash g c =
@@ -20,11 +18,11 @@ returns-in_err-write_desk-clause-crash g c =
     let start = state g.S.Store c.transaction-tx.result.conn.now in
     let mid = state g.S.Store c.write_desk.new.tx.conn.now in
     let zero : Survives old start (λ _. ⊥) = search rules in
-    let all : Survives old mid (λ _. ⊥) = none_then zero c.write_desk.ensures.survives in
+    let all : Survives old mid (λ _. ⊥) = none_new zero c.write_desk.ensures.makes.survives in
     search (
       rules,
       survives_weaker _ _ (λ _. ⊥) IsEmptyDesk (λ _ _ none. absurd none)
-          (none_then all c.drop-tx.ensures.survives),
+          (none_new all c.drop-tx.ensures.survives),
     )
 
 pub returns-in_err-write_desk-clause-same : goal.returns-in_err-write_desk-clause-same
@@ -36,7 +34,7 @@ returns-in_err-write_desk-clause-same g c =
     let mid = state g.S.Store c.write_desk.new.tx.conn.now in
     search (
       rules,
-      undone old start mid _ _ (ap (state g.S.Store) c.transaction-tx.ensures.begun) settled c.write_desk.ensures.kept
+      undone old start mid _ _ (ap (state g.S.Store) c.transaction-tx.ensures.begun) settled c.write_desk.ensures.makes.kept
           c.drop-tx.ensures.survives c.drop-tx.ensures.undone,
     )
 
@@ -44,7 +42,7 @@ pub returns-in_err-write_desk-clause-failed : goal.returns-in_err-write_desk-cla
 returns-in_err-write_desk-clause-failed g c =
     not_made g.S.Store c.args.conn.now c.transaction-tx.result.conn.now c.write_desk.new.tx.conn.now _
     c.transaction-tx.ensures.begun c.from_residual.result (answered c.from_residual.result c.from_residual.ensures.1)
-    c.in_err-write_desk.ensures.answers
+    c.in_err-write_desk.ensures.makes.runs
 
 pub returns-clause-made : goal.returns-clause-made
 returns-clause-made g c =
@@ -53,7 +51,7 @@ returns-clause-made g c =
     let start = state g.S.Store c.transaction-tx.result.conn.now in
     let made : HasCleanDisk new → OnOk c.commit.result (IsEmptyDesk new.now.trees) =
     desk_made old start (state g.S.Store c.write_desk.new.tx.conn.now) new _
-    (ap (state g.S.Store) c.transaction-tx.ensures.begun) c.requires.bare c.in_ok-write_desk.ensures.made
+    (ap (state g.S.Store) c.transaction-tx.ensures.begun) c.requires.bare c.in_ok-write_desk.ensures.makes.made
     c.commit.ensures.survives c.commit.result c.commit.ensures.ok in
     search (rules, λ (kept : IsKept new). made kept.0)
 
@@ -73,13 +71,13 @@ returns-clause-same g c =
     let start = state g.S.Store c.transaction-tx.result.conn.now in
     let same : IsKept new → OnErr c.commit.result (new.now ≡ old.now) =
     commit_undone old start (state g.S.Store c.write_desk.new.tx.conn.now) new _
-    (ap (state g.S.Store) c.transaction-tx.ensures.begun) c.requires.bare c.in_ok-write_desk.ensures.made
-    c.commit.ensures.survives c.commit.result settled c.write_desk.ensures.kept c.commit.ensures.err in
+    (ap (state g.S.Store) c.transaction-tx.ensures.begun) c.requires.bare c.in_ok-write_desk.ensures.makes.made
+    c.commit.ensures.survives c.commit.result settled c.write_desk.ensures.makes.kept c.commit.ensures.err in
     search (rules, same)
 
 pub returns-clause-failed : goal.returns-clause-failed
 returns-clause-failed g c =
     let failed : IfErr c.commit.result (FailsToMake g.S.Store c.args.conn.now c.commit.new.self.0) =
     not_committed g.S.Store c.args.conn.now c.transaction-tx.result.conn.now c.write_desk.new.tx.conn.now
-    c.commit.new.self.0 c.transaction-tx.ensures.begun tt c.commit.result c.in_ok-write_desk.ensures.answers c.commit.ensures.err in
+    c.commit.new.self.0 c.transaction-tx.ensures.begun tt c.commit.result c.in_ok-write_desk.ensures.makes.runs c.commit.ensures.err in
     search (rules, failed)

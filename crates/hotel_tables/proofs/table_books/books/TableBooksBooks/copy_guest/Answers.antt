@@ -8,11 +8,13 @@ pub returns : goal.returns
 returns g c = record {
   answer = search rules;
   kept = search rules;
-  was_clean = search rules;
-  was_honest = search rules;
+  since = record {
+    was_clean = search rules;
+    was_honest = search rules;
+    counted = λ why. omega (arith, c.in_ok-ask.ensures.counted why, c.counting.ensures.counted why);
+  };
   vouched = search rules;
   stop = search rules;
-  counted = λ why. omega (arith, c.in_ok-ask.ensures.counted why, c.counting.ensures.counted why);
   fault = rw c.counting.ensures.same (IfErr-weaker _ _ _ (λ why risen. risen_later _ _ _ (c.in_ok-ask.ensures.counted
       why) risen (c.counting.ensures.counted why)) c.counting.ensures.risen);
   cause = search rules;

@@ -19,11 +19,13 @@ returns g c =
           c.args.arrive))
           (asked.keeps kept).1;
       kept = λ kept. ap (λ (d : Database). rows_in d.trees) (asked.keeps kept).1;
-      was_clean = λ kept. (asked.keeps kept).0;
-      was_honest = search rules;
+      since = record {
+        was_clean = λ kept. (asked.keeps kept).0;
+        was_honest = search rules;
+        counted = c.in_ok-ask.ensures.counted;
+      };
       vouched = search rules;
       stop = asked.crash;
-      counted = c.in_ok-ask.ensures.counted;
       fault = tt;
       cause = λ _. tt;
       sure = λ never. absurd never;
