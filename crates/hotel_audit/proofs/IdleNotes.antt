@@ -38,27 +38,34 @@ after_lines h [] = h
 after_lines h (line.Note note ∷ lines) = after_lines (after_note h note) lines
 after_lines h (line.Unread cause ∷ lines) = after_lines h lines
 
-pub after_lines-append : (h : History) (front rest : List Line) → after_lines h (front ++ rest) ≡ after_lines (after_lines h front) rest
+pub after_lines-append : (h : History) (front rest : List Line)
+    → after_lines h (front ++ rest) ≡ after_lines (after_lines h front) rest
 after_lines-append h [] rest = refl
 after_lines-append h (line.Note note ∷ front) rest = after_lines-append (after_note h note) front rest
 after_lines-append h (line.Unread cause ∷ front) rest = after_lines-append h front rest
 
-stepped : (h : History) (s : Stream) (note : Note) (given : Reply) (h' : History) (s' : Stream) → StepsIf false h s (command.Reported note) given h' s' → h' ≡ after_note h note
+stepped : (h : History) (s : Stream) (note : Note) (given : Reply) (h' : History) (s' : Stream)
+    → StepsIf false h s (command.Reported note) given h' s' → h' ≡ after_note h note
 stepped h s note given h' s' d = d.1 ∙ ap (λ (o : Outcome Event). grown h o.happens) (same_words h (words 64 s) note)
 
 -- lines lead to the history after their notes
-pub lead_to : (h h' : History) (s s' : Stream) (lines : List Line) (answers : List LineAnswer) → AreAnswered lines answers → Runs h s (commands_of lines) (replies_in answers) h' s' → h' ≡ after_lines h lines
+pub lead_to : (h h' : History) (s s' : Stream) (lines : List Line) (answers : List LineAnswer)
+    → AreAnswered lines answers → Runs h s (commands_of lines) (replies_in answers) h' s' → h' ≡ after_lines h lines
 lead_to h h' s s' [] [] each r = r.0
 lead_to h h' s s' (line.Note note ∷ lines) (Taken ∷ answers) each r =
-    lead_to r.0 h' r.1 s' lines answers each.1 r.3 ∙ ap (λ z. after_lines z lines) (stepped h s note reply.Taken r.0 r.1 r.2)
+    lead_to r.0 h' r.1 s' lines answers each.1 r.3
+    ∙ ap (λ z. after_lines z lines) (stepped h s note reply.Taken r.0 r.1 r.2)
 lead_to h h' s s' (line.Note note ∷ lines) (Seen ∷ answers) each r =
-    lead_to r.0 h' r.1 s' lines answers each.1 r.3 ∙ ap (λ z. after_lines z lines) (stepped h s note reply.Seen r.0 r.1 r.2)
+    lead_to r.0 h' r.1 s' lines answers each.1 r.3
+    ∙ ap (λ z. after_lines z lines) (stepped h s note reply.Seen r.0 r.1 r.2)
 lead_to h h' s s' (line.Note note ∷ lines) (Unread cause ∷ answers) each r = absurd each.0
 lead_to h h' s s' (line.Note note ∷ lines) (Refused why ∷ answers) each r =
     let step = subst (λ b. StepsIf b h s (command.Reported note) (reply.Refused why) r.0 r.1) each.0 r.2 in
-    lead_to r.0 h' r.1 s' lines answers each.1 r.3 ∙ ap (λ z. after_lines z lines) (stepped h s note (reply.Refused why) r.0 r.1 step)
+    lead_to r.0 h' r.1 s' lines answers each.1 r.3
+    ∙ ap (λ z. after_lines z lines) (stepped h s note (reply.Refused why) r.0 r.1 step)
 lead_to h h' s s' (line.Unread cause ∷ lines) (a ∷ answers) each r =
-    lead_to h h' s s' lines answers each.1 (subst (λ x. Runs h s (commands_of lines) (replies_in (x ∷ answers)) h' s') each.0 r)
+    lead_to h h' s s' lines answers each.1
+    (subst (λ x. Runs h s (commands_of lines) (replies_in (x ∷ answers)) h' s') each.0 r)
 lead_to h h' s s' [] (a ∷ answers) each r = absurd each
 lead_to h h' s s' (line.Note note ∷ lines) [] each r = absurd each
 lead_to h h' s s' (line.Unread cause ∷ lines) [] each r = absurd each
@@ -124,7 +131,8 @@ idle_here : (h : History) (later note : Note) → later.room ≡ note.room → l
 idle_here h later note same fit low next = idle_below (h ▷ event_of later) note long
   where
     now : notes (h ▷ event_of later) note.room ≡ notes h note.room ++ later ∷ []
-    now = ap (λ o. with_note note.room o (notes h note.room)) (noted later) ∙ ap (λ b. when b (and_last later) (notes h note.room)) (ap (λ z. z == note.room) same ∙ eq_self note.room)
+    now = ap (λ o. with_note note.room o (notes h note.room)) (noted later)
+        ∙ ap (λ b. when b (and_last later) (notes h note.room)) (ap (λ z. z == note.room) same ∙ eq_self note.room)
 
     more : length (notes_of (h ▷ event_of later) note.room note.fit) ≡ length (notes_of h note.room note.fit) + 1
     more = ap (λ (zs : List Note). length (under note.fit zs)) now ∙ under_more (notes h note.room) later note.fit fit
@@ -169,7 +177,8 @@ idle_after h later note low next i = by (later.room == note.room) refl
   where
     by : (b : Bool) → (later.room == note.room) ≡ b → Idle (h ▷ event_of later) note
     by true q = let same = eq_from later.room note.room q in idle_in_room h later note same (low same) next.0 next.1
-    by false q = ap (λ (o : Outcome Event). o.happens) (answered_same h (h ▷ event_of later) [] note (other_room h later note.room q)) ∙ i
+    by false q = ap (λ (o : Outcome Event). o.happens)
+        (answered_same h (h ▷ event_of later) [] note (other_room h later note.room q)) ∙ i
 
 idle_step : (h : History) (later note : Note)
     → (later.room ≡ note.room → later.fit ≡ note.fit → note.count ≤ later.count) → Idle h note
@@ -188,9 +197,11 @@ idle_own h note =
       | inr n ↦ subst (λ o. Idle (grown h o) note) (sym n.0) n.0
     ]
 
-idle_along : (h : History) (note : Note) (lines : List Line) → NoneLower note lines → Idle h note → Idle (after_lines h lines) note
+idle_along : (h : History) (note : Note) (lines : List Line)
+    → NoneLower note lines → Idle h note → Idle (after_lines h lines) note
 idle_along h note [] low i = i
-idle_along h note (line.Note later ∷ lines) low i = idle_along (after_note h later) note lines low.1 (idle_step h later note low.0 i)
+idle_along h note (line.Note later ∷ lines) low i =
+    idle_along (after_note h later) note lines low.1 (idle_step h later note low.0 i)
 idle_along h note (line.Unread cause ∷ lines) low i = idle_along h note lines low i
 
 -- no note of the lines would be taken
@@ -202,11 +213,13 @@ AreIdle h (line.Unread cause ∷ lines) = AreIdle h lines
 -- after lines in which no lock's counts fall, no note of them would be taken
 pub all_idle : (h : History) (lines : List Line) → CountsDoNotFall lines → AreIdle (after_lines h lines) lines
 all_idle h [] c = tt
-all_idle h (line.Note note ∷ lines) c = (idle_along (after_note h note) note lines c.0 (idle_own h note), all_idle (after_note h note) lines c.1)
+all_idle h (line.Note note ∷ lines) c =
+    (idle_along (after_note h note) note lines c.0 (idle_own h note), all_idle (after_note h note) lines c.1)
 all_idle h (line.Unread cause ∷ lines) c = all_idle h lines c
 
 -- such lines change nothing
 pub still : (h : History) (lines : List Line) → AreIdle h lines → after_lines h lines ≡ h
 still h [] i = refl
-still h (line.Note note ∷ lines) i = let same : after_note h note ≡ h = ap (grown h) i.0 in ap (λ z. after_lines z lines) same ∙ still h lines i.1
+still h (line.Note note ∷ lines) i =
+    let same : after_note h note ≡ h = ap (grown h) i.0 in ap (λ z. after_lines z lines) same ∙ still h lines i.1
 still h (line.Unread cause ∷ lines) i = still h lines i

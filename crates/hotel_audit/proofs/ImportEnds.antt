@@ -18,27 +18,35 @@ use Rattle.hotel_audit.specs.Import.{IsFrontOf, LinesLeadOn, NextFails, has_take
 use Rattle.hotel_audit.proofs.LineAnswers.{lead-none, lead-same}
 
 -- an import that was stopped ended after a front of the file's lines
-ends_stopped : (by : LookFault) (file : Result (List Line) AuditFault) (lines : List Line) (answers : List LineAnswer) (answered : ℕ) (taken : Bool)
+ends_stopped : (by : LookFault) (file : Result (List Line) AuditFault) (lines : List Line)
+    (answers : List LineAnswer) (answered : ℕ) (taken : Bool)
     → IsFrontOf file lines answers answered taken → EndsAfter file (Err (stopped by answered taken)) lines answers
 ends_stopped look.Memory file lines answers answered taken front = front
 ends_stopped look.Store file lines answers answered taken front = front
 
 -- it left what the line left that failed
-leaves_stopped : {B : Type 0} (I : IssuedOf B) (rows : B → Rows) (by : LookFault) (file : Result (List Line) AuditFault) (lines : List Line) (old new : B) (answered : ℕ) (taken : Bool)
+leaves_stopped : {B : Type 0} (I : IssuedOf B) (rows : B → Rows) (by : LookFault) (file : Result (List Line) AuditFault)
+    (lines : List Line) (old new : B) (answered : ℕ) (taken : Bool)
     → NextFails I rows file lines old by new → LeavesBehind I rows file lines old (Err (stopped by answered taken)) new
 leaves_stopped I rows look.Memory file lines old new answered taken fails = fails
 leaves_stopped I rows look.Store file lines old new answered taken fails = fails
 
 -- the lines of a file, with one in their midst
-around : (lines : List Line) (i : ℕ) (next : Line) → take (i + 1) lines ≡ take i lines ++ next ∷ [] → lines ≡ take i lines ++ next ∷ drop (i + 1) lines
-around lines i next more = sym (take-append-drop (i + 1) lines) ∙ ap (λ front. front ++ drop (i + 1) lines) more ∙ append_assoc (take i lines) (next ∷ []) (drop (i + 1) lines)
+around : (lines : List Line) (i : ℕ) (next : Line)
+    → take (i + 1) lines ≡ take i lines ++ next ∷ [] → lines ≡ take i lines ++ next ∷ drop (i + 1) lines
+around lines i next more = sym (take-append-drop (i + 1) lines) ∙ ap (λ front. front ++ drop (i + 1) lines) more
+    ∙ append_assoc (take i lines) (next ∷ []) (drop (i + 1) lines)
 
 module _ {B : Type 0} (I : IssuedOf B) (rows : B → Rows) (old new : B) (honest : I.is_clean new → I.is_honest new) where
   -- these lines have these answers, which are vouched for
-  ended : (file : Result (List Line) AuditFault) (outcome : Result (List LineAnswer) ImportFault) (lines : List Line) (answers : List LineAnswer) → AreAnswered lines answers → EndsAfter file outcome lines answers
-      → (I.is_honest new → LinesLeadOn (I.is_clean old) (rows old) lines answers (I.is_clean new) (rows new)) → (I.is_honest new → replies_in answers ≢ [] → I.is_clean old)
-      → (I.is_honest new → OnOk outcome (replies_in answers ≢ [] → I.is_clean new)) → OnOk outcome (replies_in answers ≡ [] → I.is_clean old → I.is_clean new)
-      → (behind : B) → Passes (LineHappens I rows) old (zip lines answers) behind → LeavesBehind I rows file lines behind outcome new → Imports I rows file old new outcome
+  ended : (file : Result (List Line) AuditFault) (outcome : Result (List LineAnswer) ImportFault) (lines : List Line)
+      (answers : List LineAnswer) → AreAnswered lines answers → EndsAfter file outcome lines answers
+      → (I.is_honest new → LinesLeadOn (I.is_clean old) (rows old) lines answers (I.is_clean new) (rows new))
+      → (I.is_honest new → replies_in answers ≢ [] → I.is_clean old)
+      → (I.is_honest new → OnOk outcome (replies_in answers ≢ [] → I.is_clean new))
+      → OnOk outcome (replies_in answers ≡ [] → I.is_clean old → I.is_clean new)
+      → (behind : B) → Passes (LineHappens I rows) old (zip lines answers) behind
+      → LeavesBehind I rows file lines behind outcome new → Imports I rows file old new outcome
   ended file outcome lines answers each ends happened was_clean is_clean unasked behind through leaves = (
     lines,
     answers,
@@ -51,32 +59,46 @@ module _ {B : Type 0} (I : IssuedOf B) (rows : B → Rows) (old new : B) (honest
     leaves,
   )
 
-  pub all_answered : (lines : List Line) (answers : List LineAnswer) → AreAnswered lines answers → (I.is_clean new → I.is_clean old)
-      → (I.is_honest new → LinesLeadOn (I.is_clean old) (rows old) lines answers (I.is_clean new) (rows new)) → (I.is_honest new → replies_in answers ≢ [] → I.is_clean new)
-      → (replies_in answers ≡ [] → I.is_clean old → I.is_clean new) → Passes (LineHappens I rows) old (zip lines answers) new → Imports I rows (Ok lines) old new (Ok answers)
+  pub all_answered : (lines : List Line) (answers : List LineAnswer)
+      → AreAnswered lines answers → (I.is_clean new → I.is_clean old)
+      → (I.is_honest new → LinesLeadOn (I.is_clean old) (rows old) lines answers (I.is_clean new) (rows new))
+      → (I.is_honest new → replies_in answers ≢ [] → I.is_clean new)
+      → (replies_in answers ≡ [] → I.is_clean old → I.is_clean new)
+      → Passes (LineHappens I rows) old (zip lines answers) new → Imports I rows (Ok lines) old new (Ok answers)
   all_answered lines answers each was_clean happened vouched unasked through =
-      ended (Ok lines) (Ok answers) lines answers each (refl, refl) happened (λ now noted. was_clean (vouched now noted)) vouched unasked new through refl
+      ended (Ok lines) (Ok answers) lines answers each (refl, refl) happened
+      (λ now noted. was_clean (vouched now noted)) vouched unasked new through refl
 
   -- the line at this place failed
-  pub next_fails : (mid : B) (lines : List Line) (i : ℕ) (next : Line) (why : LookFault) → take (i + 1) lines ≡ take i lines ++ next ∷ [] → LineGoes I rows mid next (Err why) new
+  pub next_fails : (mid : B) (lines : List Line) (i : ℕ) (next : Line) (why : LookFault)
+      → take (i + 1) lines ≡ take i lines ++ next ∷ [] → LineGoes I rows mid next (Err why) new
       → NextFails I rows (Ok lines) (take i lines) mid why new
-  next_fails mid lines i next why more fails = (next, drop (i + 1) lines, ap (λ ls. Ok ls) (around lines i next more), fails)
+  next_fails mid lines i next why more fails =
+      (next, drop (i + 1) lines, ap (λ ls. Ok ls) (around lines i next more), fails)
 
   -- a line failed behind the state mid: those before it were answered, and what they led to stands
-  pub answered_before : (mid : B) (lines : List Line) (i : ℕ) (answers : List LineAnswer) (by : LookFault) → AreAnswered (take i lines) answers
-      → Since I.is_clean I.is_honest I.failures old mid → Since I.is_clean I.is_honest I.failures mid new → (I.is_clean new → rows new ≡ rows mid)
-      → (I.is_honest mid → LinesLeadOn (I.is_clean old) (rows old) (take i lines) answers (I.is_clean mid) (rows mid)) → (I.is_honest mid → replies_in answers ≢ [] → I.is_clean mid)
-      → Passes (LineHappens I rows) old (zip (take i lines) answers) mid → NextFails I rows (Ok lines) (take i lines) mid by new
+  pub answered_before : (mid : B) (lines : List Line) (i : ℕ) (answers : List LineAnswer) (by : LookFault)
+      → AreAnswered (take i lines) answers
+      → Since I.is_clean I.is_honest I.failures old mid → Since I.is_clean I.is_honest I.failures mid new
+      → (I.is_clean new → rows new ≡ rows mid)
+      → (I.is_honest mid → LinesLeadOn (I.is_clean old) (rows old) (take i lines) answers (I.is_clean mid) (rows mid))
+      → (I.is_honest mid → replies_in answers ≢ [] → I.is_clean mid)
+      → Passes (LineHappens I rows) old (zip (take i lines) answers) mid
+      → NextFails I rows (Ok lines) (take i lines) mid by new
       → Imports I rows (Ok lines) old new (Err (stopped by (length answers) (has_taken answers)))
   answered_before mid lines i answers by each before last same happened vouched through fails =
       ended (Ok lines) (Err (stopped by (length answers) (has_taken answers))) (take i lines) answers each
-      (ends_stopped by (Ok lines) (take i lines) answers (length answers) (has_taken answers) (drop i lines, ap (λ ls. Ok ls) (sym (take-append-drop i lines)), refl, refl))
-      (λ now. lead-same (I.is_clean old) (I.is_clean mid) (I.is_clean new) (rows old) (rows mid) (rows new) (take i lines) answers last.was_clean same (happened (last.was_honest now)))
+      (ends_stopped by (Ok lines) (take i lines) answers (length answers) (has_taken answers)
+      (drop i lines, ap (λ ls. Ok ls) (sym (take-append-drop i lines)), refl, refl))
+      (λ now. lead-same (I.is_clean old) (I.is_clean mid) (I.is_clean new) (rows old) (rows mid) (rows new)
+      (take i lines) answers last.was_clean same (happened (last.was_honest now)))
       (λ now noted. before.was_clean (vouched (last.was_honest now) noted)) (λ now. tt) tt mid through
       (leaves_stopped I rows by (Ok lines) (take i lines) mid new (length answers) (has_taken answers) fails)
 
 -- nothing was begun
-pub none_begun : {B : Type 0} (I : IssuedOf B) (rows : B → Rows) (old : B) → (I.is_clean old → I.is_honest old) → (file : Result (List Line) AuditFault) (why : AuditFault) → (why ≡ fault.Memory) ⊎ (file ≡ Err why)
+pub none_begun : {B : Type 0} (I : IssuedOf B) (rows : B → Rows) (old : B) → (I.is_clean old → I.is_honest old)
+    → (file : Result (List Line) AuditFault) (why : AuditFault) → (why ≡ fault.Memory) ⊎ (file ≡ Err why)
     → Imports I rows file old old (Err (File why))
 none_begun I rows old honest file why because =
-    ended I rows old old honest file (Err (File why)) [] [] tt (refl, refl, because) (λ now. lead-none (I.is_clean old) (rows old)) (λ now noted. absurd (noted refl)) (λ now. tt) tt old refl refl
+    ended I rows old old honest file (Err (File why)) [] [] tt (refl, refl, because)
+    (λ now. lead-none (I.is_clean old) (rows old)) (λ now noted. absurd (noted refl)) (λ now. tt) tt old refl refl

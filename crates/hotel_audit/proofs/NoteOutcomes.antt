@@ -54,7 +54,8 @@ by_act h present taken note (act.Entered number link) w next =
     checked present taken note
     (needs (is_card h number) NoCard ∷ needs (has_link h number link) CardDiffers
     ∷ needs (opens h note.room link) LockShut ∷ [])
-    (accepted reply.Taken (event_by note (act.Entered number link))) (inl (refl, ap (λ a. Some (event_by note a)) w, next))
+    (accepted reply.Taken (event_by note (act.Entered number link)))
+    (inl (refl, ap (λ a. Some (event_by note a)) w, next))
 by_act h present taken note (act.Left number link) w next =
     checked present taken note
     (needs (is_card h number) NoCard ∷ needs (has_link h number link) CardDiffers
@@ -104,6 +105,7 @@ note_outcome h ahead note =
     (by_standing h present (length its) note later)
 
 -- the words of the source play no part
-pub same_words : (h : History) (ahead : List ℕ) (note : Note) → answer_to h ahead (command.Reported note) ≡ answer_to h [] (command.Reported note)
+pub same_words : (h : History) (ahead : List ℕ) (note : Note)
+    → answer_to h ahead (command.Reported note) ≡ answer_to h [] (command.Reported note)
 unfolding answer_to
 same_words h ahead note = refl

@@ -12,12 +12,14 @@ use Rattle.hotel_audit.specs.declared.line.Line.TheVariants as line
 use Rattle.hotel_audit.specs.Import.{IsAnswerTo, answer_of, replies_in}
 
 -- the reply to a note that is answered so is that answer's
-pub answered_reply : (note : Note) (given : Reply) (answer : LineAnswer) → Ok answer ≡ answer_of given → IsAnswerTo (line.Note note) answer × (replies_in (answer ∷ []) ≡ given ∷ [])
+pub answered_reply : (note : Note) (given : Reply) (answer : LineAnswer)
+    → Ok answer ≡ answer_of given → IsAnswerTo (line.Note note) answer × (replies_in (answer ∷ []) ≡ given ∷ [])
 answered_reply note reply.Taken answer e = let same : answer ≡ Taken = cc e in rw same (tt, refl)
 answered_reply note reply.Seen answer e = let same : answer ≡ Seen = cc e in rw same (tt, refl)
 answered_reply note (reply.Refused why) answer e = by (is_failed (reply.Refused why)) refl
   where
-    by : (b : Bool) → is_failed (reply.Refused why) ≡ b → IsAnswerTo (line.Note note) answer × (replies_in (answer ∷ []) ≡ reply.Refused why ∷ [])
+    by : (b : Bool) → is_failed (reply.Refused why) ≡ b
+        → IsAnswerTo (line.Note note) answer × (replies_in (answer ∷ []) ≡ reply.Refused why ∷ [])
     by true q = let f = rw q at e in cc f
     by false q = let f = rw q at e in let same : answer ≡ Refused why = cc f in rw same (q, refl)
 answered_reply note _ answer e = cc e
@@ -32,7 +34,8 @@ answered_sure (reply.Refused why) answer e = by (is_failed (reply.Refused why)) 
 answered_sure _ answer e = refl
 
 -- a reply that a note may be given and that is no answer says that memory or the store failed
-pub failed_reply : (given : Reply) (why : LookFault) → Err why ≡ answer_of given → IsNoteReply given → is_failed given ≡ true
+pub failed_reply : (given : Reply) (why : LookFault)
+    → Err why ≡ answer_of given → IsNoteReply given → is_failed given ≡ true
 failed_reply reply.Taken why e n = cc e
 failed_reply reply.Seen why e n = cc e
 failed_reply (reply.Refused r) why e n = by (is_failed (reply.Refused r)) refl
@@ -43,7 +46,8 @@ failed_reply (reply.Refused r) why e n = by (is_failed (reply.Refused r)) refl
 failed_reply _ why e n = absurd n
 
 -- the failure that is told is the one that the reply tells
-pub failure_told : (given : Reply) (why : LookFault) → Err why ≡ answer_of given → is_failed given ≡ true → failure_in given ≡ refusal_of why ∷ []
+pub failure_told : (given : Reply) (why : LookFault)
+    → Err why ≡ answer_of given → is_failed given ≡ true → failure_in given ≡ refusal_of why ∷ []
 failure_told (reply.Refused refusal.Memory) why e f = let same : why ≡ look.Memory = cc e in rw same refl
 failure_told (reply.Refused refusal.Store) why e f = let same : why ≡ look.Store = cc e in rw same refl
 failure_told _ why e f = cc f

@@ -49,7 +49,11 @@ date_in_range a d e =
     let first = and_true _ (nat_le 1 a.day) days.0 in
     let months = and_true (nat_le 1 a.month) (nat_le a.month 12) first.0 in
     let year : a.year ≤ 2099 = leb-true _ _ years.1 in
-    let high = count-high a.year a.month a.day year ((grind (arith, ints), grind (arith, ints)), (leb-true _ _ months.0, leb-true _ _ months.1), (leb-true _ _ first.1, leb-true _ _ days.1)) in
+    let high = count-high a.year a.month a.day year (
+      (grind (arith, ints), grind (arith, ints)),
+      (leb-true _ _ months.0, leb-true _ _ months.1),
+      (leb-true _ _ first.1, leb-true _ _ days.1),
+    ) in
     omega (arith, high, first_count, g.1)
 
 day_by : (o : Option Ymd) (d : ℕ) → option_and_then day_of_date o ≡ Some d → d ≤ 36524
@@ -71,25 +75,32 @@ parts_in_range h m s t e =
     let first = and_true (nat_le h 23) (nat_le m 59) last.0 in
     omega (arith, leb-true h 23 first.0, leb-true m 59 first.1, leb-true s 59 last.1, g.1)
 
-three_by : (h m s : Option ℕ) (t : ℕ) → option_and_then (λ x. option_and_then (λ y. option_and_then (λ z. second_of x y z) s) m) h ≡ Some t → t ≤ 86399
+three_by : (h m s : Option ℕ) (t : ℕ)
+    → option_and_then (λ x. option_and_then (λ y. option_and_then (λ z. second_of x y z) s) m) h ≡ Some t → t ≤ 86399
 three_by (Some h) (Some m) (Some s) t e = parts_in_range h m s t e
 three_by _ _ _ t e = cc e
 
-time_by : (b : Bool) (h m s : Option ℕ) (t : ℕ) → (if b then option_and_then (λ x. option_and_then (λ y. option_and_then (λ z. second_of x y z) s) m) h else None) ≡ Some t → t ≤ 86399
+time_by : (b : Bool) (h m s : Option ℕ) (t : ℕ)
+    → (if b then option_and_then (λ x. option_and_then (λ y. option_and_then (λ z. second_of x y z) s) m) h else None)
+    ≡ Some t → t ≤ 86399
 time_by true h m s t e = three_by h m s t e
 time_by false h m s t e = cc e
 
 -- a time that was read is one of a day
 time_in_range : (text : List ℕ) (t : ℕ) → read_time text ≡ Some t → t ≤ 86399
 time_in_range text t e =
-    time_by ((length text == 8) && (slice_index text 2 == 58) && (slice_index text 5 == 58)) (numeral 10 2 (slice_range text 0 2)) (numeral 10 2 (slice_range text 3 5)) (numeral 10 2 (slice_range text 6 8)) t e
+    time_by ((length text == 8) && (slice_index text 2 == 58) && (slice_index text 5 == 58)) (numeral 10 2
+    (slice_range text 0 2)) (numeral 10 2 (slice_range text 3 5)) (numeral 10 2 (slice_range text 6 8)) t e
 
-both_by : (d s : Option ℕ) (m : ℕ × ℕ) → ((n : ℕ) → d ≡ Some n → n ≤ 36524) → ((n : ℕ) → s ≡ Some n → n ≤ 86399) → option_and_then (λ x. option_and_then (λ y. Some (x, y)) s) d ≡ Some m → IsTimed m.0 m.1
-both_by (Some d) (Some s) m f g e = let same : (d, s) ≡ m = cc e in subst (λ (z : ℕ × ℕ). IsTimed z.0 z.1) same (f d refl, g s refl)
+both_by : (d s : Option ℕ) (m : ℕ × ℕ) → ((n : ℕ) → d ≡ Some n → n ≤ 36524) → ((n : ℕ) → s ≡ Some n → n ≤ 86399)
+    → option_and_then (λ x. option_and_then (λ y. Some (x, y)) s) d ≡ Some m → IsTimed m.0 m.1
+both_by (Some d) (Some s) m f g e =
+    let same : (d, s) ≡ m = cc e in subst (λ (z : ℕ × ℕ). IsTimed z.0 z.1) same (f d refl, g s refl)
 both_by (Some d) None m f g e = cc e
 both_by None s m f g e = cc e
 
-moment_by : (b : Bool) (d s : Option ℕ) (m : ℕ × ℕ) → ((n : ℕ) → d ≡ Some n → n ≤ 36524) → ((n : ℕ) → s ≡ Some n → n ≤ 86399)
+moment_by : (b : Bool) (d s : Option ℕ) (m : ℕ × ℕ)
+    → ((n : ℕ) → d ≡ Some n → n ≤ 36524) → ((n : ℕ) → s ≡ Some n → n ≤ 86399)
     → (if b then option_and_then (λ x. option_and_then (λ y. Some (x, y)) s) d else None) ≡ Some m → IsTimed m.0 m.1
 moment_by true d s m f g e = both_by d s m f g e
 moment_by false d s m f g e = cc e
@@ -97,7 +108,8 @@ moment_by false d s m f g e = cc e
 -- a moment that was read is a day of the calendar's and a second of a day's
 moment_in_range : (text : List ℕ) (m : ℕ × ℕ) → read_moment text ≡ Some m → IsTimed m.0 m.1
 moment_in_range text m e =
-    moment_by ((length text == 19) && ((slice_index text 10 == 84) || (slice_index text 10 == 32))) (read_day (slice_range text 0 10)) (read_time (slice_range text 11 19)) m
+    moment_by ((length text == 19) && ((slice_index text 10 == 84) || (slice_index text 10 == 32)))
+    (read_day (slice_range text 0 10)) (read_time (slice_range text 11 19)) m
     (day_read_in_range (slice_range text 0 10)) (time_in_range (slice_range text 11 19)) e
 
 -- the line's note has its values in range
@@ -116,9 +128,18 @@ line_by room fit count what old new moment =
       o ← ok_or old BadOld
       n ← ok_or new BadNew
       m ← ok_or moment BadMoment
-      Ok (record { room = r; fit = f; count = c; act = act_of w (record { old_code = o; new_code = n }); day = m.0; second = m.1 }))
+      Ok (record {
+        room = r;
+        fit = f;
+        count = c;
+        act = act_of w (record { old_code = o; new_code = n });
+        day = m.0;
+        second = m.1;
+      }))
 
-line_ranges : (room fit count : Option ℕ) (what : Result Happening Cause) (old new : Option ℕ) (moment : Option (ℕ × ℕ)) → ((x : ℕ) → fit ≡ Some x → IsFit x) → ((c : ℕ) → count ≡ Some c → IsCount c) → ((m : ℕ × ℕ) → moment ≡ Some m → IsTimed m.0 m.1)
+line_ranges : (room fit count : Option ℕ) (what : Result Happening Cause) (old new : Option ℕ) (moment : Option (ℕ × ℕ))
+    → ((x : ℕ) → fit ≡ Some x → IsFit x) → ((c : ℕ) → count ≡ Some c → IsCount c)
+    → ((m : ℕ × ℕ) → moment ≡ Some m → IsTimed m.0 m.1)
     → IsLineInRange (line_by room fit count what old new moment)
 line_ranges (Some r) (Some x) (Some c) (Ok w) (Some o) (Some n) (Some m) e f g = (f c refl, g m refl, e x refl)
 line_ranges _ _ _ _ _ _ _ e f g = tt
@@ -126,7 +147,9 @@ line_ranges _ _ _ _ _ _ _ e f g = tt
 fields_in_range : (fields : Option FieldTexts) → IsLineInRange (line_with fields)
 fields_in_range None = tt
 fields_in_range (Some fields) =
-    line_ranges (number_up_to 9999 fields.room) (number_up_to 99 fields.fit) (number_up_to 9999999 fields.count) (happening fields.kind fields.card) (read_code fields.old_code) (read_code fields.new_code) (read_moment fields.moment)
+    line_ranges (number_up_to 9999 fields.room) (number_up_to 99 fields.fit)
+    (number_up_to 9999999 fields.count) (happening fields.kind fields.card) (read_code fields.old_code)
+    (read_code fields.new_code) (read_moment fields.moment)
     (number_in_range 99 fields.fit) (number_in_range 9999999 fields.count) (moment_in_range fields.moment)
 
 -- the notes of the lines have their values in range
@@ -138,15 +161,18 @@ all_read : (columns : Columns) (rows : List (List (List ℕ))) → AreInRange (m
 all_read columns [] = tt
 all_read columns (row ∷ rows) = (fields_in_range (fields_under columns row), all_read columns rows)
 
-header_by : (columns : Option Columns) (rows : List (List (List ℕ))) (lines : List Line) → lines_under columns rows ≡ Ok lines → AreInRange lines
-header_by (Some columns) rows lines e = let same : map (read_line columns) rows ≡ lines = cc e in subst AreInRange same (all_read columns rows)
+header_by : (columns : Option Columns) (rows : List (List (List ℕ))) (lines : List Line)
+    → lines_under columns rows ≡ Ok lines → AreInRange lines
+header_by (Some columns) rows lines e =
+    let same : map (read_line columns) rows ≡ lines = cc e in subst AreInRange same (all_read columns rows)
 header_by None rows lines e = cc e
 
 rows_by : (rows : List (List (List ℕ))) (lines : List Line) → lines_of rows ≡ Ok lines → AreInRange lines
 rows_by [] lines e = cc e
 rows_by (first ∷ later) lines e = header_by (columns_of first) later lines e
 
-file_by : (b : Bool) (rows : List (List (List ℕ))) (lines : List Line) → (if b then Err TooLarge else lines_of rows) ≡ Ok lines → AreInRange lines
+file_by : (b : Bool) (rows : List (List (List ℕ))) (lines : List Line)
+    → (if b then Err TooLarge else lines_of rows) ≡ Ok lines → AreInRange lines
 file_by true rows lines e = cc e
 file_by false rows lines e = rows_by rows lines e
 
@@ -161,5 +187,6 @@ front_in_range (l ∷ front) rest a = (a.0, front_in_range front rest a.1)
 -- so have the commands that the lines are
 pub commands_in_range : (lines : List Line) → AreInRange lines → All IsCommand (commands_of lines)
 commands_in_range [] a = All-nil IsCommand
-commands_in_range (line.Note note ∷ lines) a = All-cons IsCommand (command.Reported note) (commands_of lines) a.0 (commands_in_range lines a.1)
+commands_in_range (line.Note note ∷ lines) a =
+    All-cons IsCommand (command.Reported note) (commands_of lines) a.0 (commands_in_range lines a.1)
 commands_in_range (line.Unread cause ∷ lines) a = commands_in_range lines a.1

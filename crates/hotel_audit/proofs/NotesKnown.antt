@@ -73,7 +73,8 @@ fit_more h (Refitted room number code) r fit may there had = by (room == r) refl
     by false q = had
 fit_more h _ r fit may there had = had
 
-begins_longer : (k : ℕ) (xs ys : List Note) (note : Note) → BeginsWith (drop k xs) note → BeginsWith (drop k (xs ++ ys)) note
+begins_longer : (k : ℕ) (xs ys : List Note) (note : Note)
+    → BeginsWith (drop k xs) note → BeginsWith (drop k (xs ++ ys)) note
 begins_longer zero [] ys note b = absurd b
 begins_longer zero (x ∷ xs) ys note b = b
 begins_longer (suc k) [] ys note b = absurd b
@@ -107,13 +108,15 @@ knows_grown : (h : History) (ahead : List ℕ) (c : Command) (o : Option Event) 
 knows_grown h ahead c None note q k = k
 knows_grown h ahead c (Some e) note q k = knows_more h e note (answers_follow h ahead c e q) k
 
-knows_after : (b : Bool) (h : History) (s : Stream) (c : Command) (reply : Reply) (h' : History) (s' : Stream) (note : Note) → StepsIf b h s c reply h' s' → Knows h note → Knows h' note
+knows_after : (b : Bool) (h : History) (s : Stream) (c : Command) (reply : Reply) (h' : History) (s' : Stream)
+    (note : Note) → StepsIf b h s c reply h' s' → Knows h note → Knows h' note
 knows_after true h s c reply h' s' note d k = subst (λ z. Knows z note) (sym d.0) k
 knows_after false h s c reply h' s' note d k =
     subst (λ z. Knows z note) (sym d.1) (knows_grown h (words 64 s) c (answered h s c).happens note refl k)
 
 -- what was taken stays so along a run
-pub knows_along : (h h' : History) (s s' : Stream) (commands : List Command) (replies : List Reply) (note : Note) → Runs h s commands replies h' s' → Knows h note → Knows h' note
+pub knows_along : (h h' : History) (s s' : Stream) (commands : List Command) (replies : List Reply) (note : Note)
+    → Runs h s commands replies h' s' → Knows h note → Knows h' note
 knows_along h h' s s' [] [] note r k = subst (λ z. Knows z note) (sym r.0) k
 knows_along h h' s s' (c ∷ commands) (p ∷ replies) note r k =
     knows_along r.0 h' r.1 s' commands replies note r.3 (knows_after (is_failed p) h s c p r.0 r.1 note r.2 k)
@@ -121,7 +124,8 @@ knows_along h h' s s' [] (p ∷ replies) note r k = absurd r
 knows_along h h' s s' (c ∷ commands) [] note r k = absurd r
 
 -- a note that was taken is answered Seen
-pub known_seen : (h : History) (ahead : List ℕ) (note : Note) → Knows h note → answer_to h ahead (command.Reported note) ≡ said reply.Seen
+pub known_seen : (h : History) (ahead : List ℕ) (note : Note)
+    → Knows h note → answer_to h ahead (command.Reported note) ≡ said reply.Seen
 unfolding answer_to
 known_seen h ahead note k = rw (k.begun, k.room, k.fit) (by (drop (note.count - 1) its) k.kept)
   where
@@ -143,7 +147,14 @@ same_act_itself (act.Recoded from to) = rw (eq-eqb from from refl, eq-eqb to to 
 
 same_note_itself : (n : Note) → same_note n n ≡ true
 same_note_itself n =
-    rw (eq-eqb n.room n.room refl, eq-eqb n.fit n.fit refl, eq-eqb n.count n.count refl, same_act_itself n.act, eq-eqb n.day n.day refl, eq-eqb n.second n.second refl) refl
+    rw (
+      eq-eqb n.room n.room refl,
+      eq-eqb n.fit n.fit refl,
+      eq-eqb n.count n.count refl,
+      same_act_itself n.act,
+      eq-eqb n.day n.day refl,
+      eq-eqb n.second n.second refl,
+    ) refl
 
 -- the next note of a fit is its last one afterwards
 next_kept : (note : Note) (taken : List Note) → note.count ≡ length (under note.fit taken) + 1
@@ -197,15 +208,18 @@ knows_told : (h : History) (note : Note) (what : Act) (o : Outcome Event) → wh
     → o ≡ told h note what → IsTaken o.reply → Knows (grown h o.happens) note
 knows_told h note (act.Entered number link) o w n e t =
     let ev = event.Entered note.room note.fit note.count number link (moment_of note) in
-    let same = unless_taken (needs (is_card h number) NoCard ∷ needs (has_link h number link) CardDiffers ∷ needs (opens h note.room link) LockShut ∷ []) (accepted reply.Taken ev) o e t in
+    let same = unless_taken (needs (is_card h number) NoCard ∷ needs (has_link h number link) CardDiffers
+    ∷ needs (opens h note.room link) LockShut ∷ []) (accepted reply.Taken ev) o e t in
     rw same (knows_next h ev note (ap (λ a. Some (record note { act = a })) w) refl n)
 knows_told h note (act.Left number link) o w n e t =
     let ev = event.Left note.room note.fit note.count number link (moment_of note) in
-    let same = unless_taken (needs (is_card h number) NoCard ∷ needs (has_link h number link) CardDiffers ∷ needs (is_one_of number (inside h note.room)) NotInside ∷ []) (accepted reply.Taken ev) o e t in
+    let same = unless_taken (needs (is_card h number) NoCard ∷ needs (has_link h number link) CardDiffers
+    ∷ needs (is_one_of number (inside h note.room)) NotInside ∷ []) (accepted reply.Taken ev) o e t in
     rw same (knows_next h ev note (ap (λ a. Some (record note { act = a })) w) refl n)
 knows_told h note (act.Recoded from to) o w n e t =
     let ev = event.Recoded note.room note.fit note.count from to (moment_of note) in
-    let same = unless_taken (needs (holds h note.room from) HeldDiffers ∷ needs (is_one_of to (awaited h note.room)) NotAwaited ∷ []) (accepted reply.Taken ev) o e t in
+    let same = unless_taken (needs (holds h note.room from) HeldDiffers
+    ∷ needs (is_one_of to (awaited h note.room)) NotAwaited ∷ []) (accepted reply.Taken ev) o e t in
     rw same (knows_next h ev note (ap (λ a. Some (record note { act = a })) w) refl n)
 
 knows_reported : (h : History) (note : Note) (o : Outcome Event) → is_begun h ≡ true → is_room h note.room ≡ true
@@ -243,14 +257,20 @@ knows_reported h note o begun room fit e t = by (drop (note.count - 1) its) refl
     by [] d = further is_present (rw d at e)
 
 -- a note whose reply is Taken or Seen was taken
-knows_answered : (h : History) (ahead : List ℕ) (note : Note) → IsTaken (answer_to h ahead (command.Reported note)).reply → Knows (grown h (answer_to h ahead (command.Reported note)).happens) note
+knows_answered : (h : History) (ahead : List ℕ) (note : Note)
+    → IsTaken (answer_to h ahead (command.Reported note)).reply
+    → Knows (grown h (answer_to h ahead (command.Reported note)).happens) note
 unfolding answer_to
 knows_answered h ahead note t =
     let o = reported h note (standing h note) in
     let checked = needs_taken (is_begun h) (is_room h note.room) (is_fit h note.room note.fit) o t in
-    rw (checked.0, checked.1, checked.2) (knows_reported h note (reported h note (standing h note)) checked.0 checked.1 checked.2 refl checked.3)
+    rw (checked.0, checked.1, checked.2)
+    (knows_reported h note (reported h note (standing h note)) checked.0 checked.1 checked.2 refl checked.3)
 
-pub knows_step : (h : History) (s : Stream) (note : Note) (given : Reply) (h' : History) (s' : Stream) → IsTaken given → Steps h s (command.Reported note) given h' s' → Knows h' note
-knows_step h s note reply.Taken h' s' t d = subst (λ z. Knows z note) (sym d.1) (knows_answered h (words 64 s) note (subst (λ r. IsTaken r) d.0 tt))
-knows_step h s note reply.Seen h' s' t d = subst (λ z. Knows z note) (sym d.1) (knows_answered h (words 64 s) note (subst (λ r. IsTaken r) d.0 tt))
+pub knows_step : (h : History) (s : Stream) (note : Note) (given : Reply) (h' : History) (s' : Stream)
+    → IsTaken given → Steps h s (command.Reported note) given h' s' → Knows h' note
+knows_step h s note reply.Taken h' s' t d =
+    subst (λ z. Knows z note) (sym d.1) (knows_answered h (words 64 s) note (subst (λ r. IsTaken r) d.0 tt))
+knows_step h s note reply.Seen h' s' t d =
+    subst (λ z. Knows z note) (sym d.1) (knows_answered h (words 64 s) note (subst (λ r. IsTaken r) d.0 tt))
 knows_step h s note _ h' s' t d = absurd t

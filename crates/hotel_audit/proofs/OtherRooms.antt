@@ -22,31 +22,39 @@ pub record SameAt (h k : History) (r : ℕ) : Type 0 where
   pub inside : inside k r ≡ inside h r
   pub notes : notes k r ≡ notes h r
 
-other_by : (o : Ordering) (room number r : ℕ) (e : ℕ × ℕ) (es : List (ℕ × ℕ)) → (room == r) ≡ false → those_in (insert_key pair_cmp es (room, number)) r ≡ those_in es r
-    → those_in (match_ordering o ((room, number) ∷ e ∷ es) (e ∷ es) (e ∷ insert_key pair_cmp es (room, number))) r ≡ those_in (e ∷ es) r
+other_by : (o : Ordering) (room number r : ℕ) (e : ℕ × ℕ) (es : List (ℕ × ℕ))
+    → (room == r) ≡ false → those_in (insert_key pair_cmp es (room, number)) r ≡ those_in es r
+    → those_in (match_ordering o ((room, number) ∷ e ∷ es) (e ∷ es) (e ∷ insert_key pair_cmp es (room, number))) r
+    ≡ those_in (e ∷ es) r
 other_by Less room number r e es f ih = ap (λ b. when b (λ numbers. number ∷ numbers) (those_in (e ∷ es) r)) f
 other_by Equal room number r e es f ih = refl
 other_by Greater room number r e es f ih = ap (λ ns. when (e.0 == r) (λ numbers. e.1 ∷ numbers) ns) ih
 
 -- who is inside a room, after a card came into another one
-other_came : (es : List (ℕ × ℕ)) (room number r : ℕ) → (room == r) ≡ false → those_in (insert_key pair_cmp es (room, number)) r ≡ those_in es r
+other_came : (es : List (ℕ × ℕ)) (room number r : ℕ)
+    → (room == r) ≡ false → those_in (insert_key pair_cmp es (room, number)) r ≡ those_in es r
 other_came [] room number r f = ap (λ b. when b (λ numbers. number ∷ numbers) []) f
-other_came (e ∷ es) room number r f = other_by (pair_cmp (room, number) e) room number r e es f (other_came es room number r f)
+other_came (e ∷ es) room number r f =
+    other_by (pair_cmp (room, number) e) room number r e es f (other_came es room number r f)
 
 -- who is inside a room, after a card left another one
-other_left : (es : List (ℕ × ℕ)) (room number r : ℕ) → (room == r) ≡ false → those_in (remove_key (is_at (pair_cmp (room, number))) es) r ≡ those_in es r
+other_left : (es : List (ℕ × ℕ)) (room number r : ℕ)
+    → (room == r) ≡ false → those_in (remove_key (is_at (pair_cmp (room, number))) es) r ≡ those_in es r
 other_left [] room number r f = refl
 other_left (e ∷ es) room number r f = by (is_at (pair_cmp (room, number)) e) refl (other_left es room number r f)
   where
-    by : (b : Bool) → is_at (pair_cmp (room, number)) e ≡ b → those_in (remove_key (is_at (pair_cmp (room, number))) es) r ≡ those_in es r
+    by : (b : Bool) → is_at (pair_cmp (room, number)) e ≡ b
+        → those_in (remove_key (is_at (pair_cmp (room, number))) es) r ≡ those_in es r
         → those_in (if b then es else e ∷ remove_key (is_at (pair_cmp (room, number))) es) r ≡ those_in (e ∷ es) r
     by true q ih =
-        let its_room : e.0 ≡ room = eq_from e.0 room (and_true (e.0 == room) (e.1 == number) (sym (pair_is room number e) ∙ q)).0 in
+        let its_room : e.0 ≡ room =
+        eq_from e.0 room (and_true (e.0 == room) (e.1 == number) (sym (pair_is room number e) ∙ q)).0 in
         let other : (e.0 == r) ≡ false = ap (λ z. z == r) its_room ∙ f in
         sym (ap (λ b. when b (λ numbers. e.1 ∷ numbers) (those_in es r)) other)
     by false q ih = ap (λ ns. when (e.0 == r) (λ numbers. e.1 ∷ numbers) ns) ih
 
-other_by_act : (h : History) (note : Note) (what : Act) (r : ℕ) → (note.room == r) ≡ false → SameAt h (h ▷ event_by note what) r
+other_by_act : (h : History) (note : Note) (what : Act) (r : ℕ)
+    → (note.room == r) ≡ false → SameAt h (h ▷ event_by note what) r
 other_by_act h note (act.Entered number link) r f = record {
   begun = refl;
   room = refl;
@@ -87,7 +95,8 @@ told_same h k note (act.Entered number link) s = rw (s.cards, s.held) refl
 told_same h k note (act.Left number link) s = rw (s.cards, s.inside) refl
 told_same h k note (act.Recoded from to) s = rw (s.held, s.awaited) refl
 
-reported_same : (h k : History) (note : Note) (st : Standing) → SameAt h k note.room → reported k note st ≡ reported h note st
+reported_same : (h k : History) (note : Note) (st : Standing)
+    → SameAt h k note.room → reported k note st ≡ reported h note st
 reported_same h k note Copy s = refl
 reported_same h k note Conflicting s = refl
 reported_same h k note OfOldFit s = refl
@@ -95,6 +104,7 @@ reported_same h k note (After expected) s = refl
 reported_same h k note Next s = told_same h k note note.act s
 
 -- histories that agree on a room answer its notes alike
-pub answered_same : (h k : History) (ahead : List ℕ) (note : Note) → SameAt h k note.room → answer_to k ahead (command.Reported note) ≡ answer_to h ahead (command.Reported note)
+pub answered_same : (h k : History) (ahead : List ℕ) (note : Note)
+    → SameAt h k note.room → answer_to k ahead (command.Reported note) ≡ answer_to h ahead (command.Reported note)
 unfolding answer_to
 answered_same h k ahead note s = rw (s.begun, s.room, s.fit, s.notes, reported_same h k note (standing h note) s) refl

@@ -15,17 +15,22 @@ pub other_length : (fields texts : List (List ℕ)) → length fields ≢ length
 other_length [] [] other = absurd (other refl)
 other_length [] (b ∷ more) other = refl
 other_length (a ∷ fields) [] other = refl
-other_length (a ∷ fields) (b ∷ more) other = and_no (bytes_eq a b) ∙ ap (λ rest. bytes_eq a b && rest) (other_length fields more (λ e. other (omega (arith, e))))
+other_length (a ∷ fields) (b ∷ more) other =
+    and_no (bytes_eq a b) ∙ ap (λ rest. bytes_eq a b && rest) (other_length fields more (λ e. other (omega (arith, e))))
 
 -- a field and a text at a place, and what is behind them
-pub next_text : (fields : List (List ℕ)) (texts : List (Bor (List ℕ))) (i : ℕ) (d : Bor (List ℕ)) (field : List ℕ) → i < length texts → Some field ≡ field_at fields i
+pub next_text : (fields : List (List ℕ)) (texts : List (Bor (List ℕ))) (i : ℕ) (d : Bor (List ℕ)) (field : List ℕ)
+    → i < length texts → Some field ≡ field_at fields i
     → are_same_texts (drop i fields) (map (λ text. text.now) (drop i texts))
-    ≡ (bytes_eq field (get_or texts i d).now && are_same_texts (drop (i + 1) fields) (map (λ text. text.now) (drop (i + 1) texts)))
+    ≡ (bytes_eq field (get_or texts i d).now
+    && are_same_texts (drop (i + 1) fields) (map (λ text. text.now) (drop (i + 1) texts)))
 unfolding field_at
 next_text [] texts i d field h e = cc e
 next_text (f ∷ fields) [] i d field h e = absurd (omega (arith, h))
 next_text (f ∷ fields) (t ∷ texts) zero d field h e = let same : field ≡ f = cc e in rw same refl
-next_text (f ∷ fields) (t ∷ texts) (suc i) d field h e = let later : suc i + 1 ≡ suc (i + 1) = omega arith in rw later (next_text fields texts i d field (omega (arith, h)) e)
+next_text (f ∷ fields) (t ∷ texts) (suc i) d field h e =
+    let later : suc i + 1 ≡ suc (i + 1) = omega arith in
+    rw later (next_text fields texts i d field (omega (arith, h)) e)
 
 -- where they differ, not all are the same
 pub text_differs : (all same rest ne : Bool) → all ≡ (same && rest) → ne ≡ not same → ne ≡ true → false ≡ all

@@ -30,13 +30,31 @@ texts_of f = record {
 -- the fields of a record, where they are eight
 abbrev pub eight_fields : List (List ℕ) → Option FieldTexts
 eight_fields (room ∷ fit ∷ count ∷ kind ∷ card ∷ old_code ∷ new_code ∷ moment ∷ []) =
-    Some (record { room = room; fit = fit; count = count; kind = kind; card = card; old_code = old_code; new_code = new_code; moment = moment })
+    Some (record {
+      room = room;
+      fit = fit;
+      count = count;
+      kind = kind;
+      card = card;
+      old_code = old_code;
+      new_code = new_code;
+      moment = moment;
+    })
 eight_fields _ = None
 
 -- the fields of a record, where they are seven: it is as if it named the room's first lock
 abbrev pub seven_fields : List (List ℕ) → Option FieldTexts
 seven_fields (room ∷ count ∷ kind ∷ card ∷ old_code ∷ new_code ∷ moment ∷ []) =
-    Some (record { room = room; fit = codes "1"; count = count; kind = kind; card = card; old_code = old_code; new_code = new_code; moment = moment })
+    Some (record {
+      room = room;
+      fit = codes "1";
+      count = count;
+      kind = kind;
+      card = card;
+      old_code = old_code;
+      new_code = new_code;
+      moment = moment;
+    })
 seven_fields _ = None
 
 -- the fields of a record, where they are as many as the columns

@@ -6,7 +6,8 @@ use Rattle.matchit.specs.declared.error.InsertError.TheVariants.{Conflict, Inval
 use Rattle.matchit.specs.declared.error.InsertError.TheVariants.{InvalidCatchAll, OutOfMemory}
 use Rattle.hotel_http.specs.{Routes.added, Routes.is_free_in, declared.routes.Target.Target}
 
-pub added_rows : (read : Result Scan InsertError) (target : Target) (old new : RowsOf (RouteOf Target)) (r : Result (Unit {0}) InsertError) → InsertsRead read target old new r
+pub added_rows : (read : Result Scan InsertError) (target : Target) (old new : RowsOf (RouteOf Target))
+    (r : Result (Unit {0}) InsertError) → InsertsRead read target old new r
     → OnOk r (new ≡ added read target old)
 added_rows (Ok s) target old new (Ok u) h = h.1
 added_rows (Ok s) target old new (Err e) h = tt
@@ -16,7 +17,8 @@ added_rows (Err e) target old new (Err f) h = tt
 is_no_row : {T : Type 0} {found : Option T} {row : T} → found ≡ Some row → is_none found ≡ true → ⊥
 is_no_row e free = cc
 
-pub only_memory : (read : Result Scan InsertError) (target : Target) (old new : RowsOf (RouteOf Target)) (r : Result (Unit {0}) InsertError) → InsertsRead read target old new r
+pub only_memory : (read : Result Scan InsertError) (target : Target) (old new : RowsOf (RouteOf Target))
+    (r : Result (Unit {0}) InsertError) → InsertsRead read target old new r
     → IfErr r (λ fault. is_free_in read old ≡ true → fault ≡ OutOfMemory)
 only_memory (Ok s) target old new (Ok u) h = tt
 only_memory (Ok s) target old new (Err OutOfMemory) h = λ free. refl
@@ -27,6 +29,7 @@ only_memory (Ok s) target old new (Err InvalidCatchAll) h = λ free. absurd h.1
 only_memory (Err e) target old new (Ok u) h = tt
 only_memory (Err e) target old new (Err f) h = λ free. cc
 
-pub is_memory : {T : Type 0} (r : Result T InsertError) {fault : InsertError} → IsErrAnd r (λ e. e ≡ fault) → fault ≡ OutOfMemory → IfErr r (λ e. e ≡ OutOfMemory)
+pub is_memory : {T : Type 0} (r : Result T InsertError) {fault : InsertError}
+    → IsErrAnd r (λ e. e ≡ fault) → fault ≡ OutOfMemory → IfErr r (λ e. e ≡ OutOfMemory)
 is_memory (Ok t) p q = absurd p
 is_memory (Err e) p q = p ∙ q

@@ -38,45 +38,69 @@ use Rattle.hotel_http.specs.Serve.{ListComes, AskComes, FileComes, TaskComes, Co
 use Rattle.hotel_http.specs.Serve.{IsListText, is_answered, list_failures, list_refusal, WasAnswered}
 
 -- an answer that was written or not
-pub ends_as : (text : List ℕ) (status : Status) (acted : Bool) (answered : List Bool) (written : Result (Unit {0}) WriteFailed) (old new : Option (List ℕ)) (end : Result Served Cut)
-    → end ≡ ended written status acted → OnOk written (Appends old new text) → OnErr written (AppendsFront old new text) → EndsAs (outcome text status acted answered) [] old new end
-ends_as text status acted answered (Ok done) old new end e ok err = subst (EndsAs (outcome text status acted answered) [] old new) (sym e) (refl, refl, ok)
-ends_as text status acted answered (Err failed) old new end e ok err = subst (EndsAs (outcome text status acted answered) [] old new) (sym e) (refl, err)
+pub ends_as : (text : List ℕ) (status : Status) (acted : Bool) (answered : List Bool)
+    (written : Result (Unit {0}) WriteFailed) (old new : Option (List ℕ)) (end : Result Served Cut)
+    → end ≡ ended written status acted → OnOk written (Appends old new text) → OnErr written (AppendsFront old new text)
+    → EndsAs (outcome text status acted answered) [] old new end
+ends_as text status acted answered (Ok done) old new end e ok err =
+    subst (EndsAs (outcome text status acted answered) [] old new) (sym e) (refl, refl, ok)
+ends_as text status acted answered (Err failed) old new end e ok err =
+    subst (EndsAs (outcome text status acted answered) [] old new) (sym e) (refl, err)
 
 -- where more is told, it was answered so too
-answered_weaker : (came : History → Stream → Outcome → List Refusal → History → Stream → Type 0) (s t : Stream) (before : List ℕ) (old new : Option (List ℕ)) (end : Result Served Cut)
-    (told told' : List Refusal → List Bool → Type 0) (h h' : History) → ((failed : List Refusal) (answered : List Bool) → told failed answered → told' failed answered)
+answered_weaker : (came : History → Stream → Outcome → List Refusal → History → Stream → Type 0) (s t : Stream)
+    (before : List ℕ) (old new : Option (List ℕ)) (end : Result Served Cut)
+    (told told' : List Refusal → List Bool → Type 0) (h h' : History)
+    → ((failed : List Refusal) (answered : List Bool) → told failed answered → told' failed answered)
     → Answered came s t before old new end told h h' → Answered came s t before old new end told' h h'
 answered_weaker came s t before old new end told told' h h' more a = (a.0, a.1, a.2, a.3, more a.1 a.0.answered a.4)
 
 -- a command is carried out
-pub command_came : {S : Type 0} {I : IssuedOf S} {rows : S → Rows} {a b : S} (s t : Stream) (command : Command) (given : Reply) (old new : Option (List ℕ)) (end : Result Served Cut)
-    → Happens I rows a (StepTold s command given t) b → EndsAs (replied given) [] old new end → Happens I rows a (Answered (AskComes (ask.Command command)) s t [] old new end) b
-command_came s t command given old new end step ends = happens_as (λ told h h' went. (replied given, failure_in given, (given, went.0, refl, refl), ends, went.1)) step
+pub command_came : {S : Type 0} {I : IssuedOf S} {rows : S → Rows} {a b : S} (s t : Stream) (command : Command)
+    (given : Reply) (old new : Option (List ℕ)) (end : Result Served Cut)
+    → Happens I rows a (StepTold s command given t) b → EndsAs (replied given) [] old new end
+    → Happens I rows a (Answered (AskComes (ask.Command command)) s t [] old new end) b
+command_came s t command given old new end step ends =
+    happens_as (λ told h h' went. (replied given, failure_in given, (given, went.0, refl, refl), ends, went.1)) step
 
 -- a list is answered, and nothing changes
-pub list_came : {S : Type 0} {I : IssuedOf S} {rows : S → Rows} {a b : S} (its_list : ListAsk) (out : Outcome) (answers : Bool) (failed : List Refusal) (old new : Option (List ℕ)) (end : Result Served Cut)
+pub list_came : {S : Type 0} {I : IssuedOf S} {rows : S → Rows} {a b : S} (its_list : ListAsk) (out : Outcome)
+    (answers : Bool) (failed : List Refusal) (old new : Option (List ℕ)) (end : Result Served Cut)
     → ((x : S) → I.is_clean x → I.is_honest x) → Since I.is_clean I.is_honest I.failures a b
     → (I.is_clean b → rows b ≡ rows a) → (I.is_honest b → answers ≡ true → I.is_clean b) → out.answered ≡ answers ∷ []
-    → ((listing : Option Listing) → (I.is_clean b → listing ≡ listing_on (rows a) its_list) → I.is_honest b → ListComes listing out failed) → EndsAs out [] old new end → AreCounted (I.failures a) (I.failures b) failed
+    → ((listing : Option Listing) → (I.is_clean b → listing ≡ listing_on (rows a) its_list) → I.is_honest b
+    → ListComes listing out failed) → EndsAs out [] old new end → AreCounted (I.failures a) (I.failures b) failed
     → (s : Stream) → Happens I rows a (Answered (AskComes (ask.List its_list)) s s [] old new end) b
-list_came {I = I} {rows = rows} {a = a} {b = b} its_list out answers failed old new end honest_is since same vouched said comes ends are_counted s =
+list_came {I = I} {rows = rows} {a = a} {b = b} its_list out answers failed old new end honest_is since same vouched
+    said comes ends are_counted s =
     happens_so (answered_weaker (AskComes (ask.List its_list)) s s [] old new end) honest_is since
     (λ honest h reached stands.
-    let told = subst (λ (l : List Bool). Tells I a b failed l) (sym said) (tells_once answers (λ clean. are_counted) (vouched honest) since.was_clean) in
-    let its = comes (listing_over h its_list) (λ clean. sym (listing_stands h (rows a) its_list (reached, stands (since.was_clean clean)))) honest in
-    (h, reached, (λ clean. same clean ∙ stands (since.was_clean clean)), (out, failed, (its, refl, refl), ends, told), assured h reached))
+    let told = subst (λ (l : List Bool). Tells I a b failed l) (sym said)
+    (tells_once answers (λ clean. are_counted) (vouched honest) since.was_clean) in
+    let its = comes (listing_over h its_list)
+    (λ clean. sym (listing_stands h (rows a) its_list (reached, stands (since.was_clean clean)))) honest in (
+      h,
+      reached,
+      (λ clean. same clean ∙ stands (since.was_clean clean)),
+      (out, failed, (its, refl, refl), ends, told),
+      assured h reached,
+    ))
 
 -- the text of a list that was made
-pub list_there : (listing : Option Listing) (text : List ℕ) → IsListText listing (Ok text) → ListComes listing (outcome (list_answer text) Success false (true ∷ [])) []
-list_there (Some listing) text is = inl (ap (λ (t : List ℕ). outcome (list_answer t) Success false (true ∷ [])) is, refl)
+pub list_there : (listing : Option Listing) (text : List ℕ)
+    → IsListText listing (Ok text) → ListComes listing (outcome (list_answer text) Success false (true ∷ [])) []
+list_there (Some listing) text is =
+    inl (ap (λ (t : List ℕ). outcome (list_answer t) Success false (true ∷ [])) is, refl)
 list_there None text is = absurd is
 
 -- answers to notes vouch
-noted : {S : Type 0} {I : IssuedOf S} {a b : S} (replies : List Reply) → (replies ≢ [] → I.is_clean a) → (replies ≢ [] → I.is_clean b) → (replies ≡ [] → I.is_clean a → I.is_clean b)
+noted : {S : Type 0} {I : IssuedOf S} {a b : S} (replies : List Reply)
+    → (replies ≢ [] → I.is_clean a) → (replies ≢ [] → I.is_clean b) → (replies ≡ [] → I.is_clean a → I.is_clean b)
     → (I.is_clean b → AreCounted (I.failures a) (I.failures b) []) → Tells I a b [] (map (λ reply. true) replies)
-noted [] before after same counted = record { counted = counted; began = λ k. absurd (false≢true k); ends = λ was. same refl was }
-noted {I = I} {a = a} {b = b} (reply ∷ replies) before after same counted = record { counted = counted; began = λ k. before (λ e. cc e); ends = λ k. after (λ e. cc e) }
+noted [] before after same counted =
+    record { counted = counted; began = λ k. absurd (false≢true k); ends = λ was. same refl was }
+noted {I = I} {a = a} {b = b} (reply ∷ replies) before after same counted =
+    record { counted = counted; began = λ k. before (λ e. cc e); ends = λ k. after (λ e. cc e) }
 
 -- an answer that is Taken is one to a note
 taken_is_reply : (answers : List LineAnswer) → has_taken answers ≡ true → replies_in answers ≢ []
@@ -87,28 +111,44 @@ taken_is_reply (answer.Unread cause ∷ answers) k = taken_is_reply answers k
 taken_is_reply (answer.Refused why ∷ answers) k = λ e. cc e
 
 -- an import was stopped
-stopped : {S : Type 0} {I : IssuedOf S} {a b : S} (failed : List Refusal) (taken : Bool) (answers : List LineAnswer) → has_taken answers ≡ taken → (replies_in answers ≢ [] → I.is_clean a)
+stopped : {S : Type 0} {I : IssuedOf S} {a b : S} (failed : List Refusal) (taken : Bool) (answers : List LineAnswer)
+    → has_taken answers ≡ taken → (replies_in answers ≢ [] → I.is_clean a)
     → (I.is_clean b → AreCounted (I.failures a) (I.failures b) failed) → Tells I a b failed (stopped_behind taken)
-stopped failed true answers e before counted = record { counted = counted; began = λ k. before (taken_is_reply answers e); ends = λ k. absurd k }
-stopped failed false answers e before counted = record { counted = counted; began = λ k. absurd (false≢true k); ends = λ k. absurd k }
+stopped failed true answers e before counted =
+    record { counted = counted; began = λ k. before (taken_is_reply answers e); ends = λ k. absurd k }
+stopped failed false answers e before counted =
+    record { counted = counted; began = λ k. absurd (false≢true k); ends = λ k. absurd k }
 
 -- what an import tells
-import_tells : {S : Type 0} {I : IssuedOf S} {rows : S → Rows} {a b : S} (file : Result (List Line) AuditFault) (end : Result (List LineAnswer) ImportFault) (lines : List Line) (answers : List LineAnswer)
-    → EndsAfter file end lines answers → FileVouches I rows lines answers a b end → ((why : AuditFault) → end ≡ Err (import.File why) → b ≡ a)
-    → (I.is_clean b → AreCounted (I.failures a) (I.failures b) (import_failures end)) → Tells I a b (import_failures end) (imported end).answered
+import_tells : {S : Type 0} {I : IssuedOf S} {rows : S → Rows} {a b : S} (file : Result (List Line) AuditFault)
+    (end : Result (List LineAnswer) ImportFault) (lines : List Line) (answers : List LineAnswer)
+    → EndsAfter file end lines answers → FileVouches I rows lines answers a b end
+    → ((why : AuditFault) → end ≡ Err (import.File why) → b ≡ a)
+    → (I.is_clean b → AreCounted (I.failures a) (I.failures b) (import_failures end))
+    → Tells I a b (import_failures end) (imported end).answered
 import_tells {I = I} {a = a} {b = b} file (Ok given) lines answers ends_after v same counted =
-    noted (replies_in given) (subst (λ (l : List LineAnswer). replies_in l ≢ [] → I.is_clean a) ends_after.1 v.was_clean) (subst (λ (l : List LineAnswer). replies_in l ≢ [] → I.is_clean b) ends_after.1 v.is_clean)
+    noted (replies_in given) (subst (λ (l : List LineAnswer). replies_in l ≢ [] → I.is_clean a) ends_after.1
+    v.was_clean) (subst (λ (l : List LineAnswer). replies_in l ≢ [] → I.is_clean b) ends_after.1 v.is_clean)
     (subst (λ (l : List LineAnswer). replies_in l ≡ [] → I.is_clean a → I.is_clean b) ends_after.1 v.unasked) counted
 import_tells {I = I} {a = a} {b = b} file (Err (import.File why)) lines answers ends_after v same counted =
-    record { counted = counted; began = λ k. absurd (false≢true k); ends = λ was. subst (λ x. I.is_clean x) (sym (same why refl)) was }
-import_tells file (Err (import.Memory answered taken)) lines answers ends_after v same counted = stopped _ taken answers ends_after.3 v.was_clean counted
-import_tells file (Err (import.Store answered taken)) lines answers ends_after v same counted = stopped _ taken answers ends_after.3 v.was_clean counted
+    record {
+      counted = counted;
+      began = λ k. absurd (false≢true k);
+      ends = λ was. subst (λ x. I.is_clean x) (sym (same why refl)) was;
+    }
+import_tells file (Err (import.Memory answered taken)) lines answers ends_after v same counted =
+    stopped _ taken answers ends_after.3 v.was_clean counted
+import_tells file (Err (import.Store answered taken)) lines answers ends_after v same counted =
+    stopped _ taken answers ends_after.3 v.was_clean counted
 
 -- an audit file is imported
-pub file_came : {S : Type 0} {I : IssuedOf S} {rows : S → Rows} {a b : S} (file : List ℕ) (import_end : Result (List LineAnswer) ImportFault) (old new : Option (List ℕ)) (end : Result Served Cut)
+pub file_came : {S : Type 0} {I : IssuedOf S} {rows : S → Rows} {a b : S} (file : List ℕ)
+    (import_end : Result (List LineAnswer) ImportFault) (old new : Option (List ℕ)) (end : Result Served Cut)
     → ((x : S) → I.is_clean x → I.is_honest x) → Since I.is_clean I.is_honest I.failures a b
-    → Imports I rows (audit_lines file) a b import_end → ((why : AuditFault) → import_end ≡ Err (import.File why) → b ≡ a)
-    → (I.is_clean b → AreCounted (I.failures a) (I.failures b) (import_failures import_end)) → EndsAs (imported import_end) [] old new end
+    → Imports I rows (audit_lines file) a b import_end
+    → ((why : AuditFault) → import_end ≡ Err (import.File why) → b ≡ a)
+    → (I.is_clean b → AreCounted (I.failures a) (I.failures b) (import_failures import_end))
+    → EndsAs (imported import_end) [] old new end
     → (s : Stream) → Happens I rows a (Answered (FileComes file) s s [] old new end) b
 file_came file import_end old new end honest_is since i same failed ends s =
     happens_so (answered_weaker (FileComes file) s s [] old new end) honest_is since
@@ -129,25 +169,36 @@ file_came file import_end old new end honest_is since i same failed ends s =
     ))
 
 -- a rejection changes nothing
-pub rejection_came : {S : Type 0} (I : IssuedOf S) (rows : S → Rows) (a : S) (s : Stream) (why : Rejection) (old new : Option (List ℕ)) (end : Result Served Cut)
+pub rejection_came : {S : Type 0} (I : IssuedOf S) (rows : S → Rows) (a : S) (s : Stream) (why : Rejection)
+    (old new : Option (List ℕ)) (end : Result Served Cut)
     → EndsAs (rejected why) [] old new end → Happens I rows a (Answered (Comes (Err why)) s s [] old new end) a
 rejection_came I rows a s why old new end ends =
-    happens_idle I rows a (Answered (Comes (Err why)) s s [] old new end) (λ told h none. (rejected why, [], (refl, refl, refl, refl), ends, none))
+    happens_idle I rows a (Answered (Comes (Err why)) s s [] old new end)
+    (λ told h none. (rejected why, [], (refl, refl, refl, refl), ends, none))
 
 -- the answer stands behind an interim one
-after_interim : (before : List ℕ) (out : Outcome) (old mid new : Option (List ℕ)) (end : Result Served Cut) → Appends old mid before → EndsAs out [] mid new end
+after_interim : (before : List ℕ) (out : Outcome) (old mid new : Option (List ℕ)) (end : Result Served Cut)
+    → Appends old mid before → EndsAs out [] mid new end
     → EndsAs out before old new end
-after_interim before out old mid new (Ok served) first ends = (ends.0, ends.1, Appends-trans old mid new before out.text first ends.2)
-after_interim before out old mid new (Err cut) first ends =
-    (ends.0, subst (AppendsFront old new) (append-nil (before ++ out.text)) (front_next old mid new before out.text [] first ends.1))
+after_interim before out old mid new (Ok served) first ends =
+    (ends.0, ends.1, Appends-trans old mid new before out.text first ends.2)
+after_interim before out old mid new (Err cut) first ends = (
+  ends.0,
+  subst (AppendsFront old new) (append-nil (before ++ out.text))
+      (front_next old mid new before out.text [] first ends.1),
+)
 
-pub behind_interim : {S : Type 0} {I : IssuedOf S} {rows : S → Rows} {a b : S} (came : History → Stream → Outcome → List Refusal → History → Stream → Type 0) (s t : Stream) (before : List ℕ)
-    (old mid new : Option (List ℕ)) (end : Result Served Cut) → Appends old mid before → Happens I rows a (Answered came s t [] mid new end) b → Happens I rows a (Answered came s t before old new end) b
+pub behind_interim : {S : Type 0} {I : IssuedOf S} {rows : S → Rows} {a b : S}
+    (came : History → Stream → Outcome → List Refusal → History → Stream → Type 0) (s t : Stream) (before : List ℕ)
+    (old mid new : Option (List ℕ)) (end : Result Served Cut) → Appends old mid before
+    → Happens I rows a (Answered came s t [] mid new end) b → Happens I rows a (Answered came s t before old new end) b
 behind_interim came s t before old mid new end first =
-    happens_as (λ told h h' went. (went.0, went.1, went.2, after_interim before went.0 old mid new end first went.3, went.4))
+    happens_as
+    (λ told h h' went. (went.0, went.1, went.2, after_interim before went.0 old mid new end first went.3, went.4))
 
 -- a list that was refused
-pub list_refused : (listing : Option Listing) (why : Refusal) → IsListText listing (Err why) → ListComes listing (replied (reply.Refused why)) (list_failures (Err why))
+pub list_refused : (listing : Option Listing) (why : Refusal)
+    → IsListText listing (Err why) → ListComes listing (replied (reply.Refused why)) (list_failures (Err why))
 list_refused (Some listing) refusal.Memory is = inr (inl (refl, refl))
 list_refused (Some listing) refusal.Store is = inr (inr (refl, refl))
 list_refused (Some listing) _ is = absurd is
@@ -157,31 +208,41 @@ list_refused None refusal.Store is = inr (inr (refl, refl))
 list_refused None _ is = absurd is
 
 -- the same over each listing that is the books' where they are kept
-pub list_comes : {C H : Type 0} (there listing : Option Listing) (made : Result (List ℕ) Refusal) (out : Outcome) → (H → IsListText there made) → (H → is_answered made ≡ true → C) → (C → listing ≡ there) → H
-    → ((l : Option Listing) → IsListText l made → ListComes l out (list_failures made)) → (is_answered made ≡ false → ListComes listing out (list_failures made)) → ListComes listing out (list_failures made)
+pub list_comes : {C H : Type 0} (there listing : Option Listing) (made : Result (List ℕ) Refusal) (out : Outcome)
+    → (H → IsListText there made) → (H → is_answered made ≡ true → C) → (C → listing ≡ there) → H
+    → ((l : Option Listing) → IsListText l made → ListComes l out (list_failures made))
+    → (is_answered made ≡ false → ListComes listing out (list_failures made))
+    → ListComes listing out (list_failures made)
 list_comes there listing made out text vouched same honest of_text failed = by (is_answered made) refl
   where
     by : (b : Bool) → is_answered made ≡ b → ListComes listing out (list_failures made)
-    by true k = let clean = vouched honest k in of_text listing (subst (λ (l : Option Listing). IsListText l made) (sym (same clean)) (text honest))
+    by true k =
+        let clean = vouched honest k in
+        of_text listing (subst (λ (l : Option Listing). IsListText l made) (sym (same clean)) (text honest))
     by false k = failed k
 
 -- the text of a list vouches as the list does
-pub text_vouched : (fault : ListFault) (C : Type 0) → Vouches C (Err fault) → is_answered (Err (list_refusal fault)) ≡ true → C
+pub text_vouched : (fault : ListFault) (C : Type 0)
+    → Vouches C (Err fault) → is_answered (Err (list_refusal fault)) ≡ true → C
 text_vouched fault.NoRoom C v k = v
 text_vouched fault.Memory C v k = cc k
 text_vouched fault.Store C v k = cc k
 text_vouched fault.Write C v k = cc k
 
 -- a list that failed has no listing
-pub list_failed : (listing : Option Listing) (why : Refusal) → is_answered (Err why) ≡ false → ListComes listing (replied (reply.Refused why)) (list_failures (Err why))
+pub list_failed : (listing : Option Listing) (why : Refusal)
+    → is_answered (Err why) ≡ false → ListComes listing (replied (reply.Refused why)) (list_failures (Err why))
 list_failed listing refusal.Memory k = inr (inl (refl, refl))
 list_failed listing refusal.Store k = inr (inr (refl, refl))
 list_failed listing _ k = cc k
 
 -- a request that was read is answered
-pub request_served : {S : Type 0} (I : IssuedOf S) (rows : S → Rows) (a b : S) (s t : Stream) (known old mid new : Option (List ℕ)) (request : Request) (end : Result Served Cut)
-    → EndsRequest known old mid (Ok (Ok request)) → Happens I rows a (Answered (TaskComes request.task request.body.items) s t [] mid new end) b
-    → WasAnswered known (λ wanted awaited ends. Happens I rows a (Answered (Comes wanted) s t (interim_where awaited) old new ends) b) end
+pub request_served : {S : Type 0} (I : IssuedOf S) (rows : S → Rows) (a b : S) (s t : Stream)
+    (known old mid new : Option (List ℕ)) (request : Request) (end : Result Served Cut)
+    → EndsRequest known old mid (Ok (Ok request))
+    → Happens I rows a (Answered (TaskComes request.task request.body.items) s t [] mid new end) b
+    → WasAnswered known (λ wanted awaited ends. Happens I rows a
+    (Answered (Comes wanted) s t (interim_where awaited) old new ends) b) end
 request_served I rows a b s t known old mid new request end (awaited, first, requests) went = (
   Ok (request.task, request.body.items),
   awaited,
@@ -190,14 +251,17 @@ request_served I rows a b s t known old mid new request end (awaited, first, req
 )
 
 -- a rejection is answered
-pub rejection_served : {S : Type 0} (I : IssuedOf S) (rows : S → Rows) (a : S) (s : Stream) (known old mid new : Option (List ℕ)) (why : Rejection) (end : Result Served Cut)
+pub rejection_served : {S : Type 0} (I : IssuedOf S) (rows : S → Rows) (a : S) (s : Stream)
+    (known old mid new : Option (List ℕ)) (why : Rejection) (end : Result Served Cut)
     → EndsRequest known old mid (Ok (Err why)) → EndsAs (rejected why) [] mid new end
-    → WasAnswered known (λ wanted awaited ends. Happens I rows a (Answered (Comes wanted) s s (interim_where awaited) old new ends) a) end
+    → WasAnswered known (λ wanted awaited ends. Happens I rows a
+    (Answered (Comes wanted) s s (interim_where awaited) old new ends) a) end
 rejection_served I rows a s known old mid new why end (awaited, first, requests) ends = (
   Err why,
   awaited,
   requests,
-  behind_interim (Comes (Err why)) s s (interim_where awaited) old mid new end first (rejection_came I rows a s why mid new end ends),
+  behind_interim (Comes (Err why)) s s (interim_where awaited) old mid new end first
+      (rejection_came I rows a s why mid new end ends),
 )
 
 -- the fault of an answer that was cut

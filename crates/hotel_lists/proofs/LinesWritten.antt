@@ -20,7 +20,8 @@ use Rattle.hotel_lists.proofs.{BytesLemmas.front_next, CallsLemmas.none_forgotte
 
 -- a front of the first of two texts is a front of both
 pub front_of_first : (a b : Option (List ℕ)) (bs cs : List ℕ) → AppendsFront a b bs → AppendsFront a b (bs ++ cs)
-front_of_first a b bs cs (n, within, h) = (n, simp length-append (omega arith), subst (Appends a b) (sym (take-append-le n bs cs within)) h)
+front_of_first a b bs cs (n, within, h) =
+    (n, simp length-append (omega arith), subst (Appends a b) (sym (take-append-le n bs cs within)) h)
 
 -- a sink that stopped, and not for want of memory
 stopped_for_write : (failed : Bool) → listed (Err walk.Stopped) failed ≡ Err fault.Write → failed ≡ true
@@ -49,11 +50,15 @@ stopped_vouches is_clean true = tt
 stopped_vouches is_clean false = tt
 
 -- a list that was written in full vouches as its walk does
-pub list_vouches : {W : Type 0} (contents : W → Option (List ℕ)) (is_clean : Type 0) (b c : Lines W) (end result : Result (Unit {0}) WalkFault) (last : Result (Unit {0}) ListFault)
-    → (failure_of end ≡ None → is_clean) → Finishes contents b c end result → last ≡ listed result c.write_failed → Vouches is_clean last
-list_vouches contents is_clean b c end result last walked f e = subst (Vouches is_clean) (sym e) (by end result walked f)
+pub list_vouches : {W : Type 0} (contents : W → Option (List ℕ)) (is_clean : Type 0) (b c : Lines W)
+    (end result : Result (Unit {0}) WalkFault) (last : Result (Unit {0}) ListFault)
+    → (failure_of end ≡ None → is_clean) → Finishes contents b c end result
+    → last ≡ listed result c.write_failed → Vouches is_clean last
+list_vouches contents is_clean b c end result last walked f e =
+    subst (Vouches is_clean) (sym e) (by end result walked f)
   where
-    by : (end result : Result (Unit {0}) WalkFault) → (failure_of end ≡ None → is_clean) → Finishes contents b c end result → Vouches is_clean (listed result c.write_failed)
+    by : (end result : Result (Unit {0}) WalkFault) → (failure_of end ≡ None → is_clean)
+        → Finishes contents b c end result → Vouches is_clean (listed result c.write_failed)
     by (Ok done) (Ok ended) walked f = walked refl
     by (Err walk.Stopped) (Ok ended) walked f = absurd (err_is_ok (sym f.0))
     by (Err walk.Memory) (Ok ended) walked f = absurd (err_is_ok (sym f.0))
@@ -63,15 +68,18 @@ list_vouches contents is_clean b c end result last walked f e = subst (Vouches i
     by _ (Err walk.Stopped) walked f = stopped_vouches is_clean c.write_failed
 
 -- a list fails by the store only where its walk did
-pub store_failed : {W : Type 0} (contents : W → Option (List ℕ)) (b c : Lines W) (end result : Result (Unit {0}) WalkFault) (last : Result (Unit {0}) ListFault)
-    → Finishes contents b c end result → last ≡ listed result c.write_failed → last ≡ Err fault.Store → end ≡ Err walk.Store
+pub store_failed : {W : Type 0} (contents : W → Option (List ℕ)) (b c : Lines W)
+    (end result : Result (Unit {0}) WalkFault) (last : Result (Unit {0}) ListFault)
+    → Finishes contents b c end result → last ≡ listed result c.write_failed
+    → last ≡ Err fault.Store → end ≡ Err walk.Store
 store_failed contents b c end result last f same e = by end result f (sym same ∙ e)
   where
     stopped : (failed : Bool) → listed (Err walk.Stopped) failed ≡ Err fault.Store → ⊥
     stopped true e = cc e
     stopped false e = cc e
 
-    by : (end result : Result (Unit {0}) WalkFault) → Finishes contents b c end result → listed result c.write_failed ≡ Err fault.Store → end ≡ Err walk.Store
+    by : (end result : Result (Unit {0}) WalkFault)
+        → Finishes contents b c end result → listed result c.write_failed ≡ Err fault.Store → end ≡ Err walk.Store
     by end (Ok done) f e = cc e
     by end (Err walk.Memory) f e = cc e
     by end (Err walk.Stopped) f e = absurd (stopped c.write_failed e)
@@ -81,16 +89,19 @@ store_failed contents b c end result last f same e = by end result f (sym same �
     by (Ok done) (Err walk.Store) f e = absurd (err_is_ok f.0)
 
 -- of rows in two parts, and of one more row
-regroup : {R : Type 0} (sent held : List R) (row : R) (rest : List R) → (sent ++ held) ++ row ∷ rest ≡ (sent ++ (held ++ row ∷ [])) ++ rest
+regroup : {R : Type 0} (sent held : List R) (row : R) (rest : List R)
+    → (sent ++ held) ++ row ∷ rest ≡ (sent ++ (held ++ row ∷ [])) ++ rest
 regroup sent held row rest =
-    append_assoc sent held (row ∷ rest) ∙ sym (append_assoc sent (held ++ row ∷ []) rest ∙ ap (λ l. sent ++ l) (append_assoc held (row ∷ []) rest))
+    append_assoc sent held (row ∷ rest)
+    ∙ sym (append_assoc sent (held ++ row ∷ []) rest ∙ ap (λ l. sent ++ l) (append_assoc held (row ∷ []) rest))
 
 -- the text of a list: its header, and a line for each row
 abbrev pub list_text : {R : Type 0} → List ℕ → (R → List ℕ) → List R → List ℕ
 list_text header line rows = header ++ flat_map line rows
 
 -- the lines of rows are their text
-lines_text : {R : Type 0} (header : List ℕ) (line : R → List ℕ) (rows : List R) → list_text header line rows ≡ header ++ concat (map line rows)
+lines_text : {R : Type 0} (header : List ℕ) (line : R → List ℕ) (rows : List R)
+    → list_text header line rows ≡ header ++ concat (map line rows)
 lines_text {R} header line rows = ap (λ (l : List ℕ). header ++ l) (by rows)
   where
     by : (rows : List R) → flat_map line rows ≡ concat (map line rows)
@@ -109,7 +120,8 @@ module _ {R : Type 0} (line : R → List ℕ) (old new : Option (List ℕ)) (hea
   cut_ends front = ((λ none. cc none), front)
 
   -- whole lines of it
-  front_ends : (sent rest : List R) → rows ≡ sent ++ rest → Appends old new (list_text header line sent) → (front : List ℕ) × IsFront (Some (listing header line rows)) front × Appends old new front
+  front_ends : (sent rest : List R) → rows ≡ sent ++ rest → Appends old new (list_text header line sent)
+      → (front : List ℕ) × IsFront (Some (listing header line rows)) front × Appends old new front
   front_ends sent rest e written = (
     header ++ concat (map line sent),
     inr (map line sent, map line rest, ap (map line) e ∙ map-append line sent rest, refl),
@@ -125,15 +137,20 @@ module _ {W R : Type 0} (contents : W → Option (List ℕ)) (line : R → List 
 
   -- of the list of these rows a front of whole rows is written, and the lines of the others are gathered
   abbrev pub Stands : Option (List ℕ) → List ℕ → List R → Lines W → Type 0
-  Stands w header rows s = (sent : List R) × (held : List R) × (rows ≡ sent ++ held) × Appends w (contents s.writer.now) (list_text header line sent) × (s.gathered.now ≡ flat_map line held)
+  Stands w header rows s = (sent : List R) × (held : List R) × (rows ≡ sent ++ held)
+      × Appends w (contents s.writer.now) (list_text header line sent) × (s.gathered.now ≡ flat_map line held)
 
   one_more : (held : List R) (row : R) → flat_map line held ++ line row ≡ flat_map line (held ++ row ∷ [])
-  one_more held row = sym (flat_map-append line held (row ∷ []) ∙ ap (λ l. flat_map line held ++ l) (append-nil (line row)))
+  one_more held row =
+      sym (flat_map-append line held (row ∷ []) ∙ ap (λ l. flat_map line held ++ l) (append-nil (line row)))
 
-  text_of_both : (header : List ℕ) (sent held : List R) → list_text header line sent ++ flat_map line held ≡ list_text header line (sent ++ held)
-  text_of_both header sent held = append_assoc header (flat_map line sent) (flat_map line held) ∙ ap (λ l. header ++ l) (sym (flat_map-append line sent held))
+  text_of_both : (header : List ℕ) (sent held : List R)
+      → list_text header line sent ++ flat_map line held ≡ list_text header line (sent ++ held)
+  text_of_both header sent held = append_assoc header (flat_map line sent) (flat_map line held)
+      ∙ ap (λ l. header ++ l) (sym (flat_map-append line sent held))
 
-  step : (w : Option (List ℕ)) (header : List ℕ) (rows : List R) (row : R) (old new : Lines W) → Stands w header rows old → Gathers contents old new (line row) → Stands w header (rows ++ row ∷ []) new
+  step : (w : Option (List ℕ)) (header : List ℕ) (rows : List R) (row : R) (old new : Lines W)
+      → Stands w header rows old → Gathers contents old new (line row) → Stands w header (rows ++ row ∷ []) new
   step w header rows row old new (sent, held, all, written, gathered) (inl (kept, more)) = (
     sent,
     held ++ row ∷ [],
@@ -142,13 +159,16 @@ module _ {W R : Type 0} (contents : W → Option (List ℕ)) (line : R → List 
     more ∙ ap (λ l. l ++ line row) gathered ∙ one_more held row,
   )
   step w header rows row old new (sent, held, all, written, gathered) (inr (wrote, none)) =
-      let text : list_text header line sent ++ (old.gathered.now ++ line row) ≡ list_text header line (rows ++ row ∷ []) =
-      ap (λ l. list_text header line sent ++ l) (ap (λ l. l ++ line row) gathered ∙ one_more held row) ∙ text_of_both header sent (held ++ row ∷ [])
+      let text : list_text header line sent ++ (old.gathered.now ++ line row)
+      ≡ list_text header line (rows ++ row ∷ []) =
+      ap (λ l. list_text header line sent ++ l) (ap (λ l. l ++ line row) gathered ∙ one_more held row)
+      ∙ text_of_both header sent (held ++ row ∷ [])
       ∙ ap (λ l. list_text header line l) (sym (ap (λ l. l ++ row ∷ []) all ∙ append_assoc sent held (row ∷ []))) in (
         rows ++ row ∷ [],
         [],
         sym (append-nil (rows ++ row ∷ [])),
-        subst (Appends w (contents new.writer.now)) text (Appends-trans w (contents old.writer.now) (contents new.writer.now) _ _ written wrote),
+        subst (Appends w (contents new.writer.now)) text
+            (Appends-trans w (contents old.writer.now) (contents new.writer.now) _ _ written wrote),
         none,
       )
 
@@ -156,88 +176,130 @@ module _ {W R : Type 0} (contents : W → Option (List ℕ)) (line : R → List 
   took_same [] a b t = subst (λ (s : Lines W). SameEnds a s) (sym t) (same_sink a)
   took_same (row ∷ rows) a b t = then_same a t.0 b t.1.0 (took_same rows t.0 b t.2)
 
-  took : (w : Option (List ℕ)) (header : List ℕ) (before rows : List R) (a b : Lines W) → Stands w header before a → Passes Wrote a rows b → Stands w header (before ++ rows) b
-  took w header before [] a b s t = subst (λ (c : Lines W). Stands w header (before ++ []) c) (sym t) (subst (λ rs. Stands w header rs a) (sym (append-nil before)) s)
+  took : (w : Option (List ℕ)) (header : List ℕ) (before rows : List R) (a b : Lines W)
+      → Stands w header before a → Passes Wrote a rows b → Stands w header (before ++ rows) b
+  took w header before [] a b s t = subst (λ (c : Lines W). Stands w header (before ++ []) c) (sym t)
+      (subst (λ rs. Stands w header rs a) (sym (append-nil before)) s)
   took w header before (row ∷ rows) a b s t =
-      subst (λ rs. Stands w header rs b) (append_assoc before (row ∷ []) rows) (took w header (before ++ row ∷ []) rows t.0 b (step w header before row a t.0 s t.1.1) t.2)
+      subst (λ rs. Stands w header rs b) (append_assoc before (row ∷ []) rows)
+      (took w header (before ++ row ∷ []) rows t.0 b (step w header before row a t.0 s t.1.1) t.2)
 
   -- after the header, and rows that the sink took
-  from_header : (w : Option (List ℕ)) (header : List ℕ) (rows : List R) (a b : Lines W) → Appends w (contents a.writer.now) header → a.gathered.now ≡ [] → Passes Wrote a rows b → Stands w header rows b
-  from_header w header rows a b first none t = took w header [] rows a b ([], [], refl, subst (Appends w (contents a.writer.now)) (sym (append-nil header)) first, none) t
+  from_header : (w : Option (List ℕ)) (header : List ℕ) (rows : List R) (a b : Lines W)
+      → Appends w (contents a.writer.now) header → a.gathered.now ≡ [] → Passes Wrote a rows b → Stands w header rows b
+  from_header w header rows a b first none t = took w header [] rows a b
+      ([], [], refl, subst (Appends w (contents a.writer.now)) (sym (append-nil header)) first, none) t
 
   -- the sink's writer and calls are the same ones at the end of the walk
-  same_ends : (rows : List R) (a b : Lines W) (end : Result (Unit {0}) WalkFault) → Hands Wrote Stopped rows a b end → SameEnds a b
+  same_ends : (rows : List R) (a b : Lines W) (end : Result (Unit {0}) WalkFault)
+      → Hands Wrote Stopped rows a b end → SameEnds a b
   same_ends rows a b (Ok done) h = took_same rows a b h
   same_ends rows a b (Err walk.Stopped) h = then_same a h.4 b (took_same h.0 a h.4 h.5) h.6.0
   same_ends rows a b (Err walk.Memory) h = took_same h.0 a b h.3
   same_ends rows a b (Err walk.Store) h = took_same h.0 a b h.3
 
   -- a list ends with Write only after a write that failed
-  write_had_failed : (rows : List R) (a b c : Lines W) (end result : Result (Unit {0}) WalkFault) → Hands Wrote Stopped rows a b end → Finishes contents b c end result
+  write_had_failed : (rows : List R) (a b c : Lines W) (end result : Result (Unit {0}) WalkFault)
+      → Hands Wrote Stopped rows a b end → Finishes contents b c end result
       → listed result c.write_failed ≡ Err fault.Write → c.calls.now.write_failed ≡ true
   write_had_failed rows a b c (Err walk.Stopped) result h f e =
-      let here : listed (Err walk.Stopped) b.write_failed ≡ Err fault.Write = subst (λ (s : Lines W). listed (Err walk.Stopped) s.write_failed ≡ Err fault.Write) f.1 (subst (λ r. listed r c.write_failed ≡ Err fault.Write) f.0 e) in
-      subst (λ (s : Lines W). s.calls.now.write_failed ≡ true) (sym f.1) (h.6.1.1 (stopped_for_write b.write_failed here))
+      let here : listed (Err walk.Stopped) b.write_failed ≡ Err fault.Write =
+      subst (λ (s : Lines W). listed (Err walk.Stopped) s.write_failed ≡ Err fault.Write) f.1
+      (subst (λ r. listed r c.write_failed ≡ Err fault.Write) f.0 e) in
+      subst (λ (s : Lines W). s.calls.now.write_failed ≡ true) (sym f.1)
+      (h.6.1.1 (stopped_for_write b.write_failed here))
   write_had_failed rows a b c (Ok done) (Err walk.Stopped) h f e = f.1 (stopped_for_write c.write_failed e)
   write_had_failed rows a b c (Err walk.Memory) (Err walk.Stopped) h f e = f.1 (stopped_for_write c.write_failed e)
   write_had_failed rows a b c (Err walk.Store) (Err walk.Stopped) h f e = f.1 (stopped_for_write c.write_failed e)
   write_had_failed rows a b c _ _ h f e = cc
 
   -- a list was written at the same writer and calls, and ends with Write only after a write that failed
-  pub list_ended : (rows : List R) (a b c : Lines W) (end result : Result (Unit {0}) WalkFault) (last : Result (Unit {0}) ListFault) → Hands Wrote Stopped rows a b end → SameEnds b c → Finishes contents b c end result
+  pub list_ended : (rows : List R) (a b c : Lines W)
+      (end result : Result (Unit {0}) WalkFault) (last : Result (Unit {0}) ListFault)
+      → Hands Wrote Stopped rows a b end → SameEnds b c → Finishes contents b c end result
       → last ≡ listed result c.write_failed → SameEnds a c × (last ≡ Err fault.Write → c.calls.now.write_failed ≡ true)
-  list_ended rows a b c end result last h same f e = (then_same a b c (same_ends rows a b end h) same, λ failed. write_had_failed rows a b c end result h f (sym e ∙ failed))
+  list_ended rows a b c end result last h same f e = (
+    then_same a b c (same_ends rows a b end h) same,
+    λ failed. write_had_failed rows a b c end result h f (sym e ∙ failed),
+  )
 
   -- the sink stopped as it was to write the lines of rows
-  stopped : (failed : Bool) (w old new : Option (List ℕ)) (header : List ℕ) (rows sent more rest : List R) (bytes : List ℕ) → rows ≡ (sent ++ more) ++ rest → bytes ≡ flat_map line more
-      → Appends w old (list_text header line sent) → StopsBy failed old new bytes → Ends line w new header rows (listed (Err walk.Stopped) failed)
+  stopped : (failed : Bool) (w old new : Option (List ℕ)) (header : List ℕ) (rows sent more rest : List R)
+      (bytes : List ℕ) → rows ≡ (sent ++ more) ++ rest → bytes ≡ flat_map line more
+      → Appends w old (list_text header line sent) → StopsBy failed old new bytes
+      → Ends line w new header rows (listed (Err walk.Stopped) failed)
   stopped true w old new header rows sent more rest bytes e same first stop =
       let whole : list_text header line rows ≡ (list_text header line sent ++ bytes) ++ flat_map line rest =
-      ap (λ l. list_text header line l) e ∙ sym (text_of_both header (sent ++ more) rest) ∙ ap (λ l. l ++ flat_map line rest) (sym (text_of_both header sent more))
+      ap (λ l. list_text header line l) e ∙ sym (text_of_both header (sent ++ more) rest)
+      ∙ ap (λ l. l ++ flat_map line rest) (sym (text_of_both header sent more))
       ∙ ap (λ l. (list_text header line sent ++ l) ++ flat_map line rest) (sym same) in
-      cut_ends line w new header rows (subst (AppendsFront w new) (sym whole ∙ lines_text header line rows) (front_next w old new (list_text header line sent) bytes (flat_map line rest) first stop))
+      cut_ends line w new header rows (subst (AppendsFront w new) (sym whole ∙ lines_text header line rows)
+      (front_next w old new (list_text header line sent) bytes (flat_map line rest) first stop))
   stopped false w old new header rows sent more rest bytes e same first stop =
-      front_ends line w new header rows sent (more ++ rest) (e ∙ append_assoc sent more rest) (Appends-kept w old new _ first stop)
+      front_ends line w new header rows sent (more ++ rest) (e ∙ append_assoc sent more rest)
+      (Appends-kept w old new _ first stop)
 
   -- the rest of the rows wasn't written, or the rest of them was
-  rest_stopped : (w : Option (List ℕ)) (header : List ℕ) (rows taken rest : List R) (b c : Lines W) → rows ≡ taken ++ rest → Stands w header taken b → StopsAtWrite contents b c b.gathered.now
+  rest_stopped : (w : Option (List ℕ)) (header : List ℕ) (rows taken rest : List R) (b c : Lines W)
+      → rows ≡ taken ++ rest → Stands w header taken b → StopsAtWrite contents b c b.gathered.now
       → Ends line w (contents c.writer.now) header rows (listed (Err walk.Stopped) c.write_failed)
   rest_stopped w header rows taken rest b c e (sent, held, all, written, gathered) f =
-      stopped c.write_failed w (contents b.writer.now) (contents c.writer.now) header rows sent held rest b.gathered.now (e ∙ ap (λ l. l ++ rest) all) gathered written f.0
+      stopped c.write_failed w (contents b.writer.now) (contents c.writer.now) header rows sent held rest b.gathered.now
+      (e ∙ ap (λ l. l ++ rest) all) gathered written f.0
 
-  rest_written : (w : Option (List ℕ)) (header : List ℕ) (rows : List R) (b c : Lines W) → Stands w header rows b → Appends (contents b.writer.now) (contents c.writer.now) b.gathered.now
+  rest_written : (w : Option (List ℕ)) (header : List ℕ) (rows : List R) (b c : Lines W)
+      → Stands w header rows b → Appends (contents b.writer.now) (contents c.writer.now) b.gathered.now
       → Appends w (contents c.writer.now) (list_text header line rows)
   rest_written w header rows b c (sent, held, all, written, gathered) f =
       let text : list_text header line sent ++ b.gathered.now ≡ list_text header line rows =
-      ap (λ l. list_text header line sent ++ l) gathered ∙ text_of_both header sent held ∙ ap (λ l. list_text header line l) (sym all) in
-      subst (Appends w (contents c.writer.now)) text (Appends-trans w (contents b.writer.now) (contents c.writer.now) _ _ written f)
+      ap (λ l. list_text header line sent ++ l) gathered ∙ text_of_both header sent held
+      ∙ ap (λ l. list_text header line l) (sym all) in
+      subst (Appends w (contents c.writer.now)) text
+      (Appends-trans w (contents b.writer.now) (contents c.writer.now) _ _ written f)
 
   -- the sink stopped at a row of the walk
-  walk_stopped : (w : Option (List ℕ)) (header : List ℕ) (rows taken : List R) (row : R) (rest : List R) (last b : Lines W) → rows ≡ taken ++ row ∷ rest → Stands w header taken last
-      → StopsAtWrite contents last b (last.gathered.now ++ line row) → Ends line w (contents b.writer.now) header rows (listed (Err walk.Stopped) b.write_failed)
+  walk_stopped : (w : Option (List ℕ)) (header : List ℕ) (rows taken : List R) (row : R) (rest : List R)
+      (last b : Lines W) → rows ≡ taken ++ row ∷ rest → Stands w header taken last
+      → StopsAtWrite contents last b (last.gathered.now ++ line row)
+      → Ends line w (contents b.writer.now) header rows (listed (Err walk.Stopped) b.write_failed)
   walk_stopped w header rows taken row rest last b e (sent, held, all, written, gathered) f =
-      stopped b.write_failed w (contents last.writer.now) (contents b.writer.now) header rows sent (held ++ row ∷ []) rest (last.gathered.now ++ line row)
-      (e ∙ ap (λ l. l ++ row ∷ rest) all ∙ regroup sent held row rest) (ap (λ l. l ++ line row) gathered ∙ one_more held row) written f.0
+      stopped b.write_failed w (contents last.writer.now) (contents b.writer.now) header rows sent
+      (held ++ row ∷ []) rest (last.gathered.now ++ line row)
+      (e ∙ ap (λ l. l ++ row ∷ rest) all ∙ regroup sent held row rest)
+      (ap (λ l. l ++ line row) gathered ∙ one_more held row) written f.0
 
   -- after the header, the walk and its end, the list is written as its end says
-  pub list_written : (w : Option (List ℕ)) (header : List ℕ) (rows handed : List R) (a b c : Lines W) (end result : Result (Unit {0}) WalkFault) → Appends w (contents a.writer.now) header → a.gathered.now ≡ []
-      → handed ≡ rows → Hands Wrote Stopped handed a b end → Finishes contents b c end result → Ends line w (contents c.writer.now) header rows (listed result c.write_failed)
+  pub list_written : (w : Option (List ℕ)) (header : List ℕ) (rows handed : List R) (a b c : Lines W)
+      (end result : Result (Unit {0}) WalkFault) → Appends w (contents a.writer.now) header → a.gathered.now ≡ []
+      → handed ≡ rows → Hands Wrote Stopped handed a b end → Finishes contents b c end result
+      → Ends line w (contents c.writer.now) header rows (listed result c.write_failed)
   list_written w header rows handed a b c (Err walk.Stopped) result first none e h f =
-      let here = walk_stopped w header rows h.0 h.1 h.2 h.4 b (sym e ∙ h.3) (from_header w header h.0 a h.4 first none h.5) h.6.1 in
+      let here = walk_stopped w header rows h.0 h.1 h.2 h.4 b (sym e ∙ h.3)
+      (from_header w header h.0 a h.4 first none h.5) h.6.1 in
       subst (λ r. Ends line w (contents c.writer.now) header rows (listed r c.write_failed)) (sym f.0)
-      (subst (λ (s : Lines W). Ends line w (contents s.writer.now) header rows (listed (Err walk.Stopped) s.write_failed)) (sym f.1) here)
-  list_written w header rows handed a b c (Ok done) (Err walk.Stopped) first none e h f = rest_stopped w header rows handed [] b c (sym e ∙ sym (append-nil handed)) (from_header w header handed a b first none h) f
+      (subst (λ (s : Lines W). Ends line w (contents s.writer.now) header rows
+      (listed (Err walk.Stopped) s.write_failed)) (sym f.1) here)
+  list_written w header rows handed a b c (Ok done) (Err walk.Stopped) first none e h f = rest_stopped w header rows
+      handed [] b c (sym e ∙ sym (append-nil handed)) (from_header w header handed a b first none h) f
   list_written w header rows handed a b c (Ok done) (Ok ended) first none e h f =
-      whole_ends line w (contents c.writer.now) header rows (subst (λ rs. Appends w (contents c.writer.now) (list_text header line rs)) e (rest_written w header handed b c (from_header w header handed a b first none h) f.1))
+      whole_ends line w (contents c.writer.now) header rows
+      (subst (λ rs. Appends w (contents c.writer.now) (list_text header line rs)) e
+      (rest_written w header handed b c (from_header w header handed a b first none h) f.1))
   list_written w header rows handed a b c (Ok done) (Err walk.Memory) first none e h f = absurd (err_is_ok f.0)
   list_written w header rows handed a b c (Ok done) (Err walk.Store) first none e h f = absurd (err_is_ok f.0)
-  list_written w header rows handed a b c (Err walk.Memory) (Err walk.Stopped) first none e h f = rest_stopped w header rows h.0 h.1 b c (sym e ∙ h.2) (from_header w header h.0 a b first none h.3) f
+  list_written w header rows handed a b c (Err walk.Memory) (Err walk.Stopped) first none e h f =
+      rest_stopped w header rows h.0 h.1 b c (sym e ∙ h.2) (from_header w header h.0 a b first none h.3) f
   list_written w header rows handed a b c (Err walk.Memory) (Err walk.Memory) first none e h f =
-      front_ends line w (contents c.writer.now) header rows h.0 h.1 (sym e ∙ h.2) (rest_written w header h.0 b c (from_header w header h.0 a b first none h.3) f.1)
-  list_written w header rows handed a b c (Err walk.Memory) (Err walk.Store) first none e h f = absurd (store_is_memory (Err walk.Store) refl f.0)
+      front_ends line w (contents c.writer.now) header rows h.0 h.1 (sym e ∙ h.2)
+      (rest_written w header h.0 b c (from_header w header h.0 a b first none h.3) f.1)
+  list_written w header rows handed a b c (Err walk.Memory) (Err walk.Store) first none e h f =
+      absurd (store_is_memory (Err walk.Store) refl f.0)
   list_written w header rows handed a b c (Err walk.Memory) (Ok done) first none e h f = absurd (err_is_ok (sym f.0))
-  list_written w header rows handed a b c (Err walk.Store) (Err walk.Stopped) first none e h f = rest_stopped w header rows h.0 h.1 b c (sym e ∙ h.2) (from_header w header h.0 a b first none h.3) f
+  list_written w header rows handed a b c (Err walk.Store) (Err walk.Stopped) first none e h f =
+      rest_stopped w header rows h.0 h.1 b c (sym e ∙ h.2) (from_header w header h.0 a b first none h.3) f
   list_written w header rows handed a b c (Err walk.Store) (Err walk.Store) first none e h f =
-      front_ends line w (contents c.writer.now) header rows h.0 h.1 (sym e ∙ h.2) (rest_written w header h.0 b c (from_header w header h.0 a b first none h.3) f.1)
-  list_written w header rows handed a b c (Err walk.Store) (Err walk.Memory) first none e h f = absurd (store_is_memory (Err walk.Store) refl (sym f.0))
+      front_ends line w (contents c.writer.now) header rows h.0 h.1 (sym e ∙ h.2)
+      (rest_written w header h.0 b c (from_header w header h.0 a b first none h.3) f.1)
+  list_written w header rows handed a b c (Err walk.Store) (Err walk.Memory) first none e h f =
+      absurd (store_is_memory (Err walk.Store) refl (sym f.0))
   list_written w header rows handed a b c (Err walk.Store) (Ok done) first none e h f = absurd (err_is_ok (sym f.0))

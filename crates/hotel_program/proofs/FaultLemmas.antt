@@ -6,11 +6,14 @@ use Rattle.std.specs.Prelude.{OnOk, OnErr}
 use Rattle.std.specs.Io.KnownBytes.{Appends}
 use Rattle.hotel_lists.specs.Bytes.{AppendsFront}
 
-pub front_taken : {E : Type 0} (r : Result (Unit {0}) E) (old new : Option (List ℕ)) (text : List ℕ) → OnOk r (Appends old new text) → OnErr r (AppendsFront old new text) → AppendsFront old new text
-front_taken (Ok done) old new text whole front = (length text, omega arith, subst (Appends old new) (sym (take_all (length text) text (omega arith))) whole)
+pub front_taken : {E : Type 0} (r : Result (Unit {0}) E) (old new : Option (List ℕ)) (text : List ℕ)
+    → OnOk r (Appends old new text) → OnErr r (AppendsFront old new text) → AppendsFront old new text
+front_taken (Ok done) old new text whole front =
+    (length text, omega arith, subst (Appends old new) (sym (take_all (length text) text (omega arith))) whole)
 front_taken (Err why) old new text whole front = front
 
 -- A text was taken whole where no write failed.
-pub taken_whole : {E : Type 0} (r : Result (Unit {0}) E) (old new : Option (List ℕ)) (text : List ℕ) (failed : Bool) → OnOk r (Appends old new text) → OnErr r (failed ≡ true) → failed ≡ false → Appends old new text
+pub taken_whole : {E : Type 0} (r : Result (Unit {0}) E) (old new : Option (List ℕ)) (text : List ℕ) (failed : Bool)
+    → OnOk r (Appends old new text) → OnErr r (failed ≡ true) → failed ≡ false → Appends old new text
 taken_whole (Ok done) old new text failed whole err unfailed = whole
 taken_whole (Err why) old new text failed whole err unfailed = absurd (false≢true (sym unfailed ∙ err))

@@ -26,7 +26,8 @@ is_text [] h = cc h
 is_text (b ∷ text) h = λ e. cc e
 
 -- the line that the room isn't there was written
-pub told_no_room : (listing : Option Listing) (old mid new : Option (List ℕ)) → ListEnds [] listing old mid (Err fault.NoRoom) → Appends mid new (refusal_text refusal.NoRoom)
+pub told_no_room : (listing : Option Listing) (old mid new : Option (List ℕ))
+    → ListEnds [] listing old mid (Err fault.NoRoom) → Appends mid new (refusal_text refusal.NoRoom)
     → AnswerEnds listing old new (Err fault.NoRoom)
 told_no_room None old mid new p written = (refl, Appends-trans old mid new [] (refusal_text refusal.NoRoom) p.1 written)
 told_no_room (Some listing) old mid new p written = cc p.0
@@ -37,10 +38,16 @@ is_write (Ok done) p = absurd p
 is_write (Err e) p = ap (λ (f : ListFault). Err f) p
 
 -- a front of it was written
-pub cut_no_room : (listing : Option Listing) (old mid new : Option (List ℕ)) → ListEnds [] listing old mid (Err fault.NoRoom) → AppendsFront mid new (refusal_text refusal.NoRoom)
+pub cut_no_room : (listing : Option Listing) (old mid new : Option (List ℕ))
+    → ListEnds [] listing old mid (Err fault.NoRoom) → AppendsFront mid new (refusal_text refusal.NoRoom)
     → AnswerEnds listing old new (Err fault.Write)
-cut_no_room None old mid new p front = ((λ none. is_text (refusal_text refusal.NoRoom) refl), (front.0, front.1, Appends-trans old mid new [] (take front.0 (refusal_text refusal.NoRoom)) p.1 front.2))
+cut_no_room None old mid new p front = (
+  (λ none. is_text (refusal_text refusal.NoRoom) refl),
+  (front.0, front.1, Appends-trans old mid new [] (take front.0 (refusal_text refusal.NoRoom)) p.1 front.2),
+)
 cut_no_room (Some listing) old mid new p front = cc p.0
 
-pub answer_ends : (rows : Rows) (its_list : ListAsk) (old new : Option (List ℕ)) (end : Result (Unit {0}) ListFault) → AnswerEnds (listing_on rows its_list) old new end → AnswerEndsFor rows its_list old new end
-answer_ends rows its_list old new end p = λ h stands. subst (λ (l : Option Listing). AnswerEnds l old new end) (listing_stands h rows its_list stands) p
+pub answer_ends : (rows : Rows) (its_list : ListAsk) (old new : Option (List ℕ)) (end : Result (Unit {0}) ListFault)
+    → AnswerEnds (listing_on rows its_list) old new end → AnswerEndsFor rows its_list old new end
+answer_ends rows its_list old new end p =
+    λ h stands. subst (λ (l : Option Listing). AnswerEnds l old new end) (listing_stands h rows its_list stands) p

@@ -31,20 +31,24 @@ use Rattle.hotel_program.specs.Script.WholeScript.{LineHappens, ScriptGoes, answ
 use Rattle.hotel_program.specs.Shut.{ComesToNothing, ScriptsNothing, ServesNothing, TookNothing}
 
 -- there are as many answers as lines
-as_many : (sure : List ℕ → Type 0) (ls texts : List (List ℕ)) (h h' : History) (s s' : Stream) (failed : List Refusal) → ScriptGoes sure h s ls texts failed h' s' → length texts ≡ length ls
+as_many : (sure : List ℕ → Type 0) (ls texts : List (List ℕ)) (h h' : History) (s s' : Stream) (failed : List Refusal)
+    → ScriptGoes sure h s ls texts failed h' s' → length texts ≡ length ls
 unfolding ScriptGoes
 as_many sure [] [] h h' s s' failed r = refl
-as_many sure (line ∷ later) (text ∷ texts) h h' s s' failed r = omega (arith, as_many sure later texts r.0 h' r.1 s' r.3 r.5)
+as_many sure (line ∷ later) (text ∷ texts) h h' s s' failed r =
+    omega (arith, as_many sure later texts r.0 h' r.1 s' r.3 r.5)
 as_many sure [] (text ∷ texts) h h' s s' failed r = absurd r
 as_many sure (line ∷ later) [] h h' s s' failed r = absurd r
 
-none_in : (first more : List Bool) → has_answer first ≡ false → has_answer more ≡ false → has_answer (first ++ more) ≡ false
+none_in : (first more : List Bool) → has_answer first ≡ false → has_answer more ≡ false
+    → has_answer (first ++ more) ≡ false
 none_in [] more e f = f
 none_in (true ∷ first) more e f = cc e
 none_in (false ∷ first) more e f = none_in first more e f
 
 -- a line's answer and those of the lines behind it, of which the books gave none
-none_answered_to : (line : List ℕ) (later one rest : List (List ℕ)) → length one ≡ 1 → has_answer (answers_to (line ∷ []) one) ≡ false → has_answer (answers_to later rest) ≡ false
+none_answered_to : (line : List ℕ) (later one rest : List (List ℕ))
+    → length one ≡ 1 → has_answer (answers_to (line ∷ []) one) ≡ false → has_answer (answers_to later rest) ≡ false
     → has_answer (answers_to (line ∷ later) (one ++ rest)) ≡ false
 unfolding answers_to
 none_answered_to line later [] rest n e f = absurd (omega (arith, n))
@@ -53,26 +57,32 @@ none_answered_to line later (text ∷ []) rest n e f =
     none_in one (answers_to later rest) (subst (λ (l : List Bool). has_answer l ≡ false) (append-nil one) e) f
 none_answered_to line later (text ∷ other ∷ more) rest n e f = absurd (omega (arith, n))
 
-no_line : {W : Type 0} (contents : W → Option (List ℕ)) (old new : W) → new ≡ old → (has_answer (answers_to [] []) ≡ false) × Appends (contents old) (contents new) []
+no_line : {W : Type 0} (contents : W → Option (List ℕ)) (old new : W)
+    → new ≡ old → (has_answer (answers_to [] []) ≡ false) × Appends (contents old) (contents new) []
 unfolding answers_to
-no_line contents old new e = (refl, subst (λ w. Appends (contents old) (contents w) []) (sym e) (Appends-nil (contents old)))
+no_line contents old new e =
+    (refl, subst (λ w. Appends (contents old) (contents w) []) (sym e) (Appends-nil (contents old)))
 
-pub scripts_nothing : {S R W : Type 0} (I : IssuedOf S) (rows : S → Rows) (stream : R → Stream) (contents : W → Option (List ℕ)) → ScriptsNothing I rows stream contents
+pub scripts_nothing : {S R W : Type 0} (I : IssuedOf S) (rows : S → Rows) (stream : R → Stream)
+    (contents : W → Option (List ℕ)) → ScriptsNothing I rows stream contents
 scripts_nothing I rows stream contents old new [] p shut =
     let none = no_line contents old.2 new.2 (ap (λ s. s.2) p) in
     ([], refl, none.0, none.1)
 scripts_nothing I rows stream contents old new (line ∷ later) p shut =
     let mid = p.0 in
-    let honest = passes_before (λ s. I.is_honest s.0) (LineHappens I rows stream contents) (λ a b l went. went.since.was_honest) mid new later p.2 shut.0 in
+    let honest = passes_before (λ s. I.is_honest s.0) (LineHappens I rows stream contents)
+    (λ a b l went. went.since.was_honest) mid new later p.2 shut.0 in
     let s = happens_shut p.1 (honest, shut.1) in
     let one = s.2 in
-    let rest = scripts_nothing I rows stream contents mid new later p.2 (shut.0, λ clean. shut.1 (p.1.since.was_clean clean)) in
+    let rest =
+    scripts_nothing I rows stream contents mid new later p.2 (shut.0, λ clean. shut.1 (p.1.since.was_clean clean)) in
     let single : length one.0 ≡ 1 = as_many _ (line ∷ []) one.0 s.0 s.1 (stream old.1) (stream mid.1) one.1 one.2 in (
       one.0 ++ rest.0,
       simp length-append (omega (arith, single, rest.1)),
       none_answered_to line later one.0 rest.0 single (tells_shut one.4 (honest, shut.1)) rest.2,
       subst (Appends (contents old.2) (contents new.2)) (sym (concat-append one.0 rest.0))
-          (Appends-trans (contents old.2) (contents mid.2) (contents new.2) (concat one.0) (concat rest.0) one.3 rest.3),
+          (Appends-trans (contents old.2) (contents mid.2) (contents new.2) (concat one.0)
+          (concat rest.0) one.3 rest.3),
     )
 
 -- a reply that is no answer takes nothing
@@ -80,7 +90,8 @@ not_accepted : (given : Reply) → has_answer (answered_by given) ≡ false → 
 not_accepted (reply.Refused why) k = refl
 not_accepted _ k = cc k
 
-not_taken : (answers : List LineAnswer) → has_answer (map (λ given. true) (replies_in answers)) ≡ false → has_taken answers ≡ false
+not_taken : (answers : List LineAnswer)
+    → has_answer (map (λ given. true) (replies_in answers)) ≡ false → has_taken answers ≡ false
 not_taken [] k = refl
 not_taken (answer.Taken ∷ answers) k = cc k
 not_taken (answer.Seen ∷ answers) k = cc k
@@ -91,18 +102,24 @@ list_takes_nothing : (listing : Option Listing) → (listed listing).acted ≡ f
 list_takes_nothing None = refl
 list_takes_nothing (Some listing) = refl
 
-task_takes_nothing : (wanted : Task) (body : List ℕ) (h h' : History) (s s' : Stream) (out : Outcome) (failed : List Refusal) → TaskComes wanted body h s out failed h' s' → has_answer out.answered ≡ false → out.acted ≡ false
+task_takes_nothing : (wanted : Task) (body : List ℕ) (h h' : History)
+    (s s' : Stream) (out : Outcome) (failed : List Refusal)
+    → TaskComes wanted body h s out failed h' s' → has_answer out.answered ≡ false → out.acted ≡ false
 task_takes_nothing (task.Asks (ask.Command command)) body h h' s s' out failed came k =
     let none = subst (λ (o : Outcome). has_answer o.answered ≡ false) came.2 k in
     ap (λ (o : Outcome). o.acted) came.2 ∙ not_accepted came.0 none
-task_takes_nothing (task.Asks (ask.List its_list)) body h h' s s' out failed (inl came, e, f) k = ap (λ (o : Outcome). o.acted) came.0 ∙ list_takes_nothing (listing_over h its_list)
-task_takes_nothing (task.Asks (ask.List its_list)) body h h' s s' out failed (inr (inl came), e, f) k = ap (λ (o : Outcome). o.acted) came.0
-task_takes_nothing (task.Asks (ask.List its_list)) body h h' s s' out failed (inr (inr came), e, f) k = ap (λ (o : Outcome). o.acted) came.0
+task_takes_nothing (task.Asks (ask.List its_list)) body h h' s s' out failed (inl came, e, f) k =
+    ap (λ (o : Outcome). o.acted) came.0 ∙ list_takes_nothing (listing_over h its_list)
+task_takes_nothing (task.Asks (ask.List its_list)) body h h' s s' out failed (inr (inl came), e, f) k =
+    ap (λ (o : Outcome). o.acted) came.0
+task_takes_nothing (task.Asks (ask.List its_list)) body h h' s s' out failed (inr (inr came), e, f) k =
+    ap (λ (o : Outcome). o.acted) came.0
 task_takes_nothing task.Audit body h h' s s' out failed came k =
     let none = subst (λ (o : Outcome). has_answer o.answered ≡ false) came.6 k in
     ap (λ (o : Outcome). o.acted) came.6 ∙ import_takes_nothing came.0 none
   where
-    import_takes_nothing : (end : Result (List LineAnswer) ImportFault) → has_answer (imported end).answered ≡ false → (imported end).acted ≡ false
+    import_takes_nothing : (end : Result (List LineAnswer) ImportFault)
+        → has_answer (imported end).answered ≡ false → (imported end).acted ≡ false
     import_takes_nothing (Ok answers) k = not_taken answers k
     import_takes_nothing (Err (import.File why)) k = refl
     import_takes_nothing (Err (import.Memory answered true)) k = cc k
@@ -110,30 +127,46 @@ task_takes_nothing task.Audit body h h' s s' out failed came k =
     import_takes_nothing (Err (import.Store answered true)) k = cc k
     import_takes_nothing (Err (import.Store answered false)) k = refl
 
-takes_nothing : (wanted : Wanted) (h h' : History) (s s' : Stream) (out : Outcome) (failed : List Refusal) → Comes wanted h s out failed h' s' → has_answer out.answered ≡ false → out.acted ≡ false
+takes_nothing : (wanted : Wanted) (h h' : History) (s s' : Stream) (out : Outcome) (failed : List Refusal)
+    → Comes wanted h s out failed h' s' → has_answer out.answered ≡ false → out.acted ≡ false
 takes_nothing (Ok given) h h' s s' out failed came k = task_takes_nothing given.0 given.1 h h' s s' out failed came k
 takes_nothing (Err why) h h' s s' out failed came k = ap (λ (o : Outcome). o.acted) came.0
 
-took_nothing : (end : ConnectionEnd) (h h' : History) (s s' : Stream) (failed : List Refusal) (answered : List Bool) → ConnectionCame end h s failed answered h' s' → has_answer answered ≡ false → TookNothing end
+took_nothing : (end : ConnectionEnd) (h h' : History) (s s' : Stream) (failed : List Refusal) (answered : List Bool)
+    → ConnectionCame end h s failed answered h' s' → has_answer answered ≡ false → TookNothing end
 took_nothing None h h' s s' failed answered came k = tt
 took_nothing (Some (Ok served)) h h' s s' failed answered came k =
-    came.3.1 ∙ takes_nothing came.0 h h' s s' came.1 failed came.2 (subst (λ (l : List Bool). has_answer l ≡ false) came.4 k)
+    came.3.1
+    ∙ takes_nothing came.0 h h' s s' came.1 failed came.2 (subst (λ (l : List Bool). has_answer l ≡ false) came.4 k)
 took_nothing (Some (Err (Write acted))) h h' s s' failed answered (inl came) k =
-    came.3 ∙ takes_nothing came.0 h h' s s' came.1 failed came.2 (subst (λ (l : List Bool). has_answer l ≡ false) came.4 k)
+    came.3
+    ∙ takes_nothing came.0 h h' s s' came.1 failed came.2 (subst (λ (l : List Bool). has_answer l ≡ false) came.4 k)
 took_nothing (Some (Err (Write acted))) h h' s s' failed answered (inr came) k = came.0
 took_nothing (Some (Err Closed)) h h' s s' failed answered came k = tt
 took_nothing (Some (Err Read)) h h' s s' failed answered came k = tt
 took_nothing (Some (Err Memory)) h h' s s' failed answered came k = tt
 
-comes_to_nothing : {S R : Type 0} (I : IssuedOf S) (rows : S → Rows) (stream : R → Stream) (old new : S × R) (end : ConnectionEnd) → ConnectionHappens I rows stream old end new → BeganShut I old.0 new.0 → ComesToNothing end
+comes_to_nothing : {S R : Type 0} (I : IssuedOf S) (rows : S → Rows) (stream : R → Stream) (old new : S × R)
+    (end : ConnectionEnd) → ConnectionHappens I rows stream old end new → BeganShut I old.0 new.0 → ComesToNothing end
 comes_to_nothing I rows stream old new end went shut =
     let s = happens_shut went shut in
     let all = s.2.2 in
     let same : s.2.1 ≡ all.4 = all.9 ∙ (ap (λ (l : List Bool). all.4 ++ l) all.7.1 ∙ append-nil all.4) in
-    let none = subst (λ (l : List Bool). has_answer l ≡ false) same (tells_shut s.2.3 shut) in
-    (s.0, all.0, stream old.1, all.1, all.2, all.4, all.6, none, took_nothing end s.0 all.0 (stream old.1) all.1 all.2 all.4 all.6 none)
+    let none = subst (λ (l : List Bool). has_answer l ≡ false) same (tells_shut s.2.3 shut) in (
+      s.0,
+      all.0,
+      stream old.1,
+      all.1,
+      all.2,
+      all.4,
+      all.6,
+      none,
+      took_nothing end s.0 all.0 (stream old.1) all.1 all.2 all.4 all.6 none,
+    )
 
-pub serves_nothing : {S R : Type 0} (I : IssuedOf S) (rows : S → Rows) (stream : R → Stream) → ServesNothing I rows stream
+pub serves_nothing : {S R : Type 0} (I : IssuedOf S) (rows : S → Rows) (stream : R → Stream)
+    → ServesNothing I rows stream
 serves_nothing I rows stream =
-    passes_shut I (λ s. s.0) (ConnectionHappens I rows stream) ComesToNothing (λ old new end went. went.since.was_honest) (λ old new end went. went.since.was_clean)
+    passes_shut I (λ s. s.0) (ConnectionHappens I rows stream) ComesToNothing
+    (λ old new end went. went.since.was_honest) (λ old new end went. went.since.was_clean)
     (comes_to_nothing I rows stream)

@@ -46,7 +46,13 @@ module _ {fits : Rows → Type 0} {f : Rows → Rows} {a b : State} where
       go (Ok u) clean next = λ mid.
           let first = one.made clean mid in
           let last = next (λ _. (first.mid, subst more (sym first.rows_are) (still _ (mid first.was_open).1))) in
-          record { was_open = first.was_open; is_open = last.is_open; committed = last.committed ∙ first.committed; mid = last.mid; rows_are = last.rows_are ∙ ap g first.rows_are }
+          record {
+            was_open = first.was_open;
+            is_open = last.is_open;
+            committed = last.committed ∙ first.committed;
+            mid = last.mid;
+            rows_are = last.rows_are ∙ ap g first.rows_are;
+          }
 
   -- two, whatever the rows are
   pub then_makes : {g : Rows → Rows} {c : State} {u : Unit {0}} {r : Result (Unit {0}) Error}
@@ -54,27 +60,41 @@ module _ {fits : Rows → Type 0} {f : Rows → Rows} {a b : State} where
   then_makes one two = then_makes_if (λ _ _. tt) one two
 
   -- what failed promises no rows
-  pub failed : {others : Rows → Type 0} {make : Rows → Rows} {e : Error} (r : Result (Unit {0}) Error) → IsErr r → MakesRows fits f a b (Err e) → MakesRows others make a b r
+  pub failed : {others : Rows → Type 0} {make : Rows → Rows} {e : Error} (r : Result (Unit {0}) Error)
+      → IsErr r → MakesRows fits f a b (Err e) → MakesRows others make a b r
   failed (Ok u) is it = absurd cc
   failed (Err why) is it = record { made = λ clean. tt; kept = it.kept; survives = it.survives }
 
 -- the rows are the same by another word
-pub as_made : {fits others : Rows → Type 0} {f g : Rows → Rows} {a b : State} {r : Result (Unit {0}) Error} → ((rows : Rows) → others rows → fits rows) → ((rows : Rows) → others rows → f rows ≡ g rows)
+pub as_made : {fits others : Rows → Type 0} {f g : Rows → Rows} {a b : State} {r : Result (Unit {0}) Error}
+    → ((rows : Rows) → others rows → fits rows) → ((rows : Rows) → others rows → f rows ≡ g rows)
     → MakesRows fits f a b r → MakesRows others g a b r
-as_made {fits} {others} {f} {g} {a} {b} {r} fit same it = record { made = λ clean. go r (it.made clean); kept = it.kept; survives = it.survives }
+as_made {fits} {others} {f} {g} {a} {b} {r} fit same it =
+    record { made = λ clean. go r (it.made clean); kept = it.kept; survives = it.survives }
   where
-    go : (r : Result (Unit {0}) Error) → OnOk r (IsMidWith fits a → MovesRows a b f) → OnOk r (IsMidWith others a → MovesRows a b g)
+    go : (r : Result (Unit {0}) Error) → OnOk r (IsMidWith fits a → MovesRows a b f)
+        → OnOk r (IsMidWith others a → MovesRows a b g)
     go (Err e) made = tt
     go (Ok u) made = λ mid.
         let did = made (λ is_open. ((mid is_open).0, fit _ (mid is_open).1)) in
-        record { was_open = did.was_open; is_open = did.is_open; committed = did.committed; mid = did.mid; rows_are = did.rows_are ∙ same _ (mid did.was_open).1 }
+        record {
+          was_open = did.was_open;
+          is_open = did.is_open;
+          committed = did.committed;
+          mid = did.mid;
+          rows_are = did.rows_are ∙ same _ (mid did.was_open).1;
+        }
 
 -- one statement, given what it makes of the rows, and its parameters as they are bound
-pub makes_rows : {text : List ℕ} {given : Row} {fits : Rows → Type 0} {make : Rows → Rows} {old new : State} {r : Result (Unit {0}) Error} (params : Row) → RunsStatement text given old new r
-    → ((count : ℕ) → ExecutesInside 0 text params old new (Ok count) → IsMidWith fits old → MovesRows old new make) → given ≡ params → MakesRows fits make old new r
-makes_rows {text} {given} {fits} {make} {old} {new} {r} params it step same = record { made = λ clean. go r (it.ran clean); kept = it.kept; survives = it.survives }
+pub makes_rows : {text : List ℕ} {given : Row} {fits : Rows → Type 0} {make : Rows → Rows} {old new : State}
+    {r : Result (Unit {0}) Error} (params : Row) → RunsStatement text given old new r
+    → ((count : ℕ) → ExecutesInside 0 text params old new (Ok count) → IsMidWith fits old → MovesRows old new make)
+    → given ≡ params → MakesRows fits make old new r
+makes_rows {text} {given} {fits} {make} {old} {new} {r} params it step same =
+    record { made = λ clean. go r (it.ran clean); kept = it.kept; survives = it.survives }
   where
-    go : (r : Result (Unit {0}) Error) → OnOk r ((count : ℕ) × ExecutesInside 0 text given old new (Ok count)) → OnOk r (IsMidWith fits old → MovesRows old new make)
+    go : (r : Result (Unit {0}) Error) → OnOk r ((count : ℕ) × ExecutesInside 0 text given old new (Ok count))
+        → OnOk r (IsMidWith fits old → MovesRows old new make)
     go (Err e) ran = tt
     go (Ok u) ran = step ran.0 (subst (λ ps. ExecutesInside 0 text ps old new (Ok ran.0)) same ran.1)
 
@@ -87,15 +107,18 @@ pub record Begins (old start : State) : Type 1 where
 
 start_mid : (old start : State) → Begins old start → HasCleanDisk start → IsTrue start.is_open → IsMid start
 start_mid old start b clean is_open =
-    let kept : IsKept old = (subst (λ (s : State). HasCleanDisk s) b.begun clean, subst (λ (s : State). IsTrue s.is_open) b.begun is_open) in
+    let kept : IsKept old =
+    (subst (λ (s : State). HasCleanDisk s) b.begun clean, subst (λ (s : State). IsTrue s.is_open) b.begun is_open) in
     let desk = b.books.desk kept in
     subst IsMid (sym b.begun) (record { schema = desk.schema; inside = refl; tables = desk.tables })
 
 start_kept : (old start : State) → Begins old start → HasCleanDisk start → IsTrue start.is_open → IsKept old
-start_kept old start b clean is_open = (subst (λ (s : State). HasCleanDisk s) b.begun clean, subst (λ (s : State). IsTrue s.is_open) b.begun is_open)
+start_kept old start b clean is_open =
+    (subst (λ (s : State). HasCleanDisk s) b.begun clean, subst (λ (s : State). IsTrue s.is_open) b.begun is_open)
 
 -- the desk as it was, where a state has its committed rows
-restored : (old new : State) → IsDesk old → new.now ≡ old.committed → new.committed ≡ old.committed → IsDesk new × (new.now ≡ old.now)
+restored : (old new : State) → IsDesk old → new.now ≡ old.committed → new.committed ≡ old.committed
+    → IsDesk new × (new.now ≡ old.now)
 restored old new desk now committed =
     let same : new.now ≡ old.now = now ∙ sym desk.settled in (
       record {
@@ -107,8 +130,10 @@ restored old new desk now committed =
     )
 
 -- what was true of the rows as the change began is true as its transaction does
-fits_start : (old start : State) (P : Rows → Type 0) → Begins old start → (IsKept old → P (rows_in old.now.trees)) → HasCleanDisk start → IsTrue start.is_open → P (rows_in start.now.trees)
-fits_start old start P b fits clean is_open = subst (λ (s : State). P (rows_in s.now.trees)) (sym b.begun) (fits (start_kept old start b clean is_open))
+fits_start : (old start : State) (P : Rows → Type 0) → Begins old start → (IsKept old → P (rows_in old.now.trees))
+    → HasCleanDisk start → IsTrue start.is_open → P (rows_in start.now.trees)
+fits_start old start P b fits clean is_open =
+    subst (λ (s : State). P (rows_in s.now.trees)) (sym b.begun) (fits (start_kept old start b clean is_open))
 
 -- how a change ends that was made in one transaction
 pub record Ends (make : Rows → Rows) (old new : State) (r : Result (Unit {0}) Error) : Type 0 where
@@ -119,7 +144,8 @@ pub record Ends (make : Rows → Rows) (old new : State) (r : Result (Unit {0}) 
   pub same : IsKept new → OnErr r (new.now ≡ old.now)
   pub crash : Survives old new (IsMadeOf make old.now.trees)
 
-module _ {fits : Rows → Type 0} {make : Rows → Rows} {old start mid : State} {u : Unit {0}} (b : Begins old start) (may : IsKept old → fits (rows_in old.now.trees)) (did : MakesRows fits make start mid (Ok u)) where
+module _ {fits : Rows → Type 0} {make : Rows → Rows} {old start mid : State} {u : Unit {0}} (b : Begins old start)
+    (may : IsKept old → fits (rows_in old.now.trees)) (did : MakesRows fits make start mid (Ok u)) where
   all_steps : HasCleanDisk mid → MovesRows start mid make
   all_steps clean =
       let before : HasCleanDisk start = omega (arith, did.survives.clean, clean) in
@@ -131,8 +157,10 @@ module _ {fits : Rows → Type 0} {make : Rows → Rows} {old start mid : State}
   start_rows : rows_in start.now.trees ≡ rows_in old.now.trees
   start_rows = ap (λ (s : State). rows_in s.now.trees) b.begun
 
-  module _ {new : State} (r : Result (Unit {0}) Error) (zero : Survives old start (λ _. ⊥)) (committed : new.in_transaction ≡ false)
-      (ok : HasCleanDisk new → OnOk r (IsTrue mid.in_transaction × Shows mid new mid.now mid.now false × KeepsCounts mid new × (new.marks ≡ []))) (err : HasCleanDisk new → IfErr r (FailsToCommit mid new))
+  module _ {new : State} (r : Result (Unit {0}) Error) (zero : Survives old start (λ _. ⊥))
+      (committed : new.in_transaction ≡ false)
+      (ok : HasCleanDisk new → OnOk r (IsTrue mid.in_transaction × Shows mid new mid.now mid.now false
+      × KeepsCounts mid new × (new.marks ≡ []))) (err : HasCleanDisk new → IfErr r (FailsToCommit mid new))
       (two : Survives mid new (λ db. db ≡ mid.now.trees)) where
     clean_mid : HasCleanDisk new → HasCleanDisk mid
     clean_mid clean = omega (arith, two.clean, clean)
@@ -152,17 +180,23 @@ module _ {fits : Rows → Type 0} {make : Rows → Rows} {old start mid : State}
             let same = did_all.committed ∙ ap (λ (s : State). s.committed) b.begun in
             restored old new (b.books.desk (was_kept (clean_mid kept.0))) (done.0 ∙ same) (done.1 ∙ same)
 
-        go : (r : Result (Unit {0}) Error) → OnOk r (IsTrue mid.in_transaction × Shows mid new mid.now mid.now false × KeepsCounts mid new × (new.marks ≡ [])) → IfErr r (FailsToCommit mid new) → Ended r
+        go : (r : Result (Unit {0}) Error) → OnOk r (IsTrue mid.in_transaction × Shows mid new mid.now mid.now false
+            × KeepsCounts mid new × (new.marks ≡ [])) → IfErr r (FailsToCommit mid new) → Ended r
         go (Ok u) h k =
             let now = h.1.now_is in (
-              record { schema = ap (λ (d : Database). d.schema) now ∙ did_all.mid.schema; settled = now ∙ sym h.1.committed_is; tables = subst (λ (d : Database). AreTables d.trees) (sym now) did_all.mid.tables },
+              record {
+                schema = ap (λ (d : Database). d.schema) now ∙ did_all.mid.schema;
+                settled = now ∙ sym h.1.committed_is;
+                tables = subst (λ (d : Database). AreTables d.trees) (sym now) did_all.mid.tables;
+              },
               ap (λ (d : Database). rows_in d.trees) now ∙ did_all.rows_are ∙ ap make start_rows,
               tt,
             )
         go (Err e) h (inl fails) = let it = back fails.3 in (it.0, tt, it.1)
         go (Err e) h (inr late) = absurd (true≢false (sym did_all.mid.inside ∙ late.1))
 
-    left_open : (r : Result (Unit {0}) Error) → OnOk r (IsTrue mid.in_transaction × Shows mid new mid.now mid.now false × KeepsCounts mid new × (new.marks ≡ [])) → OnOk r (IsTrue new.is_open)
+    left_open : (r : Result (Unit {0}) Error) → OnOk r (IsTrue mid.in_transaction × Shows mid new mid.now mid.now false
+        × KeepsCounts mid new × (new.marks ≡ [])) → OnOk r (IsTrue new.is_open)
     left_open (Ok u) h = h.1.is_open
     left_open (Err e) h = tt
 
@@ -173,9 +207,14 @@ module _ {fits : Rows → Type 0} {make : Rows → Rows} {old start mid : State}
       open_on = λ clean. left_open r (ok clean);
       made = λ kept. (ends kept).1;
       same = λ kept. (ends kept).2;
-      crash = survives_then old mid new (λ _. ⊥) (λ db. db ≡ mid.now.trees) (IsMadeOf make old.now.trees) (λ _ db none. absurd none)
+      crash = survives_then old mid new (λ _. ⊥) (λ db. db ≡ mid.now.trees)
+          (IsMadeOf make old.now.trees) (λ _ db none. absurd none)
           (λ clean db is.
           let all = all_steps (clean_mid clean) in
-          record { tables = subst AreTables (sym is) all.mid.tables; rows_are = ap rows_in is ∙ all.rows_are ∙ ap make start_rows })
-          (survives_then old start mid (λ _. ⊥) (λ _. ⊥) (λ _. ⊥) (λ _ db none. none) (λ _ db none. none) zero did.survives) two;
+          record {
+            tables = subst AreTables (sym is) all.mid.tables;
+            rows_are = ap rows_in is ∙ all.rows_are ∙ ap make start_rows;
+          })
+          (survives_then old start mid (λ _. ⊥) (λ _. ⊥) (λ _. ⊥) (λ _ db none. none)
+          (λ _ db none. none) zero did.survives) two;
     }

@@ -53,7 +53,8 @@ turned : (k n : ℕ) → is_eq (nat_cmp k n) ≡ eqb n k
 turned k n = is_key k n
 
 pub issued_where_found : (k : ℕ) (rows : Rows) → is_some (code_place rows k) ≡ is_one_of k (codes_in rows)
-issued_where_found k rows = is_some-lookup (is_at (nat_cmp k)) rows.codes ∙ same_any (is_at (nat_cmp k)) (λ m. eqb m k) (turned k) (codes_in rows)
+issued_where_found k rows = is_some-lookup (is_at (nat_cmp k)) rows.codes
+    ∙ same_any (is_at (nat_cmp k)) (λ m. eqb m k) (turned k) (codes_in rows)
 
 module _ (db : Trees) (t : AreTables db) where
   -- a room, a note and a fit, as their tables have them
@@ -93,7 +94,8 @@ module _ (db : Trees) (t : AreTables db) where
       (λ r. refl) (λ r. refl) (λ e. (refl, refl)) (λ r. refl) t.fit o answers
 
   -- the day, where the row of meta is there
-  flat : {V : Type 0} (f : V → Option ℕ) (m : Option V) (o : Option (Option ℕ)) → o ≡ option_map f m → unwrap_or o None ≡ said_of m None f
+  flat : {V : Type 0} (f : V → Option ℕ) (m : Option V) (o : Option (Option ℕ))
+      → o ≡ option_map f m → unwrap_or o None ≡ said_of m None f
   flat f None o is = ap (λ w. unwrap_or w None) is
   flat f (Some v) o is = ap (λ w. unwrap_or w None) is
 
@@ -111,7 +113,8 @@ module _ (db : Trees) (t : AreTables db) where
       → passes (column_is 1 0 ∷ []) (Text kind ∷ []) r ≡ bytes_eq (kind_of (kind_columns r)) kind
   kind_tests kind r good =
       let key : column r 1 ≡ Text (kind_of (kind_columns r)) = ap (λ v. column v 0) good in
-      and_true _ ∙ ap (λ v. is_true (binary (Compare Eq Binary) v (Text kind))) key ∙ equals_text (kind_of (kind_columns r)) kind
+      and_true _ ∙ ap (λ v. is_true (binary (Compare Eq Binary) v (Text kind))) key
+      ∙ equals_text (kind_of (kind_columns r)) kind
 
   pub kind_finds : (kind : List ℕ) (o : Option (List ℕ))
       → AnswersFirst (λ v. text_of (column v 0)) (single kind_tree (column_is 1 0 ∷ []) (columns (1 ∷ [])) [])
@@ -131,18 +134,22 @@ module _ (db : Trees) (t : AreTables db) where
   room_tests room r good = and_true _ ∙ column_equals (column r 1) _ room (ap (λ v. column v 0) good)
 
   pair_tests : (room card : ℕ) (r : Row) → IsWrittenAs inside_columns inside_of inside_written r
-      → passes (by_pair 1 2) (int room ∷ int card ∷ []) r ≡ (eqb (inside_of (inside_columns r)).0 room && eqb (inside_of (inside_columns r)).1 card)
+      → passes (by_pair 1 2) (int room ∷ int card ∷ []) r
+      ≡ (eqb (inside_of (inside_columns r)).0 room && eqb (inside_of (inside_columns r)).1 card)
   pair_tests room card r good =
-      ap₂ (λ x y. x && y) (column_equals (column r 1) _ room (ap (λ v. column v 0) good)) (and_true _ ∙ column_equals (column r 2) _ card (ap (λ v. column v 1) good))
+      ap₂ (λ x y. x && y) (column_equals (column r 1) _ room (ap (λ v. column v 0) good))
+      (and_true _ ∙ column_equals (column r 2) _ card (ap (λ v. column v 1) good))
 
-  one_of_those : (room card : ℕ) (es : List (ℕ × ℕ)) → list_any (λ (e : ℕ × ℕ). eqb e.0 room && eqb e.1 card) es ≡ is_one_of card (those_in es room)
+  one_of_those : (room card : ℕ) (es : List (ℕ × ℕ))
+      → list_any (λ (e : ℕ × ℕ). eqb e.0 room && eqb e.1 card) es ≡ is_one_of card (those_in es room)
   one_of_those room card [] = refl
   one_of_those room card (e ∷ es) = elim (cases_Bool (eqb e.0 room)) [
     | inl is ↦ rw (is, one_of_those room card es) refl
     | inr other ↦ rw (other, one_of_those room card es) refl
   ]
 
-  some_of_those : (room : ℕ) (es : List (ℕ × ℕ)) → list_any (λ (e : ℕ × ℕ). eqb e.0 room) es ≡ not (are_none (those_in es room))
+  some_of_those : (room : ℕ) (es : List (ℕ × ℕ))
+      → list_any (λ (e : ℕ × ℕ). eqb e.0 room) es ≡ not (are_none (those_in es room))
   some_of_those room [] = refl
   some_of_those room (e ∷ es) = elim (cases_Bool (eqb e.0 room)) [
     | inl is ↦ rw is refl
@@ -159,7 +166,8 @@ module _ (db : Trees) (t : AreTables db) where
       (λ rows answer. found_rows pair_cmp pair_cmp_total (IsWrittenAs inside_columns inside_of inside_written)
       (λ r. inside_of (inside_columns r)) inside_tree (by_pair 1 2)
       (columns (2 ∷ [])) [] (int room ∷ int card ∷ []) (λ (e : ℕ × ℕ). eqb e.0 room && eqb e.1 card)
-      (λ v. number_of (column v 0)) (λ (e : ℕ × ℕ). e.1) db rows t.inside (pair_tests room card) (λ r. refl) answer) o a ∙ one_of_those room card (rows_in db).inside
+      (λ v. number_of (column v 0)) (λ (e : ℕ × ℕ). e.1) db rows t.inside (pair_tests room card) (λ r. refl) answer) o a
+      ∙ one_of_those room card (rows_in db).inside
 
   pub any_inside_finds : (room : ℕ) (o : Option ℕ)
       → AnswersFirst (λ v. number_of (column v 0)) (single inside_tree (column_is 1 0 ∷ []) (columns (2 ∷ [])) [])
@@ -171,4 +179,5 @@ module _ (db : Trees) (t : AreTables db) where
       (λ rows answer. found_rows pair_cmp pair_cmp_total (IsWrittenAs inside_columns inside_of inside_written)
       (λ r. inside_of (inside_columns r)) inside_tree (column_is 1 0 ∷ [])
       (columns (2 ∷ [])) [] (int room ∷ []) (λ (e : ℕ × ℕ). eqb e.0 room)
-      (λ v. number_of (column v 0)) (λ (e : ℕ × ℕ). e.1) db rows t.inside (room_tests room) (λ r. refl) answer) o a ∙ some_of_those room (rows_in db).inside
+      (λ v. number_of (column v 0)) (λ (e : ℕ × ℕ). e.1) db rows t.inside (room_tests room) (λ r. refl) answer) o a
+      ∙ some_of_those room (rows_in db).inside

@@ -22,7 +22,8 @@ use Rattle.hotel_statements.specs.LookUps.{LeavesNoMore}
 abbrev pub Stays : State → State → Type 0
 Stays old new = IsUnchanged old new ⊎ IsRolledBack old new
 
-pub fails_stay : (sql : List ℕ) (params : Row) (old new : State) (e : Error) → IsPlain (understood old.now.schema sql) → FailsToQuery sql params old new e → Stays old new
+pub fails_stay : (sql : List ℕ) (params : Row) (old new : State) (e : Error)
+    → IsPlain (understood old.now.schema sql) → FailsToQuery sql params old new e → Stays old new
 unfolding FailsToQuery IsNotRun
 fails_stay sql params old new e plain (inl (inl refused)) = inl refused.1
 fails_stay sql params old new e plain (inl (inr failed)) = inr failed.3
@@ -30,7 +31,8 @@ fails_stay sql params old new e plain (inr h) =
     let none = (subst IsPlain h.1.is plain).0 in
     inl (subst (FailsToShow old new sql h.0 _ e) none h.2).3
 
-pub query_stays : (sql : List ℕ) (params : Row) (old new : State) (r : Result Row Error) → IsPlain (understood old.now.schema sql) → QueriesRow sql params old new r
+pub query_stays : (sql : List ℕ) (params : Row) (old new : State) (r : Result Row Error)
+    → IsPlain (understood old.now.schema sql) → QueriesRow sql params old new r
     → Stays old new
 unfolding QueriesRow Shown
 query_stays sql params old new (Ok row) plain (inl h) = inl h.1
@@ -64,46 +66,58 @@ desk_stays old new (inr back) desk is_open =
     )
 
 -- Whatever the text is, a connection that is open now was open.
-show_opened : (sql : List ℕ) (c : Compiled) (params : Row) (old new : State) (rows : List Row) (how : Option Returning) → ShowsRows old new sql c params rows how
+show_opened : (sql : List ℕ) (c : Compiled) (params : Row) (old new : State) (rows : List Row) (how : Option Returning)
+    → ShowsRows old new sql c params rows how
     → IsTrue old.is_open
 show_opened sql c params old new rows None h = h.3.0.was_open
 show_opened sql c params old new rows (Some what) h = h.1.shown.was_open
 
-failed_opened : (sql : List ℕ) (c : Compiled) (params : Row) (old new : State) (e : Error) (how : Option Returning) → FailsToShow old new sql c params e how → IsTrue new.is_open
+failed_opened : (sql : List ℕ) (c : Compiled) (params : Row) (old new : State) (e : Error) (how : Option Returning)
+    → FailsToShow old new sql c params e how → IsTrue new.is_open
     → IsTrue old.is_open
 failed_opened sql c params old new e None h is_open = h.3.0.was_open
 failed_opened sql c params old new e (Some what) (inl h) is_open = h.1.0.was_open
 failed_opened sql c params old new e (Some what) (inr h) is_open = h.3.was_open is_open
 
-pub fail_opened : (sql : List ℕ) (params : Row) (old new : State) (e : Error) → FailsToQuery sql params old new e → IsTrue new.is_open → IsTrue old.is_open
+pub fail_opened : (sql : List ℕ) (params : Row) (old new : State) (e : Error)
+    → FailsToQuery sql params old new e → IsTrue new.is_open → IsTrue old.is_open
 unfolding FailsToQuery IsNotRun
 fail_opened sql params old new e (inl (inl h)) is_open = h.1.0.was_open
 fail_opened sql params old new e (inl (inr h)) is_open = h.3.was_open is_open
 fail_opened sql params old new e (inr h) is_open = failed_opened sql h.0 _ old new e h.0.returning h.2 is_open
 
-pub query_opened : (sql : List ℕ) (params : Row) (old new : State) (r : Result Row Error) → QueriesRow sql params old new r → IsTrue new.is_open → IsTrue old.is_open
+pub query_opened : (sql : List ℕ) (params : Row) (old new : State) (r : Result Row Error)
+    → QueriesRow sql params old new r → IsTrue new.is_open → IsTrue old.is_open
 unfolding QueriesRow Shown
 query_opened sql params old new (Ok row) (inl h) is_open = h.1.0.was_open
 query_opened sql params old new (Ok row) (inr h) is_open = show_opened sql h.1.0 _ old new h.0 h.1.0.returning h.1.2
 query_opened sql params old new (Err e) (inl h) is_open = fail_opened sql params old new e h is_open
 query_opened sql params old new (Err e) (inr h) is_open = show_opened sql h.1.0 _ old new [] h.1.0.returning h.1.2
 
-module _ (old new : State) (P : Trees → Type 0) (books : IsBooks old) (mode : old.in_transaction ≡ false → new.in_transaction ≡ false) (survives : Survives old new P)
-    (stays : HasCleanDisk new → IsDesk old → Stays old new) (opened : HasCleanDisk new → IsTrue new.is_open → IsTrue old.is_open) where
+module _ (old new : State) (P : Trees → Type 0) (books : IsBooks old)
+    (mode : old.in_transaction ≡ false → new.in_transaction ≡ false) (survives : Survives old new P)
+    (stays : HasCleanDisk new → IsDesk old → Stays old new)
+    (opened : HasCleanDisk new → IsTrue new.is_open → IsTrue old.is_open) where
   pub was_kept : IsKept new → IsKept old
   was_kept kept = (omega (arith, survives.clean, kept.0), opened kept.0 kept.1)
 
   pub keeps_books : IsBooks new
-  keeps_books = record { autocommit = mode books.autocommit; desk = λ kept. let desk = books.desk (was_kept kept) in (desk_stays old new (stays kept.0 desk) desk kept.1).0 }
+  keeps_books = record {
+    autocommit = mode books.autocommit;
+    desk = λ kept. let desk = books.desk (was_kept kept) in (desk_stays old new (stays kept.0 desk) desk kept.1).0;
+  }
 
   pub keeps_rows : KeepsRows old new
-  keeps_rows kept = let desk = books.desk (was_kept kept) in (was_kept kept, (desk_stays old new (stays kept.0 desk) desk kept.1).1)
+  keeps_rows kept =
+      let desk = books.desk (was_kept kept) in (was_kept kept, (desk_stays old new (stays kept.0 desk) desk kept.1).1)
 
-pub shown_opened : (sql : List ℕ) (params : Row) (old new : State) (rows : List Row) → Shown sql params old new rows → IsTrue old.is_open
+pub shown_opened : (sql : List ℕ) (params : Row) (old new : State) (rows : List Row)
+    → Shown sql params old new rows → IsTrue old.is_open
 unfolding Shown
 shown_opened sql params old new rows h = show_opened sql h.0 _ old new rows h.0.returning h.2
 
-pub shown_stay : (sql : List ℕ) (params : Row) (old new : State) (rows : List Row) → IsPlain (understood old.now.schema sql) → Shown sql params old new rows → Stays old new
+pub shown_stay : (sql : List ℕ) (params : Row) (old new : State) (rows : List Row)
+    → IsPlain (understood old.now.schema sql) → Shown sql params old new rows → Stays old new
 unfolding Shown
 shown_stay sql params old new rows plain h =
     let none = (subst IsPlain h.1.is plain).0 in
@@ -111,16 +125,19 @@ shown_stay sql params old new rows plain h =
 
 -- ---- a statement that showed rows left the connection open, whatever the text is
 
-show_is_open : (sql : List ℕ) (c : Compiled) (params : Row) (old new : State) (rows : List Row) (how : Option Returning) → ShowsRows old new sql c params rows how
+show_is_open : (sql : List ℕ) (c : Compiled) (params : Row) (old new : State) (rows : List Row) (how : Option Returning)
+    → ShowsRows old new sql c params rows how
     → IsTrue new.is_open
 show_is_open sql c params old new rows None h = h.3.0.is_open
 show_is_open sql c params old new rows (Some what) h = h.1.shown.is_open
 
-pub shown_is_open : (sql : List ℕ) (params : Row) (old new : State) (rows : List Row) → Shown sql params old new rows → IsTrue new.is_open
+pub shown_is_open : (sql : List ℕ) (params : Row) (old new : State) (rows : List Row)
+    → Shown sql params old new rows → IsTrue new.is_open
 unfolding Shown
 shown_is_open sql params old new rows h = show_is_open sql h.0 _ old new rows h.0.returning h.2
 
-pub first_is_open : (sql : List ℕ) (params : Row) (old new : State) (row : Row) → QueriesRow sql params old new (Ok row) → IsTrue new.is_open
+pub first_is_open : (sql : List ℕ) (params : Row) (old new : State) (row : Row)
+    → QueriesRow sql params old new (Ok row) → IsTrue new.is_open
 unfolding QueriesRow
 first_is_open sql params old new row (inl h) = h.1.0.is_open
 first_is_open sql params old new row (inr h) = shown_is_open sql params old new h.0 h.1
@@ -129,18 +146,21 @@ not_store : (cause : StoreError) → QueryReturnedNoRows ≡ store_error cause �
 not_store OutOfMemory e = absurd cc
 not_store _ e = absurd cc
 
-none_show_open : (sql : List ℕ) (c : Compiled) (params : Row) (old new : State) (how : Option Returning) → FailsToShow old new sql c params QueryReturnedNoRows how → IsTrue new.is_open
+none_show_open : (sql : List ℕ) (c : Compiled) (params : Row) (old new : State) (how : Option Returning)
+    → FailsToShow old new sql c params QueryReturnedNoRows how → IsTrue new.is_open
 none_show_open sql c params old new None h = h.3.0.is_open
 none_show_open sql c params old new (Some what) (inl h) = h.1.0.is_open
 none_show_open sql c params old new (Some what) (inr h) = absurd (not_store h.0 h.1)
 
-none_fail_open : (sql : List ℕ) (params : Row) (old new : State) → FailsToQuery sql params old new QueryReturnedNoRows → IsTrue new.is_open
+none_fail_open : (sql : List ℕ) (params : Row) (old new : State)
+    → FailsToQuery sql params old new QueryReturnedNoRows → IsTrue new.is_open
 unfolding FailsToQuery IsNotRun
 none_fail_open sql params old new (inl (inl h)) = h.1.0.is_open
 none_fail_open sql params old new (inl (inr h)) = absurd (not_store h.0 h.1)
 none_fail_open sql params old new (inr h) = none_show_open sql h.0 _ old new h.0.returning h.2
 
-pub none_is_open : (sql : List ℕ) (params : Row) (old new : State) → QueriesRow sql params old new (Err QueryReturnedNoRows) → IsTrue new.is_open
+pub none_is_open : (sql : List ℕ) (params : Row) (old new : State)
+    → QueriesRow sql params old new (Err QueryReturnedNoRows) → IsTrue new.is_open
 unfolding QueriesRow
 none_is_open sql params old new (inl h) = none_fail_open sql params old new h
 none_is_open sql params old new (inr h) = shown_is_open sql params old new [] h.1
@@ -170,7 +190,8 @@ then_keeps old mid new first then kept =
     let before = first after.0 in
     (before.0, after.1 ∙ before.1)
 
-pub then_survives : (old mid new : State) → (HasCleanDisk mid → IsTrue mid.is_open) → LeavesNoMore old mid → LeavesNoMore mid new
+pub then_survives : (old mid new : State)
+    → (HasCleanDisk mid → IsTrue mid.is_open) → LeavesNoMore old mid → LeavesNoMore mid new
     → LeavesNoMore old new
 then_survives old mid new open_on first then =
     survives_then old mid new _ _ _ (λ _ db none. none) (λ clean db none kept.

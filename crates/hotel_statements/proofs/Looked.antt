@@ -29,7 +29,8 @@ use Rattle.hotel_statements.proofs.Keeps.{first_unchanged}
 use Rattle.hotel_statements.proofs.Keeps.{fails_stay, fail_opened}
 
 -- no other failure is that no row was found
-not_read : (command : Command) (limit : Option ℕ) (db : Database) (params : Row) → RefusesToRead limit command db params QueryReturnedNoRows → ⊥
+not_read : (command : Command) (limit : Option ℕ) (db : Database) (params : Row)
+    → RefusesToRead limit command db params QueryReturnedNoRows → ⊥
 not_read (Select q names) limit db params (inl h) = absurd (let e = h.0 in cc)
 not_read (Select q names) limit db params (inr (inl h)) = absurd (let e = h.0 in cc)
 not_read (Select q names) limit db params (inr (inr h)) = absurd (let e = h.0 in cc)
@@ -40,7 +41,8 @@ not_store : (cause : StoreError) → QueryReturnedNoRows ≡ store_error cause �
 not_store OutOfMemory e = absurd cc
 not_store _ e = absurd cc
 
-not_failed : (sql : List ℕ) (params : Row) (old new : State) → IsPlain (understood old.now.schema sql) → FailsToQuery sql params old new QueryReturnedNoRows → ⊥
+not_failed : (sql : List ℕ) (params : Row) (old new : State)
+    → IsPlain (understood old.now.schema sql) → FailsToQuery sql params old new QueryReturnedNoRows → ⊥
 unfolding FailsToQuery IsNotRun
 not_failed sql params old new plain (inl (inl (inl h, same))) = absurd (let e = h.2 in cc)
 not_failed sql params old new plain (inl (inl (inr (c, is, inl h), same))) = absurd (let e = h.1 in cc)
@@ -51,7 +53,8 @@ not_failed sql params old new plain (inr h) =
     let none = (subst IsPlain h.1.is plain).0 in
     not_read h.0.command old.step_limit _ _ (subst (FailsToShow old new sql h.0 _ QueryReturnedNoRows) none h.2).2
 
-pub command_is : (q : Query) (r : Result Compiled CompileError) → IsQuery q r → (names : List (List ℕ)) × (command_of r ≡ Select (record { lets = []; body = q }) names)
+pub command_is : (q : Query) (r : Result Compiled CompileError)
+    → IsQuery q r → (names : List (List ℕ)) × (command_of r ≡ Select (record { lets = []; body = q }) names)
 command_is q (Ok c) is = is
 command_is q (Err e) is = absurd is
 
@@ -66,8 +69,10 @@ first_unread : (IsReadable : Row → Type 0) (row first : Row) (more : List Row)
     → ¬ All IsReadable (first ∷ more)
 first_unread IsReadable row first more is unread all = unread (subst IsReadable (sym is) (all 0 first (omega arith)))
 
-module _ (text : List ℕ) (params : Row) (old new : State) (r : Result Row Error) (books : IsBooks old) (asked : (q : Query) × Asks text q)
-    (runs : HasCleanDisk new → QueriesRow text params old new r) (mode : old.in_transaction ≡ false → new.in_transaction ≡ false)
+module _ (text : List ℕ) (params : Row) (old new : State) (r : Result Row Error) (books : IsBooks old)
+    (asked : (q : Query) × Asks text q)
+    (runs : HasCleanDisk new → QueriesRow text params old new r)
+    (mode : old.in_transaction ≡ false → new.in_transaction ≡ false)
     (survives : Survives old new (CommitsShowing text params old)) where
   stays : HasCleanDisk new → IsDesk old → Stays old new
   stays clean desk = query_stays text params old new r (plain_in text asked.0 old asked.1 desk) (runs clean)
@@ -82,27 +87,35 @@ module _ (text : List ℕ) (params : Row) (old new : State) (r : Result Row Erro
   looked = (
     keeps_books old new _ books mode survives stays opened,
     look_keeps,
-    survives_weaker old new _ _ (λ _ db commits kept. never_commits text params old db (plain_in text asked.0 old asked.1 (books.desk kept)) commits) survives,
+    survives_weaker old new _ _ (λ _ db commits kept. never_commits text params old db
+        (plain_in text asked.0 old asked.1 (books.desk kept)) commits) survives,
   )
 
-  pub look_found : {A : Type 0} (out : Row → A) (row : Row) (x : A) → r ≡ Ok row → x ≡ out row → IsKept new → (q : Query) → Asks text q
+  pub look_found : {A : Type 0} (out : Row → A) (row : Row) (x : A)
+      → r ≡ Ok row → x ≡ out row → IsKept new → (q : Query) → Asks text q
       → AnswersFirst out q params old.now.trees (Some x)
   look_found out row x is reads kept q asks =
       let desk = books.desk (look_keeps kept).0 in
-      let got = (first_as text params old new desk_schema desk.schema _ (command_is q _ asks.query).1 asks.plain asks.listing row
+      let got =
+      (first_as text params old new desk_schema desk.schema _ (command_is q _ asks.query).1 asks.plain asks.listing row
       (subst (QueriesRow text params old new) is (runs kept.0))).1 in
       (row, got.0, got.1 Null, reads)
 
-  pub look_lost : {A : Type 0} (out : Row → A) → r ≡ Err QueryReturnedNoRows → IsKept new → (q : Query) → Asks text q → AnswersFirst out q params old.now.trees None
+  pub look_lost : {A : Type 0} (out : Row → A) → r ≡ Err QueryReturnedNoRows → IsKept new → (q : Query)
+      → Asks text q → AnswersFirst out q params old.now.trees None
   unfolding QueriesRow
-  look_lost out is kept q asks = go (books.desk (look_keeps kept).0) (subst (QueriesRow text params old new) is (runs kept.0))
+  look_lost out is kept q asks =
+      go (books.desk (look_keeps kept).0) (subst (QueriesRow text params old new) is (runs kept.0))
     where
-      go : IsDesk old → QueriesRow text params old new (Err QueryReturnedNoRows) → AnswersFirst out q params old.now.trees None
+      go : IsDesk old → QueriesRow text params old new (Err QueryReturnedNoRows)
+          → AnswersFirst out q params old.now.trees None
       go desk (inl h) = absurd (not_failed text params old new (plain_in text q old asks desk) h)
-      go desk (inr h) = (reads_as text params old new desk_schema desk.schema _ (command_is q _ asks.query).1 asks.plain asks.listing [] h.1).answer Null
+      go desk (inr h) = (reads_as text params old new desk_schema desk.schema _
+          (command_is q _ asks.query).1 asks.plain asks.listing [] h.1).answer Null
 
   look_open : (row : Row) → r ≡ Ok row → HasCleanDisk new → IsTrue new.is_open
-  look_open row is clean = first_is_open text params old new row (subst (QueriesRow text params old new) is (runs clean))
+  look_open row is clean =
+      first_is_open text params old new row (subst (QueriesRow text params old new) is (runs clean))
 
   none_open : r ≡ Err QueryReturnedNoRows → HasCleanDisk new → IsTrue new.is_open
   none_open is clean = none_is_open text params old new (subst (QueriesRow text params old new) is (runs clean))
@@ -142,14 +155,19 @@ module _ (text : List ℕ) (params : Row) (old new : State) (r : Result Row Erro
   look_unread IsReadable row is unread clean =
       let kept : IsKept new = (clean, look_open row is clean) in
       let got = look_found (λ v. v) row row is refl kept asked.0 asked.1 in
-      inr ((look_keeps kept).0, (asked.0, asked.1, got.0 ∷ got.1, got.2, first_unread IsReadable row got.0 got.1 got.3 unread))
+      inr (
+        (look_keeps kept).0,
+        (asked.0, asked.1, got.0 ∷ got.1, got.2, first_unread IsReadable row got.0 got.1 got.3 unread),
+      )
 
 -- ---- all rows of an answer
 
 module _ (text : List ℕ) (params : Row) (old new : State) (books : IsBooks old) (asked : (q : Query) × Asks text q)
-    (mode : old.in_transaction ≡ false → new.in_transaction ≡ false) (survives : Survives old new (CommitsShowing text params old)) where
+    (mode : old.in_transaction ≡ false → new.in_transaction ≡ false)
+    (survives : Survives old new (CommitsShowing text params old)) where
   pub all_crash : LeavesNoMore old new
-  all_crash = survives_weaker old new _ _ (λ _ db commits kept. never_commits text params old db (plain_in text asked.0 old asked.1 (books.desk kept)) commits) survives
+  all_crash = survives_weaker old new _ _ (λ _ db commits kept. never_commits text params old db
+      (plain_in text asked.0 old asked.1 (books.desk kept)) commits) survives
 
   module _ (rows : List Row) (shown : HasCleanDisk new → Shown text params old new rows) where
     all_stays : HasCleanDisk new → IsDesk old → Stays old new
@@ -164,10 +182,15 @@ module _ (text : List ℕ) (params : Row) (old new : State) (books : IsBooks old
     pub all_keeps : KeepsRows old new
     all_keeps = keeps_rows old new _ books mode survives all_stays all_opened
 
-    pub all_found : {A : Type 0} (out : Row → A) (all : List A) → all ≡ map out rows → IsKept new → (q : Query) → Asks text q → AnswersAll out q params old.now.trees all
+    pub all_found : {A : Type 0} (out : Row → A) (all : List A) → all ≡ map out rows → IsKept new → (q : Query)
+        → Asks text q → AnswersAll out q params old.now.trees all
     all_found out all reads kept q asks =
-        let desk = books.desk (all_keeps kept).0 in
-        (rows, (reads_as text params old new desk_schema desk.schema _ (command_is q _ asks.query).1 asks.plain asks.listing rows (shown kept.0)).answer Null, reads)
+        let desk = books.desk (all_keeps kept).0 in (
+          rows,
+          (reads_as text params old new desk_schema desk.schema _
+              (command_is q _ asks.query).1 asks.plain asks.listing rows (shown kept.0)).answer Null,
+          reads,
+        )
 
     all_open : HasCleanDisk new → IsTrue new.is_open
     all_open clean = shown_is_open text params old new rows (shown clean)
@@ -184,7 +207,8 @@ module _ (text : List ℕ) (params : Row) (old new : State) (books : IsBooks old
         let before = (all_keeps kept).0 in
         let q = asked.0 in
         let asks = asked.1 in
-        let answer = (reads_as text params old new desk_schema (books.desk before).schema _ (command_is q _ asks.query).1 asks.plain
+        let answer =
+        (reads_as text params old new desk_schema (books.desk before).schema _ (command_is q _ asks.query).1 asks.plain
         asks.listing rows (shown clean)).answer Null in
         inr (before, (q, asks, rows, answer, unread))
 

@@ -31,24 +31,32 @@ use Rattle.hotel_statements.specs.Statements.{Statement, MakesBy}
 use Rattle.hotel_statements.proofs.InTurn.{made_then, made_as}
 use Rattle.hotel_statements.proofs.Writing.{went, same_value}
 
-pub creates : (schema : Schema) (text : List ℕ) (t : Table) (old new : State) (count : ℕ) → IsMaker schema text t → old.now.schema ≡ schema
+pub creates : (schema : Schema) (text : List ℕ) (t : Table) (old new : State) (count : ℕ)
+    → IsMaker schema text t → old.now.schema ≡ schema
     → ExecutesIn false text [] old new (Ok count)
-    → (new.now.schema ≡ created schema t) × (new.now.trees (next_tree schema) ≡ []) × KeepsRows schema.tables old.now.trees new.now.trees
+    → (new.now.schema ≡ created schema t) × (new.now.trees (next_tree schema) ≡ [])
+    × KeepsRows schema.tables old.now.trees new.now.trees
 creates schema text t old new count maker has h =
-    let w = subst (λ x. Writes old new None CreateTable x [] count) maker.whole (runs_as text [] old new schema has CreateTable maker.command maker.plain count h) in
+    let w = subst (λ x. Writes old new None CreateTable x [] count) maker.whole
+    (runs_as text [] old new schema has CreateTable maker.command maker.plain count h) in
     let all = went w.changed in
     let first = went all.1 in
     let made = first.1 in
     let same : made.table ≡ t = same_value (sym made.defined ∙ maker.defines) in
-    let after : first.0.schema ≡ created schema t = made.is ∙ ap (λ s. created s made.table) has ∙ ap (created schema) same in
+    let after : first.0.schema ≡ created schema t =
+    made.is ∙ ap (λ s. created s made.table) has ∙ ap (created schema) same in
     let plain : lacks_sequence first.0.schema ≡ false = ap lacks_sequence after ∙ maker.uncounted in
-    let now : new.now ≡ first.0 = ap (λ (p : Tally × Database). p.1) (same_value all.2) ∙ same_value (rw plain at first.2) in (
+    let now : new.now ≡ first.0 =
+    ap (λ (p : Tally × Database). p.1) (same_value all.2) ∙ same_value (rw plain at first.2) in (
       ap (λ (d : Database). d.schema) now ∙ after,
-      ap (λ (d : Database). d.trees (next_tree schema)) now ∙ subst (λ s. first.0.trees (next_tree s) ≡ []) has made.empty,
-      subst (λ (d : Database). KeepsRows schema.tables old.now.trees d.trees) (sym now) (subst (λ (s : Schema). KeepsRows s.tables old.now.trees first.0.trees) has made.others),
+      ap (λ (d : Database). d.trees (next_tree schema)) now
+          ∙ subst (λ s. first.0.trees (next_tree s) ≡ []) has made.empty,
+      subst (λ (d : Database). KeepsRows schema.tables old.now.trees d.trees) (sym now)
+          (subst (λ (s : Schema). KeepsRows s.tables old.now.trees first.0.trees) has made.others),
     )
 
-still_empty : (old new : Trees) (ts : List Table) (t : Table) → KeepsRows ts old new → AllByRecursion (λ (x : Table). old x.tree ≡ []) ts → new t.tree ≡ []
+still_empty : (old new : Trees) (ts : List Table) (t : Table)
+    → KeepsRows ts old new → AllByRecursion (λ (x : Table). old x.tree ≡ []) ts → new t.tree ≡ []
     → AllByRecursion (λ (x : Table). new x.tree ≡ []) (ts ++ t ∷ [])
 still_empty old new [] t kept all none = (none, tt)
 still_empty old new (x ∷ ts) t kept all none = (kept.0 ∙ all.0, still_empty old new ts t kept.1 all.1 none)
@@ -68,7 +76,8 @@ adds schema text t old new count maker has h =
     }
 
 -- a step of `create`, whatever the table is
-pub makes : (schema : Schema) (text : List ℕ) (t : Table) (old new : State) (count : ℕ) → IsMaker schema text t → IsBare schema old → ExecutesInside 0 text [] old new (Ok count)
+pub makes : (schema : Schema) (text : List ℕ) (t : Table) (old new : State) (count : ℕ)
+    → IsMaker schema text t → IsBare schema old → ExecutesInside 0 text [] old new (Ok count)
     → IsBare (created schema t) new
 makes schema text t old new count maker bare h =
     let did = adds schema text t old new count maker (λ _. bare.schema_is) h in record {

@@ -73,7 +73,8 @@ record IsState (n : ℕ) (room : Option ℕ) : Type 0 where
   number : n ≡ state_number (state_of n room)
   home : room ≡ room_of_state (state_of n room)
 
-is_state : (n : ℕ) (room : Option ℕ) → nat_le n 3 ≡ true → (cond (is_some room) (n == 1) (not (n == 1))) ≡ true → IsState n room
+is_state : (n : ℕ) (room : Option ℕ)
+    → nat_le n 3 ≡ true → (cond (is_some room) (n == 1) (not (n == 1))) ≡ true → IsState n room
 is_state n None low h = elim (cases_Bool (eqb n 0)) [
   | inl zero_is ↦ record {
     number = rw zero_is (grind (arith, nat_tests));
@@ -106,7 +107,8 @@ record IsAct (n : ℕ) (card : Option ℕ) (first second : ℕ) : Type 0 where
   from : first ≡ act_first (act_of n card first second)
   to : second ≡ act_second (act_of n card first second)
 
-is_act : (n : ℕ) (card : Option ℕ) (first second : ℕ) → (cond (is_some card) (nat_le n 1) (n == 2)) ≡ true → IsAct n card first second
+is_act : (n : ℕ) (card : Option ℕ) (first second : ℕ)
+    → (cond (is_some card) (nat_le n 1) (n == 2)) ≡ true → IsAct n card first second
 is_act n None first second h =
     let not_zero : eqb n 0 ≡ false = grind (arith, nat_tests) in
     let not_one : eqb n 1 ≡ false = grind (arith, nat_tests) in
@@ -156,15 +158,19 @@ kind_good l = (refl, refl)
 pub code_good : (l : PlainCode) → code_natural l ≡ true → Good code_of code_written code_shown code_entry l
 code_good l h =
     let b = and_true _ (is_natural l.place) h in
-    let a = and_true (is_natural l.code) (is_natural l.room) b.0 in
-    (rw (is_int l.code a.0, is_int l.room a.1, is_int l.place b.1) refl, rw (says l.code a.0, says l.room a.1, says l.place b.1) refl)
+    let a = and_true (is_natural l.code) (is_natural l.room) b.0 in (
+      rw (is_int l.code a.0, is_int l.room a.1, is_int l.place b.1) refl,
+      rw (says l.code a.0, says l.room a.1, says l.place b.1) refl,
+    )
 
 pub card_good : (l : PlainCard) → card_natural l ≡ true → Good card_of card_written card_shown card_entry l
 card_good l h =
     let d = and_true _ (is_natural l.new_code) h in
     let b = and_true _ (is_natural l.old_code) d.0 in
-    let a = and_true (is_natural l.number) (is_natural l.party) b.0 in
-    (rw (is_int l.number a.0, is_int l.party a.1, is_int l.old_code b.1, is_int l.new_code d.1) refl, rw (says l.number a.0, says l.party a.1, says l.old_code b.1, says l.new_code d.1) refl)
+    let a = and_true (is_natural l.number) (is_natural l.party) b.0 in (
+      rw (is_int l.number a.0, is_int l.party a.1, is_int l.old_code b.1, is_int l.new_code d.1) refl,
+      rw (says l.number a.0, says l.party a.1, says l.old_code b.1, says l.new_code d.1) refl,
+    )
 
 pub inside_good : (l : PlainInside) → inside_natural l ≡ true → Good inside_of inside_written inside_shown inside_pair l
 inside_good l h =
@@ -180,19 +186,36 @@ fit_good l h =
       rw (says l.room a.0, says l.fit a.1, says l.place b.1, says l.before c.1) refl,
     )
 
-pub room_good : (l : PlainRoom) → room_natural l ≡ true → room_columns l ≡ true → Good room_of room_written room_shown room_entry l
+pub room_good : (l : PlainRoom) → room_natural l ≡ true → room_columns l ≡ true
+    → Good room_of room_written room_shown room_entry l
 room_good l h bit =
     let f = and_true _ (is_natural l.notes) h in
     let e = and_true _ (may_be_natural l.party) f.0 in
     let d = and_true _ (is_natural l.secured) e.0 in
     let b = and_true _ (is_natural l.codes) d.0 in
     let a = and_true (is_natural l.room) (is_natural l.lock_place) b.0 in
-    let secured : Int l.secured ≡ int (bit_of (number_of l.secured == 1)) = is_int l.secured d.1 ∙ ap int (is_bit (number_of l.secured) bit) in (
-      rw (is_int l.room a.0, is_int l.lock_place a.1, is_int l.codes b.1, secured, is_maybe l.party e.1, is_int l.notes f.1) refl,
-      rw (says l.room a.0, says l.lock_place a.1, says l.codes b.1, says l.secured d.1, may_say l.party e.1, says l.notes f.1) refl,
+    let secured : Int l.secured ≡ int (bit_of (number_of l.secured == 1)) =
+    is_int l.secured d.1 ∙ ap int (is_bit (number_of l.secured) bit) in (
+      rw (
+        is_int l.room a.0,
+        is_int l.lock_place a.1,
+        is_int l.codes b.1,
+        secured,
+        is_maybe l.party e.1,
+        is_int l.notes f.1,
+      ) refl,
+      rw (
+        says l.room a.0,
+        says l.lock_place a.1,
+        says l.codes b.1,
+        says l.secured d.1,
+        may_say l.party e.1,
+        says l.notes f.1,
+      ) refl,
     )
 
-pub stay_good : (l : PlainStay) → stay_natural l ≡ true → stay_columns l ≡ true → Good stay_of stay_written stay_shown stay_entry l
+pub stay_good : (l : PlainStay) → stay_natural l ≡ true → stay_columns l ≡ true
+    → Good stay_of stay_written stay_shown stay_entry l
 stay_good l h fits =
     let e = and_true _ (may_be_natural l.room) h in
     let d = and_true _ (is_natural l.state) e.0 in
@@ -201,15 +224,18 @@ stay_good l h fits =
     let n = number_of l.state in
     let room = option_map number_of l.room in
     let t = and_true (nat_le n 3) _ fits in
-    let home : cond (is_some room) (n == 1) (not (n == 1)) ≡ true = ap (λ s. cond s (n == 1) (not (n == 1))) (some_mapped l.room) ∙ t.1 in
+    let home : cond (is_some room) (n == 1) (not (n == 1)) ≡ true =
+    ap (λ s. cond s (n == 1) (not (n == 1))) (some_mapped l.room) ∙ t.1 in
     let it = is_state n room t.0 home in
     let number : Int l.state ≡ int (state_number (state_of n room)) = is_int l.state d.1 ∙ ap int it.number in
-    let in_room : maybe l.room ≡ maybe_int (room_of_state (state_of n room)) = is_maybe l.room e.1 ∙ ap maybe_int it.home in (
+    let in_room : maybe l.room ≡ maybe_int (room_of_state (state_of n room)) =
+    is_maybe l.room e.1 ∙ ap maybe_int it.home in (
       rw (is_int l.party a.0, is_int l.arrive a.1, is_int l.depart b.1, number, in_room) refl,
       rw (says l.party a.0, says l.arrive a.1, says l.depart b.1, says l.state d.1, may_say l.room e.1) refl,
     )
 
-pub note_good : (l : PlainNote) → note_natural l ≡ true → note_columns l ≡ true → Good note_of note_written note_shown note_entry l
+pub note_good : (l : PlainNote) → note_natural l ≡ true → note_columns l ≡ true
+    → Good note_of note_written note_shown note_entry l
 note_good l h fits =
     let i = and_true _ (is_natural l.second) h in
     let f = and_true _ (is_natural l.day) i.0 in
@@ -223,7 +249,8 @@ note_good l h fits =
     let first = number_of l.first_code in
     let second = number_of l.second_code in
     let t = and_true (nat_le n 2) _ fits in
-    let by : cond (is_some card) (nat_le n 1) (n == 2) ≡ true = ap (λ s. cond s (nat_le n 1) (n == 2)) (some_mapped l.card) ∙ t.1 in
+    let by : cond (is_some card) (nat_le n 1) (n == 2) ≡ true =
+    ap (λ s. cond s (nat_le n 1) (n == 2)) (some_mapped l.card) ∙ t.1 in
     let it = is_act n card first second by in
     let number : Int l.act ≡ int (act_number (act_of n card first second)) = is_int l.act b.1 ∙ ap int it.number in
     let carded : maybe l.card ≡ maybe_int (act_card (act_of n card first second)) =

@@ -44,25 +44,32 @@ record Entered (old new : State) : Type 0 where
   pub note : new.now.trees note_tree ≡ old.now.trees note_tree
   pub fit : new.now.trees fit_tree ≡ old.now.trees fit_tree
 
-enters : (old new : State) (count : ℕ) → old.now.schema ≡ desk_schema → ExecutesIn false insert_meta [] old new (Ok count) → Entered old new
+enters : (old new : State) (count : ℕ)
+    → old.now.schema ≡ desk_schema → ExecutesIn false insert_meta [] old new (Ok count) → Entered old new
 enters old new count has h =
     let db = old.now.trees in
     let terms : List Term = lit (Int (pos 1)) ∷ lit Null ∷ lit (Int (pos 2)) ∷ lit Null ∷ [] in
     let command = Insert 0 (Values terms 4) in
-    let w = runs_as insert_meta [] old new desk_schema has command changes.insert_meta.is changes.insert_meta.plain count h in
+    let w =
+    runs_as insert_meta [] old new desk_schema has command changes.insert_meta.is changes.insert_meta.plain count h in
     let text = statement_of insert_meta (understood desk_schema insert_meta) in
-    let done = went (subst (λ s. Does old.step_limit (mode_of old) [] (record old.now { schema = s }) text None command (Ok (w.tally, new.now))) has w.changed) in
+    let done = went (subst (λ s. Does old.step_limit (mode_of old) [] (record old.now { schema = s }) text None command
+    (Ok (w.tally, new.now))) has w.changed) in
     let now = ap (λ (p : Tally × Database). p.1) (same_value (went (went done.2).2).2) in
     let given = went done.1 in
     let written = went (went given.2).2 in
     let counted = went written.2 in
-    let trees : done.0.trees ≡ written.0 = ap (λ (it : Written). it.trees) (same_value counted.2) ∙ same_value counted.1 in
+    let trees : done.0.trees ≡ written.0 =
+    ap (λ (it : Written). it.trees) (same_value counted.2) ∙ same_value counted.1 in
     let source : Row = int 1 ∷ Null ∷ int 2 ∷ Null ∷ [] in
-    let went_in = subst (λ all. Edited desk_schema (mode_of old).keys db (edit_of db table [] Chosen 0 all) (Ok written.0)) given.1.1 written.1 in
-    let applied = one_step desk_schema (mode_of old).keys db written.0 (edit_of db table [] Chosen 0 (source ∷ [])) refl went_in in
+    let went_in = subst (λ all. Edited desk_schema (mode_of old).keys db (edit_of db table [] Chosen 0 all)
+    (Ok written.0)) given.1.1 written.1 in
+    let applied =
+    one_step desk_schema (mode_of old).keys db written.0 (edit_of db table [] Chosen 0 (source ∷ [])) refl went_in in
     let edit : edited db (edit_of db table [] Chosen 0 (source ∷ []))
     ≡ put_row meta_row (db meta_tree) = rw (cast_null, cast_int (pos 1), cast_int (pos 2)) refl in
-    let at : (t : ℕ) → new.now.trees t ≡ written.0 t = λ t. ap (λ (d : Database). d.trees t) now ∙ ap (λ (s : Trees). s t) trees in
+    let at : (t : ℕ) → new.now.trees t ≡ written.0 t =
+    λ t. ap (λ (d : Database). d.trees t) now ∙ ap (λ (s : Trees). s t) trees in
     record {
       schema = ap (λ (d : Database). d.schema) now;
       meta = at meta_tree ∙ applied.rows ∙ edit;
@@ -97,7 +104,8 @@ empty_desk db meta kind room stay code card inside note fit = record {
   no_rows_are = rw (meta, kind, room, stay, code, card, inside, note, fit) refl;
 }
 
-pub enters_meta : (old new : State) (count : ℕ) → ExecutesInside 0 insert_meta [] old new (Ok count) → (IsTrue old.is_open → IsBare desk_schema old) → IsMade new
+pub enters_meta : (old new : State) (count : ℕ)
+    → ExecutesInside 0 insert_meta [] old new (Ok count) → (IsTrue old.is_open → IsBare desk_schema old) → IsMade new
 enters_meta old new count h bare =
     let was = bare h.1.was_open in
     let did = enters old new count was.schema_is h.0 in
@@ -105,7 +113,8 @@ enters_meta old new count h bare =
     record {
       inside = subst IsTrue (sym h.1.mode) refl;
       schema_is = did.schema;
-      empty = empty_desk new.now.trees (did.meta ∙ ap (put_row meta_row) none.0) (did.kind ∙ none.1.0) (did.room ∙ none.1.1.0) (did.stay ∙ none.1.1.1.0)
+      empty = empty_desk new.now.trees (did.meta ∙ ap (put_row meta_row) none.0) (did.kind ∙ none.1.0)
+          (did.room ∙ none.1.1.0) (did.stay ∙ none.1.1.1.0)
           (did.code ∙ none.1.1.1.1.0)
           (did.card ∙ none.1.1.1.1.1.0) (did.inside ∙ none.1.1.1.1.1.1.0) (did.note ∙ none.1.1.1.1.1.1.1.0)
           (did.fit ∙ none.1.1.1.1.1.1.1.1.0);

@@ -38,25 +38,35 @@ map_all f g (x ∷ xs) all = ap₂ (λ y ys. y ∷ ys) all.0 (map_all f g xs all
 
 module _ {X : Type 0} (cmp : X → X → Ordering) (total : IsTotalOrder cmp) (Good : Row → Type 0) (of : Row → X) where
   -- what is known of each row is known of the sorted list
-  pub all_listed : (P : X → Type 0) (rows : List Row) → AllByRecursion P (map of rows) → AllByRecursion P (listed cmp of rows)
-  all_listed P rows all = every_shuffled P (map of rows) (listed cmp of rows) (IsPermutation-sym _ _ (IsPermutation-sort_by cmp total (map of rows))) all
+  pub all_listed : (P : X → Type 0) (rows : List Row)
+      → AllByRecursion P (map of rows) → AllByRecursion P (listed cmp of rows)
+  all_listed P rows all = every_shuffled P (map of rows) (listed cmp of rows)
+      (IsPermutation-sym _ _ (IsPermutation-sort_by cmp total (map of rows))) all
 
   -- the answer, where these are what the query sorts by and shows, in an order that rises
-  pub ordered_rows : (tree : ℕ) (test project : List Term) (order : List (Term × Key)) (params : Row) (q : X → Bool) (outs : X → Output) (db : Trees) (rows : List Row)
+  pub ordered_rows : (tree : ℕ) (test project : List Term) (order : List (Term × Key)) (params : Row) (q : X → Bool)
+      (outs : X → Output) (db : Trees) (rows : List Row)
       (mine : List X)
       → IsTableOf cmp Good of (db tree) → ((r : Row) → Good r → passes test params r ≡ q (of r))
       → ((r : Row) → Good r → output (single tree test project order) (env params r) ≡ outs (of r))
-      → IsPermutation (filter q (listed cmp of (db tree))) mine → IsAscending (λ a b. output_cmp (single tree test project order) a b ≡ Less) (map outs mine)
+      → IsPermutation (filter q (listed cmp of (db tree))) mine
+      → IsAscending (λ a b. output_cmp (single tree test project order) a b ≡ Less) (map outs mine)
       → IsAnswer (single tree test project order) (overlay db []) params rows → rows ≡ map (λ x. (outs x).1) mine
   ordered_rows tree test project order params q outs db rows mine was tests shows same up a =
       let it = answered tree test project order (overlay db []) params rows a in
       let o : Row → Output = λ r. output (single tree test project order) (env params r) in
       let some = filter (passes test params) (db tree) in
-      let first : IsPermutation (map o some) it.ordered = subst (λ rs. IsPermutation (map o (filter (passes test params) rs)) it.ordered) (same_tree db tree) it.same in
-      let good = all_weaker Good (λ r. o r ≡ outs (of r)) shows some (all-filter Good (passes test params) (db tree) was.good) in
-      let left : map o some ≡ map outs (map of some) = map_all o (λ r. outs (of r)) some good ∙ sym (fused outs of some) in
-      let kept = IsPermutation-map outs _ _ (IsPermutation-trans _ _ _ (kept_rows cmp total Good of (passes test params) q (db tree) was tests) same) in
-      let all : IsPermutation (map outs mine) it.ordered = IsPermutation-trans _ _ _ (IsPermutation-sym _ _ kept) (subst (λ xs. IsPermutation xs it.ordered) left first) in
+      let first : IsPermutation (map o some) it.ordered =
+      subst (λ rs. IsPermutation (map o (filter (passes test params) rs)) it.ordered) (same_tree db tree) it.same in
+      let good =
+      all_weaker Good (λ r. o r ≡ outs (of r)) shows some (all-filter Good (passes test params) (db tree) was.good) in
+      let left : map o some ≡ map outs (map of some) =
+      map_all o (λ r. outs (of r)) some good ∙ sym (fused outs of some) in
+      let kept = IsPermutation-map outs _ _
+      (IsPermutation-trans _ _ _ (kept_rows cmp total Good of (passes test params) q (db tree) was tests) same) in
+      let all : IsPermutation (map outs mine) it.ordered =
+      IsPermutation-trans _ _ _ (IsPermutation-sym _ _ kept) (subst (λ xs. IsPermutation xs it.ordered) left first) in
       let sorted : it.ordered ≡ map outs mine =
-      sorted_unique (output_cmp (single tree test project order)) (output_cmp_total (single tree test project order)) (map outs mine) it.ordered up all it.sorted in
+      sorted_unique (output_cmp (single tree test project order)) (output_cmp_total (single tree test project order))
+      (map outs mine) it.ordered up all it.sorted in
       it.shown ∙ ap (map (λ (x : Output). x.1)) sorted ∙ fused (λ (x : Output). x.1) outs mine

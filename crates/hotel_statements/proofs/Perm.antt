@@ -22,20 +22,24 @@ use Rattle.sqlite_keyed.proofs.ListLemmas.{ascending-filter}
 use Rattle.hotel_statements.specs.Tables.{IsTableOf, listed, AreApartIds, HasId}
 use Rattle.sqlite_keyed.proofs.SortLemmas.{HasNoTies, sorted_is-sort_by, sorted_unique, IsPermutation-sort_by}
 
-pub every_shuffled : {X : Type 0} (P : X → Type 0) (xs ys : List X) → IsPermutation xs ys → AllByRecursion P xs → AllByRecursion P ys
+pub every_shuffled : {X : Type 0} (P : X → Type 0) (xs ys : List X)
+    → IsPermutation xs ys → AllByRecursion P xs → AllByRecursion P ys
 every_shuffled P xs ys same all = recursion_from_All P ys (All-permutation P xs ys same (All-from_recursion P xs all))
 
 -- a row with a fresh rowid is put among the others, whatever their order
-pub put_fresh : (new : Row) (rows : List Row) → is_taken rows new ≡ false → IsPermutation (put_row new rows) (new ∷ rows)
+pub put_fresh : (new : Row) (rows : List Row)
+    → is_taken rows new ≡ false → IsPermutation (put_row new rows) (new ∷ rows)
 put_fresh new [] fresh = IsPermutation-refl _
 put_fresh new (r ∷ rs) fresh = go (λ rest. put_fresh new rs rest) (value_cmp (rowid r) (rowid new)) refl
   where
     more : is_eq (value_cmp (rowid r) (rowid new)) ≡ false → is_taken rs new ≡ false
     more other = rw other at fresh
 
-    go : (is_taken rs new ≡ false → IsPermutation (put_row new rs) (new ∷ rs)) → (o : Ordering) → value_cmp (rowid r) (rowid new) ≡ o
+    go : (is_taken rs new ≡ false → IsPermutation (put_row new rs) (new ∷ rs)) → (o : Ordering)
+        → value_cmp (rowid r) (rowid new) ≡ o
         → IsPermutation (match_ordering o (r ∷ put_row new rs) (new ∷ rs) (new ∷ r ∷ rs)) (new ∷ r ∷ rs)
-    go rest Less e = IsPermutation-trans _ _ _ (IsPermutation-cons r _ _ (rest (more (ap is_eq e)))) (IsPermutation-middle (r ∷ []) new rs)
+    go rest Less e = IsPermutation-trans _ _ _ (IsPermutation-cons r _ _ (rest (more (ap is_eq e))))
+        (IsPermutation-middle (r ∷ []) new rs)
     go rest Equal e = absurd (true≢false (let t = rw e at fresh in t))
     go rest Greater e = IsPermutation-refl _
 
@@ -52,11 +56,13 @@ module _ {X : Type 0} (cmp : X → X → Ordering) (total : IsTotalOrder cmp) wh
   sorted_rises [] up = λ k d low high. absurd (omega arith)
   sorted_rises (x ∷ xs) up = λ k d low high. go (sorted_rises xs up.1) k d high
     where
-      go : IsSorted cmp xs → (k : ℕ) (d : X) → k + 1 < length (x ∷ xs) → is_lt (cmp (get_or (x ∷ xs) (k + 1) d) (get_or (x ∷ xs) k d)) ≡ false
+      go : IsSorted cmp xs → (k : ℕ) (d : X)
+          → k + 1 < length (x ∷ xs) → is_lt (cmp (get_or (x ∷ xs) (k + 1) d) (get_or (x ∷ xs) k d)) ≡ false
       go rest zero d high = not_lt x _ (all_at (λ b. cmp x b ≡ Less) xs 0 d (omega arith) up.0)
       go rest (suc k) d high = rw add-one (rw add-one at (rest k d (omega arith) (omega arith)))
 
-  all_inserted : (P : X → Type 0) (new : X) (xs : List X) → P new → AllByRecursion P xs → AllByRecursion P (insert_sorted cmp new xs)
+  all_inserted : (P : X → Type 0) (new : X) (xs : List X)
+      → P new → AllByRecursion P xs → AllByRecursion P (insert_sorted cmp new xs)
   all_inserted P new [] h all = (h, tt)
   all_inserted P new (x ∷ xs) h all = elim (cases_Bool (is_gt (cmp new x))) [
     | inl above ↦ rw above (all.0, all_inserted P new xs h all.1)
@@ -67,7 +73,8 @@ module _ {X : Type 0} (cmp : X → X → Ordering) (total : IsTotalOrder cmp) wh
   all_sorted P [] all = tt
   all_sorted P (x ∷ xs) all = all_inserted P x _ all.0 (all_sorted P xs all.1)
 
-  insert_rises : (new : X) (xs : List X) → AllByRecursion (λ y. is_eq (cmp new y) ≡ false) xs → IsAscending (λ a b. cmp a b ≡ Less) xs
+  insert_rises : (new : X) (xs : List X) → AllByRecursion (λ y. is_eq (cmp new y) ≡ false) xs
+      → IsAscending (λ a b. cmp a b ≡ Less) xs
       → IsAscending (λ a b. cmp a b ≡ Less) (insert_sorted cmp new xs)
   insert_rises new [] apart up = (tt, tt)
   insert_rises new (x ∷ xs) apart up = go (insert_rises new xs apart.1 up.1) (cmp new x) refl
@@ -98,41 +105,57 @@ module _ {X : Type 0} (cmp : X → X → Ordering) (total : IsTotalOrder cmp) wh
   apart_permuted xs ys same =
       let all : Moves xs ys = along_permutation Moves
       (λ zs. (IsPermutation-refl zs, λ h. h))
-      (λ z a b h. (IsPermutation-cons z a b h.0, λ apart. (every_shuffled (λ y. is_eq (cmp z y) ≡ false) a b h.0 apart.0, h.1 apart.1)))
-      (λ x y zs. (IsPermutation-middle (x ∷ []) y zs, λ apart. ((same_tie y x ∙ apart.0.0, apart.1.0), (apart.0.1, apart.1.1))))
+      (λ z a b h. (
+        IsPermutation-cons z a b h.0,
+        λ apart. (every_shuffled (λ y. is_eq (cmp z y) ≡ false) a b h.0 apart.0, h.1 apart.1),
+      ))
+      (λ x y zs.
+      (IsPermutation-middle (x ∷ []) y zs, λ apart. ((same_tie y x ∙ apart.0.0, apart.1.0), (apart.0.1, apart.1.1))))
       (λ a b c p q. (IsPermutation-trans a b c p.0 q.0, λ apart. q.1 (p.1 apart))) xs ys same in
       all.1
 
   -- the sorted list does not either
   pub sort_permuted : (xs ys : List X) → HasNoTies cmp total xs → IsPermutation xs ys → sort_by cmp ys ≡ sort_by cmp xs
   sort_permuted xs ys apart same =
-      sorted_is-sort_by cmp total xs (sort_by cmp ys) apart (IsPermutation-trans _ _ _ same (IsPermutation-sym _ _ (IsPermutation-sort_by cmp total ys)))
+      sorted_is-sort_by cmp total xs (sort_by cmp ys) apart
+      (IsPermutation-trans _ _ _ same (IsPermutation-sym _ _ (IsPermutation-sort_by cmp total ys)))
       (sorted_rises _ (sort_rises ys (apart_permuted xs ys same apart)))
 
-  pub sort_filtered : (q : X → Bool) (xs : List X) → HasNoTies cmp total xs → HasNoTies cmp total (filter q xs) → sort_by cmp (filter q xs) ≡ filter q (sort_by cmp xs)
+  pub sort_filtered : (q : X → Bool) (xs : List X) → HasNoTies cmp total xs → HasNoTies cmp total (filter q xs)
+      → sort_by cmp (filter q xs) ≡ filter q (sort_by cmp xs)
   sort_filtered q xs apart left =
       sym (sorted_unique cmp total (sort_by cmp (filter q xs)) (filter q (sort_by cmp xs)) (sort_rises _ left)
-      (IsPermutation-trans _ _ _ (IsPermutation-sort_by cmp total (filter q xs)) (IsPermutation-filter q _ _ (IsPermutation-sym _ _ (IsPermutation-sort_by cmp total xs))))
+      (IsPermutation-trans _ _ _ (IsPermutation-sort_by cmp total (filter q xs))
+      (IsPermutation-filter q _ _ (IsPermutation-sym _ _ (IsPermutation-sort_by cmp total xs))))
       (sorted_rises _ (ascending-filter _ q _ (sort_rises xs apart))))
 
   module _ (Good : Row → Type 0) (of : Row → X) where
     pub put_makes : (new : Row) (rows : List Row) → IsTableOf cmp Good of rows → Good new → is_taken rows new ≡ false
         → AllByRecursion (λ y. is_eq (cmp (of new) y) ≡ false) (map of rows)
-        → IsTableOf cmp Good of (put_row new rows) × (listed cmp of (put_row new rows) ≡ insert_sorted cmp (of new) (listed cmp of rows))
+        → IsTableOf cmp Good of (put_row new rows)
+        × (listed cmp of (put_row new rows) ≡ insert_sorted cmp (of new) (listed cmp of rows))
     put_makes new rows was fits fresh new_key =
         let moved = IsPermutation-sym _ _ (put_fresh new rows fresh) in
-        let mapped : IsPermutation (of new ∷ map of rows) (map of (put_row new rows)) = IsPermutation-map of _ _ moved in
-        let apart : HasNoTies cmp total (of new ∷ map of rows) = (new_key, was.apart) in
-        (record { good = every_shuffled Good (new ∷ rows) (put_row new rows) moved (fits, was.good); apart = apart_permuted _ _ mapped apart }, sort_permuted _ _ apart mapped)
+        let mapped : IsPermutation (of new ∷ map of rows) (map of (put_row new rows)) =
+        IsPermutation-map of _ _ moved in
+        let apart : HasNoTies cmp total (of new ∷ map of rows) = (new_key, was.apart) in (
+          record {
+            good = every_shuffled Good (new ∷ rows) (put_row new rows) moved (fits, was.good);
+            apart = apart_permuted _ _ mapped apart;
+          },
+          sort_permuted _ _ apart mapped,
+        )
 
-    pub filter_mapped : (p : Row → Bool) (q : X → Bool) (rows : List Row) → AllByRecursion (λ r. p r ≡ q (of r)) rows → map of (filter p rows) ≡ filter q (map of rows)
+    pub filter_mapped : (p : Row → Bool) (q : X → Bool) (rows : List Row)
+        → AllByRecursion (λ r. p r ≡ q (of r)) rows → map of (filter p rows) ≡ filter q (map of rows)
     filter_mapped p q [] all = refl
     filter_mapped p q (r ∷ rows) all = elim (cases_Bool (q (of r))) [
       | inl is ↦ rw (all.0, is, filter_mapped p q rows all.1) refl
       | inr other ↦ rw (all.0, other, filter_mapped p q rows all.1) refl
     ]
 
-    pub filter_makes : (p : Row → Bool) (q : X → Bool) (rows : List Row) → IsTableOf cmp Good of rows → AllByRecursion (λ r. p r ≡ q (of r)) rows
+    pub filter_makes : (p : Row → Bool) (q : X → Bool) (rows : List Row)
+        → IsTableOf cmp Good of rows → AllByRecursion (λ r. p r ≡ q (of r)) rows
         → IsTableOf cmp Good of (filter p rows) × (listed cmp of (filter p rows) ≡ filter q (listed cmp of rows))
     filter_makes p q rows was all =
         let same = filter_mapped p q rows all in
@@ -144,22 +167,26 @@ module _ {X : Type 0} (cmp : X → X → Ordering) (total : IsTotalOrder cmp) wh
 
 -- ---- what a delete by the rowids that a query showed leaves, where the rowids differ
 
-pub found_of : (P : Row → Type 0) (p : Row → Bool) (rows : List Row) (r : Row) → AllByRecursion P rows → filter p rows ≡ r ∷ [] → P r
+pub found_of : (P : Row → Type 0) (p : Row → Bool) (rows : List Row) (r : Row)
+    → AllByRecursion P rows → filter p rows ≡ r ∷ [] → P r
 found_of P p rows r all is = (subst (AllByRecursion P) is (all-filter P p rows all)).0
 
-others_stay : (p : Row → Bool) (r0 : Row) (rows : List Row) → AllByRecursion (λ b. is_eq (value_cmp (rowid r0) (rowid b)) ≡ false) rows → HasId r0 → filter p rows ≡ []
+others_stay : (p : Row → Bool) (r0 : Row) (rows : List Row)
+    → AllByRecursion (λ b. is_eq (value_cmp (rowid r0) (rowid b)) ≡ false) rows → HasId r0 → filter p rows ≡ []
     → filter (λ r. not (has_rowid (id_in (rowid r0)) r)) rows ≡ filter (λ r. not (p r)) rows
 others_stay p r0 [] apart keyed none = refl
 others_stay p r0 (r ∷ rows) apart keyed none = elim (cases_Bool (p r)) [
   | inl is ↦ absurd (let e = rw is at none in cc)
   | inr other ↦
       let rest : filter p rows ≡ [] = rw other at none in
-      let differs : is_eq (value_cmp (rowid r) (rowid r0)) ≡ false = same_tie value_cmp value_cmp_total (rowid r) (rowid r0) ∙ apart.0 in
+      let differs : is_eq (value_cmp (rowid r) (rowid r0)) ≡ false =
+      same_tie value_cmp value_cmp_total (rowid r) (rowid r0) ∙ apart.0 in
       let id : has_rowid (id_in (rowid r0)) r ≡ false = ap (λ v. is_eq (value_cmp (rowid r) v)) (sym keyed) ∙ differs in
       rw (id, other) (ap (λ rs. r ∷ rs) (others_stay p r0 rows apart.1 keyed rest))
 ]
 
-pub gone_one : (p : Row → Bool) (r0 : Row) (rows : List Row) → AreApartIds rows → AllByRecursion HasId rows → filter p rows ≡ r0 ∷ []
+pub gone_one : (p : Row → Bool) (r0 : Row) (rows : List Row)
+    → AreApartIds rows → AllByRecursion HasId rows → filter p rows ≡ r0 ∷ []
     → without_rowid (id_in (rowid r0)) rows ≡ filter (λ r. not (p r)) rows
 gone_one p r0 [] apart keyed one = absurd cc
 gone_one p r0 (r ∷ rows) apart keyed one = elim (cases_Bool (p r)) [
@@ -167,13 +194,15 @@ gone_one p r0 (r ∷ rows) apart keyed one = elim (cases_Bool (p r)) [
       let both : r ∷ filter p rows ≡ r0 ∷ [] = rw is at one in
       let same : r ≡ r0 = cc in
       let none : filter p rows ≡ [] = cc in
-      let mine : has_rowid (id_in (rowid r0)) r ≡ true = ap (λ v. is_eq (value_cmp (rowid r) v)) (subst (λ x. Int (id_in (rowid x)) ≡ rowid r) same (sym keyed.0))
+      let mine : has_rowid (id_in (rowid r0)) r ≡ true =
+      ap (λ v. is_eq (value_cmp (rowid r) v)) (subst (λ x. Int (id_in (rowid x)) ≡ rowid r) same (sym keyed.0))
       ∙ ap is_eq (tied_itself value_cmp_total (rowid r)) in
       let first = subst (λ x. AllByRecursion (λ b. is_eq (value_cmp (rowid x) (rowid b)) ≡ false) rows) same apart.0 in
       rw (mine, is) (others_stay p r0 rows first (subst HasId same keyed.0) none)
   | inr other ↦
       let rest : filter p rows ≡ r0 ∷ [] = rw other at one in
-      let differs : is_eq (value_cmp (rowid r) (rowid r0)) ≡ false = found_of (λ b. is_eq (value_cmp (rowid r) (rowid b)) ≡ false) p rows r0 apart.0 rest in
+      let differs : is_eq (value_cmp (rowid r) (rowid r0)) ≡ false =
+      found_of (λ b. is_eq (value_cmp (rowid r) (rowid b)) ≡ false) p rows r0 apart.0 rest in
       let key : HasId r0 = found_of HasId p rows r0 keyed.1 rest in
       let id : has_rowid (id_in (rowid r0)) r ≡ false = ap (λ v. is_eq (value_cmp (rowid r) v)) (sym key) ∙ differs in
       rw (id, other) (ap (λ rs. r ∷ rs) (gone_one p r0 rows apart.1 keyed.1 rest))

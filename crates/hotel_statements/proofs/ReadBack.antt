@@ -18,15 +18,18 @@ use Rattle.hotel_statements.proofs.Perm.{every_shuffled, sorted_rises, apart_per
 
 -- ---- keys that pass the test of order
 
-all_above : {K X : Type 0} (cmp : K → K → Ordering) (key : X → K) (k : K) (xs : List X) → AllAfter cmp k (map key xs) → AllByRecursion (λ x. cmp k (key x) ≡ Less) xs
+all_above : {K X : Type 0} (cmp : K → K → Ordering) (key : X → K) (k : K) (xs : List X)
+    → AllAfter cmp k (map key xs) → AllByRecursion (λ x. cmp k (key x) ≡ Less) xs
 all_above cmp key k [] h = tt
 all_above cmp key k (x ∷ xs) h = (h.0, all_above cmp key k xs h.1)
 
-ascend : {K X : Type 0} (cmp : K → K → Ordering) (key : X → K) (xs : List X) → InOrder cmp (map key xs) → IsAscending (λ a b. cmp (key a) (key b) ≡ Less) xs
+ascend : {K X : Type 0} (cmp : K → K → Ordering) (key : X → K) (xs : List X)
+    → InOrder cmp (map key xs) → IsAscending (λ a b. cmp (key a) (key b) ≡ Less) xs
 ascend cmp key [] h = tt
 ascend cmp key (x ∷ xs) h = (all_above cmp key (key x) xs h.0, ascend cmp key xs h.1)
 
-pub tested_keys : {K X : Type 0} (cmp : K → K → Ordering) (total : IsTotalOrder cmp) (key : X → K) (xs : List X) → are_in_order cmp (map key xs) ≡ true
+pub tested_keys : {K X : Type 0} (cmp : K → K → Ordering) (total : IsTotalOrder cmp) (key : X → K) (xs : List X)
+    → are_in_order cmp (map key xs) ≡ true
     → IsAscending (λ a b. cmp (key a) (key b) ≡ Less) xs
 tested_keys cmp total key xs e = ascend cmp key xs (in_order_from cmp total (map key xs) e)
 
@@ -38,33 +41,48 @@ order {K} cmp (x ∷ xs) h = (after x xs h.0, order cmp xs h.1)
     after k [] a = tt
     after k (y ∷ ys) a = (a.0, after k ys a.1)
 
-pub tested_order : {K : Type 0} (cmp : K → K → Ordering) (total : IsTotalOrder cmp) (xs : List K) → are_in_order cmp xs ≡ true → IsAscending (λ a b. cmp a b ≡ Less) xs
+pub tested_order : {K : Type 0} (cmp : K → K → Ordering) (total : IsTotalOrder cmp) (xs : List K)
+    → are_in_order cmp xs ≡ true → IsAscending (λ a b. cmp a b ≡ Less) xs
 tested_order cmp total xs e = order cmp xs (in_order_from cmp total xs e)
 
 -- ---- the rows of a table
 
-module _ {L X : Type 0} (cmp : X → X → Ordering) (total : IsTotalOrder cmp) (columns : Row → Row) (of : Row → X) (written : X → Row) (shown : L → Row) (entry : L → X) where
+module _ {L X : Type 0} (cmp : X → X → Ordering) (total : IsTotalOrder cmp) (columns : Row → Row) (of : Row → X)
+    (written : X → Row) (shown : L → Row) (entry : L → X) where
   -- the plain row is one that the books write
   abbrev pub IsGood : L → Type 0
   IsGood l = (shown l ≡ written (entry l)) × (of (shown l) ≡ entry l)
 
-  shown_all : (plain_rows : List L) → AllByRecursion IsGood plain_rows → AllByRecursion (λ v. v ≡ written (of v)) (map shown plain_rows)
+  shown_all : (plain_rows : List L)
+      → AllByRecursion IsGood plain_rows → AllByRecursion (λ v. v ≡ written (of v)) (map shown plain_rows)
   shown_all [] all = tt
   shown_all (l ∷ plain_rows) all = (all.0.0 ∙ ap written (sym all.0.1), shown_all plain_rows all.1)
 
-  entries : (plain_rows : List L) → AllByRecursion IsGood plain_rows → map (λ l. of (shown l)) plain_rows ≡ map entry plain_rows
+  entries : (plain_rows : List L)
+      → AllByRecursion IsGood plain_rows → map (λ l. of (shown l)) plain_rows ≡ map entry plain_rows
   entries [] all = refl
-  entries (l ∷ plain_rows) all = ap (λ e. e ∷ map (λ (k : L). of (shown k)) plain_rows) all.0.1 ∙ ap (λ es. entry l ∷ es) (entries plain_rows all.1)
+  entries (l ∷ plain_rows) all = ap (λ e. e ∷ map (λ (k : L). of (shown k)) plain_rows) all.0.1
+      ∙ ap (λ es. entry l ∷ es) (entries plain_rows all.1)
 
-  pub read_back : (plain_rows : List L) (rows : List Row) → ArePlainRows columns shown plain_rows rows → AllByRecursion IsGood plain_rows
-      → IsAscending (λ a b. cmp a b ≡ Less) (map entry plain_rows) → IsTable cmp columns of written rows × (listed cmp (λ r. of (columns r)) rows ≡ map entry plain_rows)
+  pub read_back : (plain_rows : List L) (rows : List Row)
+      → ArePlainRows columns shown plain_rows rows → AllByRecursion IsGood plain_rows
+      → IsAscending (λ a b. cmp a b ≡ Less) (map entry plain_rows)
+      → IsTable cmp columns of written rows × (listed cmp (λ r. of (columns r)) rows ≡ map entry plain_rows)
   read_back plain_rows rows same all up =
       let good : AllByRecursion (IsWrittenAs columns of written) rows = all_unmap (λ v. v ≡ written (of v)) columns rows
-      (every_shuffled (λ v. v ≡ written (of v)) (map shown plain_rows) (map columns rows) (IsPermutation-sym _ _ same) (shown_all plain_rows all)) in
-      let first : IsPermutation (map of (map columns rows)) (map of (map shown plain_rows)) = IsPermutation-map of _ _ same in
-      let moved : IsPermutation (map (λ r. of (columns r)) rows) (map of (map shown plain_rows)) = subst (λ xs. IsPermutation xs (map of (map shown plain_rows))) (fused of columns rows) first in
+      (every_shuffled (λ v. v ≡ written (of v)) (map shown plain_rows) (map columns rows) (IsPermutation-sym _ _ same)
+      (shown_all plain_rows all)) in
+      let first : IsPermutation (map of (map columns rows)) (map of (map shown plain_rows)) =
+      IsPermutation-map of _ _ same in
+      let moved : IsPermutation (map (λ r. of (columns r)) rows) (map of (map shown plain_rows)) =
+      subst (λ xs. IsPermutation xs (map of (map shown plain_rows))) (fused of columns rows) first in
       let mapped : IsPermutation (map (λ r. of (columns r)) rows) (map entry plain_rows) =
-      subst (λ ys. IsPermutation (map (λ r. of (columns r)) rows) ys) (fused of shown plain_rows ∙ entries plain_rows all) moved in
-      let apart : AreApart cmp (map entry plain_rows) = ascending_weaker _ _ (λ a b less. ap is_eq less) (map entry plain_rows) up in
-      let own = apart_permuted cmp total _ _ (IsPermutation-sym _ _ mapped) apart in
-      (record { good = good; apart = own }, sym (sorted_is-sort_by cmp total (map (λ r. of (columns r)) rows) (map entry plain_rows) own mapped (sorted_rises cmp total _ up)))
+      subst (λ ys. IsPermutation (map (λ r. of (columns r)) rows) ys)
+      (fused of shown plain_rows ∙ entries plain_rows all) moved in
+      let apart : AreApart cmp (map entry plain_rows) =
+      ascending_weaker _ _ (λ a b less. ap is_eq less) (map entry plain_rows) up in
+      let own = apart_permuted cmp total _ _ (IsPermutation-sym _ _ mapped) apart in (
+        record { good = good; apart = own },
+        sym (sorted_is-sort_by cmp total (map (λ r. of (columns r)) rows) (map entry plain_rows) own mapped
+            (sorted_rises cmp total _ up)),
+      )

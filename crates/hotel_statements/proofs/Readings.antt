@@ -39,14 +39,17 @@ ours_stay version old new (inr back) has is_open =
 
 module _ (version : Version) (text : List ℕ) (q : Query) (old new : State) (ours : IsOurs version old)
     (asks : AsksOf (schema_of version) text q)
-    (mode : old.in_transaction ≡ false → new.in_transaction ≡ false) (survives : Survives old new (CommitsShowing text [] old)) where
+    (mode : old.in_transaction ≡ false → new.in_transaction ≡ false)
+    (survives : Survives old new (CommitsShowing text [] old)) where
   plain_in : IsKept old → IsPlain (understood old.now.schema text)
   plain_in kept = subst (λ m. IsPlain (understood m text)) (sym (ours.tables kept).0) asks.plain
 
   read_crash : LeavesNoMore old new
-  read_crash = survives_weaker old new _ _ (λ _ db commits kept. never_commits text [] old db (plain_in kept) commits) survives
+  read_crash =
+      survives_weaker old new _ _ (λ _ db commits kept. never_commits text [] old db (plain_in kept) commits) survives
 
-  module _ (stays : HasCleanDisk new → IsKept old → Stays old new) (opened : HasCleanDisk new → IsTrue new.is_open → IsTrue old.is_open) where
+  module _ (stays : HasCleanDisk new → IsKept old → Stays old new)
+      (opened : HasCleanDisk new → IsTrue new.is_open → IsTrue old.is_open) where
     was_kept : IsKept new → IsKept old
     was_kept kept = (omega (arith, survives.clean, kept.0), opened kept.0 kept.1)
 
@@ -67,21 +70,27 @@ module _ (version : Version) (text : List ℕ) (q : Query) (old new : State) (ou
       → IfErr result (λ fault. fault ≢ why.Memory → ¬ All IsReadable rows)
       → ReadsPart version (FailsIn (schema_of version) IsReadable named []) Says old new result
   reads_rows named same IsReadable Says rows result shown is unread =
-      let stays : HasCleanDisk new → IsKept old → Stays old new = λ clean kept. shown_stay text [] old new rows (plain_in kept) (shown clean) in
-      let opened : HasCleanDisk new → IsTrue new.is_open → IsTrue old.is_open = λ clean _. shown_opened text [] old new rows (shown clean) in
-      let open_still : HasCleanDisk new → IsKept new = λ clean. (clean, shown_is_open text [] old new rows (shown clean)) in
+      let stays : HasCleanDisk new → IsKept old → Stays old new =
+      λ clean kept. shown_stay text [] old new rows (plain_in kept) (shown clean) in
+      let opened : HasCleanDisk new → IsTrue new.is_open → IsTrue old.is_open =
+      λ clean _. shown_opened text [] old new rows (shown clean) in
+      let open_still : HasCleanDisk new → IsKept new =
+      λ clean. (clean, shown_is_open text [] old new rows (shown clean)) in
       let answered : HasCleanDisk new → IsAnswer q (overlay old.now.trees []) [] rows = λ clean.
       (reads_as text [] old new (schema_of version) (ours.tables (was_kept stays opened (open_still clean))).0 _
       (command_is q _ asks.query).1 asks.plain asks.listing rows (shown clean)).answer Null in
-      subst (λ (t : List ℕ). ReadsPart version (FailsIn (schema_of version) IsReadable t []) Says old new result) same (record {
+      subst (λ (t : List ℕ). ReadsPart version (FailsIn (schema_of version) IsReadable t []) Says old new result) same
+      (record {
         ours = read_ours stays opened;
         keeps = read_keeps stays opened;
         says = λ kept. is (answered kept.0);
         open_on = λ _ clean. on_ok result (shown_is_open text [] old new rows (shown clean));
-        unchanged = λ _ clean. on_ok result (shown_unchanged text [] old new rows (plain_in (was_kept stays opened (open_still clean)))
+        unchanged = λ _ clean. on_ok result
+            (shown_unchanged text [] old new rows (plain_in (was_kept stays opened (open_still clean)))
             (shown clean));
         cause = λ clean. IfErr-weaker result _ _
-            (λ fault fails cause. inr (was_kept stays opened (open_still clean), (q, asks, rows, answered clean, fails cause)))
+            (λ fault fails cause. inr
+            (was_kept stays opened (open_still clean), (q, asks, rows, answered clean, fails cause)))
             unread;
         crash = read_crash;
       })
@@ -95,9 +104,12 @@ module _ (version : Version) (text : List ℕ) (q : Query) (old new : State) (ou
       → (HasCleanDisk new → FailsToQuery text [] old new e)
       → ReadsPart {R = R} version (FailsIn (schema_of version) IsReadable named []) Says old new (Err fault)
   reads_none {R = R} named same IsReadable Says e fault is fails =
-      let stays : HasCleanDisk new → IsKept old → Stays old new = λ clean kept. fails_stay text [] old new e (plain_in kept) (fails clean) in
-      let opened : HasCleanDisk new → IsTrue new.is_open → IsTrue old.is_open = λ clean. fail_opened text [] old new e (fails clean) in
-      subst (λ (t : List ℕ). ReadsPart {R = R} version (FailsIn (schema_of version) IsReadable t []) Says old new (Err fault)) same (record {
+      let stays : HasCleanDisk new → IsKept old → Stays old new =
+      λ clean kept. fails_stay text [] old new e (plain_in kept) (fails clean) in
+      let opened : HasCleanDisk new → IsTrue new.is_open → IsTrue old.is_open =
+      λ clean. fail_opened text [] old new e (fails clean) in
+      subst (λ (t : List ℕ). ReadsPart {R = R} version
+      (FailsIn (schema_of version) IsReadable t []) Says old new (Err fault)) same (record {
         ours = read_ours stays opened;
         keeps = read_keeps stays opened;
         says = λ _. tt;

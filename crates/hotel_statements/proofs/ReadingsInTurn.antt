@@ -22,7 +22,8 @@ use Rattle.hotel_statements.proofs.Since.{query_then, unchanged_then, clean_befo
 
 -- a cause since an answered reading is one since before it
 abbrev pub IsLater : Version → (State → State → Type 0) → Type 1
-IsLater version Fails = (old mid new : State) → (HasCleanDisk new → HasCleanDisk mid) → (HasCleanDisk mid → IsUnchanged old mid)
+IsLater version Fails = (old mid new : State)
+    → (HasCleanDisk new → HasCleanDisk mid) → (HasCleanDisk mid → IsUnchanged old mid)
     → LeavesNoMore old mid → IsOurs version mid → HasCleanDisk new → Fails mid new → Fails old new
 
 pub table_later : (version : Version) (text : List ℕ) (q : Query) → AsksOf (schema_of version) text q
@@ -40,17 +41,22 @@ table_later version text q asks IsReadable old mid new was unchanged crash ours 
     go (inl h) = inl (h.0, h.1, query_then old mid new same crash text [] h.0 plain h.2)
     go (inr h) =
         let kept : IsKept old = (clean_before old mid crash h.0.0, same.0.was_open) in
-        inr (kept, subst (λ (d : Database). ShowsUnread (schema_of version) IsReadable text [] d.trees) same.0.now_is h.1)
+        inr
+        (kept, subst (λ (d : Database). ShowsUnread (schema_of version) IsReadable text [] d.trees) same.0.now_is h.1)
 
 pub either_later : (version : Version) (Before Then : State → State → Type 0) → IsLater version Before
     → IsLater version Then
     → IsLater version (λ old new. Before old new ⊎ Then old new)
-either_later version Before Then first then old mid new was unchanged crash ours clean (inl h) = inl (first old mid new was unchanged crash ours clean h)
-either_later version Before Then first then old mid new was unchanged crash ours clean (inr h) = inr (then old mid new was unchanged crash ours clean h)
+either_later version Before Then first then old mid new was unchanged crash ours clean (inl h) =
+    inl (first old mid new was unchanged crash ours clean h)
+either_later version Before Then first then old mid new was unchanged crash ours clean (inr h) =
+    inr (then old mid new was unchanged crash ours clean h)
 
 -- a reading that failed, as what another one was to be: its cause is one of the other's
-pub not_read : {A R was : Type 0} (version : Version) (Before Then : State → State → Type 0) (SaysFirst : A → Trees → Type 0) (Says : R → Trees → Type 0)
-    (old new : State) (fault : LookFault) (result : Result R LookFault) → result ≡ Err fault → (Before old new → Then old new)
+pub not_read : {A R was : Type 0} (version : Version) (Before Then : State → State → Type 0)
+    (SaysFirst : A → Trees → Type 0) (Says : R → Trees → Type 0)
+    (old new : State) (fault : LookFault) (result : Result R LookFault)
+    → result ≡ Err fault → (Before old new → Then old new)
     → ReadsIf was version Before SaysFirst old new (Err fault) → ReadsIf was version Then Says old new result
 not_read {was = was} version Before Then SaysFirst Says old new fault result is gives reads =
     subst (ReadsIf was version Then Says old new) (sym is) (record {
@@ -63,22 +69,25 @@ not_read {was = was} version Before Then SaysFirst Says old new fault result is 
       crash = reads.crash;
     })
 
-module _ {A B was : Type 0} (version : Version) (Before Then : State → State → Type 0) (SaysFirst : A → Trees → Type 0) (SaysThen : B → Trees → Type 0)
+module _ {A B was : Type 0} (version : Version) (Before Then : State → State → Type 0) (SaysFirst : A → Trees → Type 0)
+    (SaysThen : B → Trees → Type 0)
     (old mid new : State) (a : A) (first : ReadsPart version Before SaysFirst old mid (Ok a)) where
   pub second_failed : {R : Type 0} (Says : R → Trees → Type 0) (fault : LookFault) (result : Result R LookFault)
       → result ≡ Err fault → IsLater version Then
       → ReadsIf was version Then SaysThen mid new (Err fault)
       → ReadsPart version (λ s t. Before s t ⊎ Then s t) Says old new result
-  second_failed Says fault result is later then = subst (ReadsPart version (λ s t. Before s t ⊎ Then s t) Says old new) (sym is) (record {
-    ours = then.ours;
-    keeps = then_keeps old mid new first.keeps then.keeps;
-    says = λ _. tt;
-    open_on = λ _ _. tt;
-    unchanged = λ _ _. tt;
-    cause = λ clean other. inr (later old mid new (clean_before mid new then.crash) (first.unchanged tt) first.crash first.ours clean
-        (then.cause clean other));
-    crash = then_survives old mid new (first.open_on tt) first.crash then.crash;
-  })
+  second_failed Says fault result is later then =
+      subst (ReadsPart version (λ s t. Before s t ⊎ Then s t) Says old new) (sym is) (record {
+        ours = then.ours;
+        keeps = then_keeps old mid new first.keeps then.keeps;
+        says = λ _. tt;
+        open_on = λ _ _. tt;
+        unchanged = λ _ _. tt;
+        cause = λ clean other. inr
+            (later old mid new (clean_before mid new then.crash) (first.unchanged tt) first.crash first.ours clean
+            (then.cause clean other));
+        crash = then_survives old mid new (first.open_on tt) first.crash then.crash;
+      })
 
   pub both_read : {R : Type 0} (Says : R → Trees → Type 0) (b : B) (r : R)
       → (HasCleanDisk mid → IsTrue mid.is_open → was)
@@ -95,7 +104,8 @@ module _ {A B was : Type 0} (version : Version) (Before Then : State → State �
         says = λ kept.
             let after = then.keeps kept in
             let before = first.keeps after.0 in
-            says old.now.trees (first.says after.0) (subst (λ (d : Database). SaysThen b d.trees) before.1 (then.says kept));
+            says old.now.trees (first.says after.0)
+            (subst (λ (d : Database). SaysThen b d.trees) before.1 (then.says kept));
         open_on = λ _ clean. (unchanged clean).0.is_open;
         unchanged = λ _. unchanged;
         cause = λ _. tt;
@@ -103,8 +113,10 @@ module _ {A B was : Type 0} (version : Version) (Before Then : State → State �
       }
 
   -- both, as a pair
-  pub pair_read : (b : B) → (HasCleanDisk mid → IsTrue mid.is_open → was) → ReadsIf was version Then SaysThen mid new (Ok b)
-      → ReadsPart version (λ s t. Before s t ⊎ Then s t) (λ (r : A × B) db. SaysFirst r.0 db × SaysThen r.1 db) old new (Ok (a, b))
+  pub pair_read : (b : B) → (HasCleanDisk mid → IsTrue mid.is_open → was)
+      → ReadsIf was version Then SaysThen mid new (Ok b)
+      → ReadsPart version (λ s t. Before s t ⊎ Then s t) (λ (r : A × B) db. SaysFirst r.0 db
+      × SaysThen r.1 db) old new (Ok (a, b))
   pair_read b asked then =
       both_read (λ (r : A × B) db. SaysFirst r.0 db × SaysThen r.1 db) b (a, b) asked (λ db one two. (one, two)) then
 
@@ -125,4 +137,5 @@ last_later version =
 pub fits_later : (version : Version) → IsLater version (FitRowsFail version)
 fits_later First old mid new was unchanged crash ours clean fails = absurd fails
 fits_later Second old mid new was unchanged crash ours clean fails =
-    table_later Second texts.read_fit fit_whole.query fit_whole.asks (BeginsAs fit_shown) old mid new was unchanged crash ours clean fails
+    table_later Second texts.read_fit fit_whole.query fit_whole.asks
+    (BeginsAs fit_shown) old mid new was unchanged crash ours clean fails

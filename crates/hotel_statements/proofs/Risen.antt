@@ -12,7 +12,8 @@ use Rattle.hotel_statements.specs.Tables.{AreTables, AreTablesOf, by_key, fits_i
 use Rattle.hotel_statements.proofs.Perm.{sort_rises}
 use Rattle.hotel_statements.proofs.Keyed.{key_total}
 
-pub rooms_rise : {version : Version} (db : Trees) → AreTablesOf version db → IsAscending (λ a b. by_key nat_cmp a b ≡ Less) (bare_rooms_in db)
+pub rooms_rise : {version : Version} (db : Trees)
+    → AreTablesOf version db → IsAscending (λ a b. by_key nat_cmp a b ≡ Less) (bare_rooms_in db)
 rooms_rise db t = sort_rises (by_key nat_cmp) (key_total nat_cmp_total) _ t.room.apart
 
 pub notes_rise : (db : Trees) → AreTables db → IsAscending (λ a b. by_key pair_cmp a b ≡ Less) (bare_notes_in db)

@@ -30,7 +30,8 @@ use Rattle.hotel_model.proofs.OfTables.Tests.{and_true, eight_true, eq_from}
 use Rattle.hotel_statements.specs.Schema.{first_schema, desk_schema}
 use Rattle.hotel_statements.specs.SameSchema as spec
 
-all_is : {A : Type 0} (same : A → A → Bool) → ((x y : A) → same x y ≡ true → x ≡ y) → (xs ys : List A) → spec.same_all same xs ys ≡ true → xs ≡ ys
+all_is : {A : Type 0} (same : A → A → Bool) → ((x y : A) → same x y ≡ true → x ≡ y) → (xs ys : List A)
+    → spec.same_all same xs ys ≡ true → xs ≡ ys
 all_is same is [] [] e = refl
 all_is same is [] (y ∷ ys) e = absurd (false≢true e)
 all_is same is (x ∷ xs) [] e = absurd (false≢true e)
@@ -88,7 +89,8 @@ op_is _ _ e = absurd (false≢true e)
 
 term_is : (a b : Term) → spec.same_term a b ≡ true → a ≡ b
 term_is (lit (Int m)) (lit (Int n)) e = ap (λ n. lit (Int n)) ((Decides-int_eq m n).0 e)
-term_is (col slot i) (col row j) e = let both = and_true _ _ e in λ k. col (eq_from slot row both.0 k) (eq_from i j both.1 k)
+term_is (col slot i) (col row j) e =
+    let both = and_true _ _ e in λ k. col (eq_from slot row both.0 k) (eq_from i j both.1 k)
 term_is (op2 x l r) (op2 y m n) e =
     let both = and_true _ _ e in
     let first = and_true _ _ both.0 in

@@ -92,12 +92,14 @@ module _ (old mid new : State) (same : IsUnchanged old mid) (crash : LeavesNoMor
 
 -- ---- two statements in turn, where the disk returned what was written
 
-module _ (old mid new : State) (was_clean : HasCleanDisk new → HasCleanDisk mid) (unchanged : HasCleanDisk mid → IsUnchanged old mid)
+module _ (old mid new : State) (was_clean : HasCleanDisk new → HasCleanDisk mid)
+    (unchanged : HasCleanDisk mid → IsUnchanged old mid)
     (crash : LeavesNoMore old mid) where
   pub then_unchanged : (HasCleanDisk new → IsUnchanged mid new) → HasCleanDisk new → IsUnchanged old new
   then_unchanged then clean = unchanged_then old mid new (unchanged (was_clean clean)) crash (then clean)
 
-  module _ (text : List ℕ) (params : Row) (q : Query) (asks : Asks text q) (books : IsBooks mid) (clean : HasCleanDisk new) where
+  module _ (text : List ℕ) (params : Row) (q : Query) (asks : Asks text q) (books : IsBooks mid)
+      (clean : HasCleanDisk new) where
     same : IsUnchanged old mid
     same = unchanged (was_clean clean)
 
@@ -114,7 +116,10 @@ module _ (old mid new : State) (was_clean : HasCleanDisk new → HasCleanDisk mi
         → FailsAt IsReadable text params old new
     fails_later IsReadable (inl h) = inl (h.0, h.1, error_later h.0 h.2)
     fails_later IsReadable (inr h) =
-        inr (was_kept h.0, subst (λ (d : Database). ShowsUnread desk_schema IsReadable text params d.trees) same.0.now_is h.1)
+        inr (
+          was_kept h.0,
+          subst (λ (d : Database). ShowsUnread desk_schema IsReadable text params d.trees) same.0.now_is h.1,
+        )
 
     pub walk_fails_later : (IsReadable : Row → Type 0) → WalkFails IsReadable text params mid new
         → WalkFails IsReadable text params old new

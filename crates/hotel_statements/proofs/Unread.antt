@@ -42,8 +42,10 @@ unread_at Is xs i x low is unread all = unread (subst Is (sym is) (all i x low))
 -- ---- the cause of a look-up whose error is handed over
 
 -- the same where what `?` met was this answer
-pub cause_of : {T U : Type 0} (Fails : State → State → Type 0) (old new : State) (answer : Result T LookFault) (r : Result U LookFault)
-    (fault : LookFault) → answer ≡ Err fault → IsErr r × IsErrAnd r (λ given. given ≡ fault) → HasCause Fails old new answer → HasCause Fails old new r
+pub cause_of : {T U : Type 0} (Fails : State → State → Type 0) (old new : State)
+    (answer : Result T LookFault) (r : Result U LookFault)
+    (fault : LookFault) → answer ≡ Err fault → IsErr r × IsErrAnd r (λ given. given ≡ fault)
+    → HasCause Fails old new answer → HasCause Fails old new r
 cause_of {T = T} Fails old new answer r fault was h cause clean =
     let fails : IfErr {T = T} (Err fault) (λ given. given ≢ why.Memory → Fails old new) =
     subst (λ (x : Result T LookFault). IfErr x (λ given. given ≢ why.Memory → Fails old new)) was (cause clean) in

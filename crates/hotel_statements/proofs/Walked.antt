@@ -49,7 +49,8 @@ clean_or_not s = go s.is_clean
     go false = inr (λ e. cc)
 
 -- the rows after some that are a front where the disk returned what was written
-pub chosen : {A : Type 0} (s : State) (taken rows : List A) → (HasCleanDisk s → (rest : List A) × (rows ≡ taken ++ rest))
+pub chosen : {A : Type 0} (s : State) (taken rows : List A)
+    → (HasCleanDisk s → (rest : List A) × (rows ≡ taken ++ rest))
     → (rest : List A) × (HasCleanDisk s → taken ++ rest ≡ rows)
 chosen s taken rows front = elim (clean_or_not s) [
   | inl clean ↦ let it = front clean in (it.0, λ _. sym it.1)
@@ -57,7 +58,8 @@ chosen s taken rows front = elim (clean_or_not s) [
 ]
 
 -- what a failed walk handed over
-pub failed_walk : {S A : Type 0} (after after_stop : S → A → S → Type 0) (rows : List A) (sink end : S) (fault : WalkFault) (cause : LookFault) → failure_of (Err fault) ≡ Some cause
+pub failed_walk : {S A : Type 0} (after after_stop : S → A → S → Type 0) (rows : List A) (sink end : S)
+    (fault : WalkFault) (cause : LookFault) → failure_of (Err fault) ≡ Some cause
     → TakesFront after rows sink end → Hands after after_stop rows sink end (Err fault)
 failed_walk after after_stop rows sink end why.Memory cause is front = front
 failed_walk after after_stop rows sink end why.Store cause is front = front
@@ -76,17 +78,21 @@ pub answers_on : (text : List ℕ) (params : Row) (q : Query) → Asks text q �
     → (given : List Row) → Begins text params s given
     → (tail : List Row) × IsAnswer q (overlay old.now.trees []) params (given ++ tail)
 answers_on text params q asks old s books kept same given start =
-    let first = (begins_as text params s s desk_schema (books.desk kept).schema _ (command_is q _ asks.query).1 asks.plain asks.listing given start).1 in
+    let first = (begins_as text params s s desk_schema (books.desk kept).schema _
+    (command_is q _ asks.query).1 asks.plain asks.listing given start).1 in
     (first.0, subst (λ (d : Database). IsAnswer q (overlay d.trees []) params (given ++ first.0)) same (first.1 Null))
 
 not_all : (P : Row → Type 0) (given : List Row) (row : Row) (tail : List Row) → ¬ P row
     → ¬ All P ((given ++ row ∷ []) ++ tail)
 not_all P [] row tail unread all = unread (all 0 row (omega arith))
-not_all P (r ∷ given) row tail unread all = not_all P given row tail unread (λ i d lt. all (suc i) d (omega (arith, lt)))
+not_all P (r ∷ given) row tail unread all =
+    not_all P given row tail unread (λ i d lt. all (suc i) d (omega (arith, lt)))
 
-module _ {A : Type 0} (of : Row → A) (text : List ℕ) (params : Row) (old : State) (rows : List A) (says : SaysRows of text params old rows) where
+module _ {A : Type 0} (of : Row → A) (text : List ℕ) (params : Row) (old : State) (rows : List A)
+    (says : SaysRows of text params old rows) where
   -- those so far are a front
-  pub begins : (s : State) → IsBooks s → IsKept s → IsKept old → s.now ≡ old.now → (given : List Row) → Begins text params s given
+  pub begins : (s : State) → IsBooks s → IsKept s → IsKept old → s.now ≡ old.now
+      → (given : List Row) → Begins text params s given
       → (rest : List A) × (rows ≡ map of given ++ rest)
   begins s books kept was same given start =
       let q = says.0 in
@@ -97,17 +103,21 @@ module _ {A : Type 0} (of : Row → A) (text : List ℕ) (params : Row) (old : S
       (map of tail, sym (says.2 was (map of (given ++ tail)) (given ++ tail, answer, refl)) ∙ map-append of given tail)
 
   -- and at the end all of them
-  pub ends : (s new : State) → IsBooks s → IsKept s → IsKept old → s.now ≡ old.now → (given : List Row) → Shown text params s new given → map of given ≡ rows
+  pub ends : (s new : State) → IsBooks s → IsKept s → IsKept old → s.now ≡ old.now → (given : List Row)
+      → Shown text params s new given → map of given ≡ rows
   ends s new books kept was same given shown =
       let q = says.0 in
       let asks = says.1 in
-      let answer = (reads_as text params s new desk_schema (books.desk kept).schema _ (command_is q _ asks.query).1 asks.plain asks.listing given shown).answer Null in
-      says.2 was (map of given) (given, subst (λ (d : Database). IsAnswer q (overlay d.trees []) params given) same answer, refl)
+      let answer = (reads_as text params s new desk_schema (books.desk kept).schema _
+      (command_is q _ asks.query).1 asks.plain asks.listing given shown).answer Null in
+      says.2 was (map of given)
+      (given, subst (λ (d : Database). IsAnswer q (overlay d.trees []) params given) same answer, refl)
 
 -- ---- part-way through a walk
 
 -- What the sink took are the rows that the statement gave, so many; the books are as they were.
-pub record IsUnderWay {S A K : Type 0} (g : Ghosts S) (of : Row → A) (after : K → A → K → Type 0) (text : List ℕ) (params : Row)
+pub record IsUnderWay {S A K : Type 0} (g : Ghosts S) (of : Row → A) (after : K → A → K → Type 0)
+    (text : List ℕ) (params : Row)
     (old now : Held S) (sink end : K) (count : ℕ) : Type 0 where
   pub books : IsBooks (state g now)
   pub keeps : KeepsRows (state g old) (state g now)
@@ -118,7 +128,8 @@ pub record IsUnderWay {S A K : Type 0} (g : Ghosts S) (of : Row → A) (after : 
   pub takes : Passes after sink taken end
   pub given : IsKept (state g now) → (rows : List Row) × HasGiven g text params now rows × (taken ≡ map of rows)
 
-stays_after : {R : Type 0} (old new : State) (result : Result R Error) → OnOk result (IsUnchanged old new) → IfErr result (λ e. Fails old new ⊥ e ⊎ IsUnchanged old new) → Stays old new
+stays_after : {R : Type 0} (old new : State) (result : Result R Error)
+    → OnOk result (IsUnchanged old new) → IfErr result (λ e. Fails old new ⊥ e ⊎ IsUnchanged old new) → Stays old new
 stays_after old new (Ok row) same kept = inl same
 stays_after old new (Err e) same kept = elim kept [ inl fails ↦ inr fails.3 | inr still ↦ inl still ]
 
@@ -126,25 +137,31 @@ opened : (old new : State) → Stays old new → IsTrue new.is_open → IsTrue o
 opened old new (inl same) is_open = same.0.was_open
 opened old new (inr back) is_open = back.was_open is_open
 
-module _ {S A K : Type 0} (g : Ghosts S) (of : Row → A) (IsReadable : Row → Type 0) (after after_stop : K → A → K → Type 0) (text : List ℕ)
+module _ {S A K : Type 0} (g : Ghosts S) (of : Row → A) (IsReadable : Row → Type 0)
+    (after after_stop : K → A → K → Type 0) (text : List ℕ)
     (params : Row) (old : Held S) (sink : K) where
   abbrev Walking : Held S → K → ℕ → Type 0
   Walking now end count = IsUnderWay g of after text params old now sink end count
 
   abbrev Ends : List A → Held S → K → Result (Unit {0}) WalkFault → Type 0
-  Ends rows now end result = WalksRows (WalkFails IsReadable text params) after after_stop rows (state g old) (state g now) sink end result
+  Ends rows now end result =
+      WalksRows (WalkFails IsReadable text params) after after_stop rows (state g old) (state g now) sink end result
 
   -- ---- the query begins, or is refused
 
-  module _ (books : IsBooks (state g old)) (asks : (q : Query) × Asks text q) (new : Held S) (mode : old.in_transaction ≡ false → new.in_transaction ≡ false)
+  module _ (books : IsBooks (state g old)) (asks : (q : Query) × Asks text q) (new : Held S)
+      (mode : old.in_transaction ≡ false → new.in_transaction ≡ false)
       (survives : Survives (state g old) (state g new) (CommitsShowing text params (state g old))) where
     pub starts : (HasCleanDisk (state g new) → HasBegun g text params old new) → Walking new sink 0
     starts begun =
         let plain = λ (desk : IsDesk (state g old)). plain_in text asks.0 (state g old) asks.1 desk in
-        let stays : HasCleanDisk (state g new) → IsDesk (state g old) → Stays (state g old) (state g new) = λ clean desk. inl (begun_plain g text params old new (plain desk) (begun clean)).1 in
-        let keeps = keeps_rows (state g old) (state g new) _ books mode survives stays (λ clean is_open. begun_opened (begun clean)) in
+        let stays : HasCleanDisk (state g new) → IsDesk (state g old) → Stays (state g old) (state g new) =
+        λ clean desk. inl (begun_plain g text params old new (plain desk) (begun clean)).1 in
+        let keeps = keeps_rows (state g old) (state g new) _ books mode survives stays
+        (λ clean is_open. begun_opened (begun clean)) in
         record {
-          books = keeps_books (state g old) (state g new) _ books mode survives stays (λ clean is_open. begun_opened (begun clean));
+          books = keeps_books (state g old) (state g new) _ books mode survives stays
+              (λ clean is_open. begun_opened (begun clean));
           keeps = keeps;
           crash = all_crash text params (state g old) (state g new) books asks mode survives;
           unchanged = λ clean.
@@ -153,7 +170,8 @@ module _ {S A K : Type 0} (g : Ghosts S) (of : Row → A) (IsReadable : Row → 
           counted = refl;
           taken = [];
           takes = refl;
-          given = λ kept. ([], (begun_plain g text params old new (plain (books.desk (keeps kept).0)) (begun kept.0)).0, refl);
+          given = λ kept.
+              ([], (begun_plain g text params old new (plain (books.desk (keeps kept).0)) (begun kept.0)).0, refl);
         }
       where
         begun_opened : HasBegun g text params old new → IsTrue (state g old).is_open
@@ -164,14 +182,16 @@ module _ {S A K : Type 0} (g : Ghosts S) (of : Row → A) (IsReadable : Row → 
         begun_is_open (inl h) = h.1.0.is_open
         begun_is_open (inr h) = shown_is_open text params (state g old) (state g new) _ h.1
 
-    pub refused : (rows : List A) (e : Error) → (HasCleanDisk (state g new) → FailsToQuery text params (state g old) (state g new) e)
+    pub refused : (rows : List A) (e : Error)
+        → (HasCleanDisk (state g new) → FailsToQuery text params (state g old) (state g new) e)
         → (fault : WalkFault) → failure_of (Err fault) ≡ Some (fault_of e) → Ends rows new sink (Err fault)
     refused rows e fails fault is = record {
       books = fault_books text params (state g old) (state g new) books asks mode survives e fails;
       keeps = fault_keeps text params (state g old) (state g new) books asks mode survives e fails;
       open_on = λ _ none. absurd (let k = is in cc);
       cause = λ clean store. inl (inl (e, let k = is in cc, fails clean));
-      hands = (rows, failed_walk after after_stop rows sink sink fault (fault_of e) is ([], rows, refl, refl), λ _. refl);
+      hands =
+          (rows, failed_walk after after_stop rows sink sink fault (fault_of e) is ([], rows, refl, refl), λ _. refl);
       crash = all_crash text params (state g old) (state g new) books asks mode survives;
     }
 
@@ -183,38 +203,47 @@ module _ {S A K : Type 0} (g : Ghosts S) (of : Row → A) (IsReadable : Row → 
       let kept : IsKept (state g mid) = (clean, (so_far.unchanged clean).0.is_open) in
       let it = so_far.given kept in
       let more = so_far.keeps kept in
-      let rest = begins of text params (state g old) rows says (state g mid) so_far.books kept more.0 more.1 it.0 (given_begin g text params mid it.0 it.1) in
+      let rest = begins of text params (state g old) rows says (state g mid) so_far.books kept more.0 more.1 it.0
+      (given_begin g text params mid it.0 it.1) in
       (rest.0, rest.1 ∙ ap (λ ts. ts ++ rest.0) (sym it.2))
 
   -- ---- one more row
 
-  module _ (mid new : Rows S g) (result : Result (Option (Bor Row)) Error) (moved : HasMoved g mid result new) (now : K) (count : ℕ) (so_far : Walking mid.conn.now now count) where
+  module _ (mid new : Rows S g) (result : Result (Option (Bor Row)) Error) (moved : HasMoved g mid result new) (now : K)
+      (count : ℕ) (so_far : Walking mid.conn.now now count) where
     after_next : HasCleanDisk (state g new.conn.now) → Stays (state g mid.conn.now) (state g new.conn.now)
-    after_next clean = stays_after (state g mid.conn.now) (state g new.conn.now) result (moved.same clean) (moved.kept clean)
+    after_next clean =
+        stays_after (state g mid.conn.now) (state g new.conn.now) result (moved.same clean) (moved.kept clean)
 
     still_books : IsBooks (state g new.conn.now)
-    still_books = keeps_books (state g mid.conn.now) (state g new.conn.now) _ so_far.books moved.mode moved.survives (λ clean _. after_next clean)
+    still_books = keeps_books (state g mid.conn.now)
+        (state g new.conn.now) _ so_far.books moved.mode moved.survives (λ clean _. after_next clean)
         (λ clean. opened (state g mid.conn.now) (state g new.conn.now) (after_next clean))
 
     one_keeps : KeepsRows (state g mid.conn.now) (state g new.conn.now)
-    one_keeps = keeps_rows (state g mid.conn.now) (state g new.conn.now) _ so_far.books moved.mode moved.survives (λ clean _. after_next clean)
+    one_keeps = keeps_rows (state g mid.conn.now)
+        (state g new.conn.now) _ so_far.books moved.mode moved.survives (λ clean _. after_next clean)
         (λ clean. opened (state g mid.conn.now) (state g new.conn.now) (after_next clean))
 
     still_keeps : KeepsRows (state g old) (state g new.conn.now)
     still_keeps = then_keeps (state g old) (state g mid.conn.now) (state g new.conn.now) so_far.keeps one_keeps
 
     still_survives : LeavesNoMore (state g old) (state g new.conn.now)
-    still_survives = survives_then (state g old) (state g mid.conn.now) (state g new.conn.now) _ _ _ (λ _ db none. none) (λ _ db none. absurd none) so_far.crash moved.survives
+    still_survives = survives_then (state g old) (state g mid.conn.now) (state g new.conn.now) _ _ _ (λ _ db none. none)
+        (λ _ db none. absurd none) so_far.crash moved.survives
 
     was_clean : HasCleanDisk (state g new.conn.now) → HasCleanDisk (state g mid.conn.now)
     was_clean clean = omega (arith, moved.survives.clean, clean)
 
-    answered_open : (r : Option (Bor Row)) → result ≡ Ok r → HasCleanDisk (state g new.conn.now) → IsTrue (state g new.conn.now).is_open
-    answered_open r is clean = (subst (λ x. OnOk x (IsUnchanged (state g mid.conn.now) (state g new.conn.now))) is (moved.same clean)).0.is_open
+    answered_open : (r : Option (Bor Row)) → result ≡ Ok r → HasCleanDisk (state g new.conn.now)
+        → IsTrue (state g new.conn.now).is_open
+    answered_open r is clean = (subst (λ x. OnOk x (IsUnchanged (state g mid.conn.now) (state g new.conn.now)))
+        is (moved.same clean)).0.is_open
 
     still_unchanged : (r : Option (Bor Row)) → result ≡ Ok r → HasCleanDisk (state g new.conn.now)
         → IsUnchanged (state g old) (state g new.conn.now)
-    still_unchanged r is = then_unchanged (state g old) (state g mid.conn.now) (state g new.conn.now) was_clean so_far.unchanged so_far.crash
+    still_unchanged r is = then_unchanged (state g old) (state g mid.conn.now)
+        (state g new.conn.now) was_clean so_far.unchanged so_far.crash
         (λ clean. subst (λ x. OnOk x (IsUnchanged (state g mid.conn.now) (state g new.conn.now))) is (moved.same clean))
 
     -- the rows that were given before, where the disk returned what was written
@@ -226,10 +255,15 @@ module _ {S A K : Type 0} (g : Ghosts S) (of : Row → A) (IsReadable : Row → 
         (kept, it.0, it.1)
 
     module _ (row : Bor Row) (is : result ≡ Ok (Some row)) where
-      given_more : IsKept (state g new.conn.now) → (rows : List Row) × HasGiven g text params new.conn.now (rows ++ row.now ∷ []) × (so_far.taken ≡ map of rows)
+      given_more : IsKept (state g new.conn.now) → (rows : List Row)
+          × HasGiven g text params new.conn.now (rows ++ row.now ∷ []) × (so_far.taken ≡ map of rows)
       given_more kept =
-          let it = so_far.given (one_keeps kept).0 in
-          (it.0, subst (λ r. IfOk r (λ row. Advances g mid.conn.now new.conn.now (option_copied row))) is (moved.ok kept.0) text params it.0 it.1, it.2)
+          let it = so_far.given (one_keeps kept).0 in (
+            it.0,
+            subst (λ r. IfOk r (λ row. Advances g mid.conn.now new.conn.now (option_copied row))) is
+                (moved.ok kept.0) text params it.0 it.1,
+            it.2,
+          )
 
       pub goes_on : (end : K) → after now (of row.now) end → Walking new.conn.now end (count + 1)
       goes_on end took = record {
@@ -239,8 +273,13 @@ module _ {S A K : Type 0} (g : Ghosts S) (of : Row → A) (IsReadable : Row → 
         unchanged = still_unchanged (Some row) is;
         counted = length-append so_far.taken (of row.now ∷ []) ∙ ap (λ n. n + 1) so_far.counted;
         taken = so_far.taken ++ of row.now ∷ [];
-        takes = all_taken after _ _ _ (one_more after (so_far.taken ++ of row.now ∷ []) (of row.now) [] _ _ _ (so_far.taken, refl, so_far.takes) took);
-        given = λ kept. let it = given_more kept in (it.0 ++ row.now ∷ [], it.1, ap (λ ts. ts ++ of row.now ∷ []) it.2 ∙ sym (map-append of it.0 (row.now ∷ [])));
+        takes = all_taken after _ _ _ (one_more after (so_far.taken ++ of row.now ∷ []) (of row.now) [] _ _ _
+            (so_far.taken, refl, so_far.takes) took);
+        given = λ kept. let it = given_more kept in (
+          it.0 ++ row.now ∷ [],
+          it.1,
+          ap (λ ts. ts ++ of row.now ∷ []) it.2 ∙ sym (map-append of it.0 (row.now ∷ [])),
+        );
       }
 
       -- the row was not taken
@@ -263,8 +302,17 @@ module _ {S A K : Type 0} (g : Ghosts S) (of : Row → A) (IsReadable : Row → 
               let it = given_more kept in
               let more = still_keeps kept in
               let start = given_begin g text params new.conn.now (it.0 ++ row.now ∷ []) it.1 in
-              let all = answers_on text params says.0 says.1 (state g old) (state g new.conn.now) still_books kept more.1 (it.0 ++ row.now ∷ []) start in
-              (more.0, (says.0, says.1, (it.0 ++ row.now ∷ []) ++ all.0, all.1, not_all IsReadable it.0 row.now all.0 unreadable))
+              let all = answers_on text params says.0 says.1 (state g old)
+              (state g new.conn.now) still_books kept more.1 (it.0 ++ row.now ∷ []) start in (
+                more.0,
+                (
+                  says.0,
+                  says.1,
+                  (it.0 ++ row.now ∷ []) ++ all.0,
+                  all.1,
+                  not_all IsReadable it.0 row.now all.0 unreadable,
+                ),
+              )
 
           value : A
           value = of row.now
@@ -275,8 +323,12 @@ module _ {S A K : Type 0} (g : Ghosts S) (of : Row → A) (IsReadable : Row → 
               let it = given_more kept in
               let more = still_keeps kept in
               let start = given_begin g text params new.conn.now (it.0 ++ row.now ∷ []) it.1 in
-              let rest = begins of text params (state g old) rows says (state g new.conn.now) still_books kept more.0 more.1 (it.0 ++ row.now ∷ []) start in
-              (rest.0, rest.1 ∙ ap (λ ts. ts ++ rest.0) (map-append of it.0 (row.now ∷ []) ∙ ap (λ ts. ts ++ value ∷ []) (sym it.2)))
+              let rest = begins of text params (state g old) rows says
+              (state g new.conn.now) still_books kept more.0 more.1 (it.0 ++ row.now ∷ []) start in (
+                rest.0,
+                rest.1 ∙ ap (λ ts. ts ++ rest.0) (map-append of it.0 (row.now ∷ [])
+                    ∙ ap (λ ts. ts ++ value ∷ []) (sym it.2)),
+              )
 
           rest : (rest : List A) × (HasCleanDisk (state g new.conn.now) → (so_far.taken ++ value ∷ []) ++ rest ≡ rows)
           rest = chosen (state g new.conn.now) (so_far.taken ++ value ∷ []) rows front
@@ -285,10 +337,20 @@ module _ {S A K : Type 0} (g : Ghosts S) (of : Row → A) (IsReadable : Row → 
           are clean = sym (append_assoc so_far.taken (value ∷ []) rest.0) ∙ rest.1 clean
 
           go : (w : WalkFault) → HandsOne after after_stop value now end (Err w)
-              → (handed : List A) × Hands after after_stop handed sink end (Err w) × (HasCleanDisk (state g new.conn.now) → handed ≡ rows)
-          go why.Stopped stop = (so_far.taken ++ value ∷ rest.0, (so_far.taken, value, rest.0, refl, now, so_far.takes, stop), are)
-          go why.Memory same = (so_far.taken ++ value ∷ rest.0, (so_far.taken, value ∷ rest.0, refl, subst (Passes after sink so_far.taken) (sym same) so_far.takes), are)
-          go why.Store same = (so_far.taken ++ value ∷ rest.0, (so_far.taken, value ∷ rest.0, refl, subst (Passes after sink so_far.taken) (sym same) so_far.takes), are)
+              → (handed : List A) × Hands after after_stop handed sink end (Err w)
+              × (HasCleanDisk (state g new.conn.now) → handed ≡ rows)
+          go why.Stopped stop =
+              (so_far.taken ++ value ∷ rest.0, (so_far.taken, value, rest.0, refl, now, so_far.takes, stop), are)
+          go why.Memory same = (
+            so_far.taken ++ value ∷ rest.0,
+            (so_far.taken, value ∷ rest.0, refl, subst (Passes after sink so_far.taken) (sym same) so_far.takes),
+            are,
+          )
+          go why.Store same = (
+            so_far.taken ++ value ∷ rest.0,
+            (so_far.taken, value ∷ rest.0, refl, subst (Passes after sink so_far.taken) (sym same) so_far.takes),
+            are,
+          )
 
     -- ---- no further row
 
@@ -308,15 +370,18 @@ module _ {S A K : Type 0} (g : Ghosts S) (of : Row → A) (IsReadable : Row → 
             let before = (one_keeps kept).0 in
             let first = so_far.keeps before in
             let it = so_far.given before in
-            let shown = subst (λ r. IfOk r (λ row. Advances g mid.conn.now new.conn.now (option_copied row))) is (moved.ok kept.0) text params it.0 it.1 in
-            it.2 ∙ ends of text params (state g old) rows says (state g mid.conn.now) (state g new.conn.now) so_far.books before first.0 first.1 it.0 shown,
+            let shown = subst (λ r. IfOk r (λ row. Advances g mid.conn.now new.conn.now (option_copied row))) is
+            (moved.ok kept.0) text params it.0 it.1 in
+            it.2 ∙ ends of text params (state g old) rows says (state g mid.conn.now)
+            (state g new.conn.now) so_far.books before first.0 first.1 it.0 shown,
       );
     }
 
     pub broken_off : (rows : List A) → SaysRows of text params (state g old) rows → (e : Error) → result ≡ Err e
         → (fault : WalkFault) → failure_of (Err fault) ≡ Some (fault_of e) → Ends rows new.conn.now now (Err fault)
     broken_off rows says e failed fault is =
-        let rest = chosen (state g new.conn.now) so_far.taken rows (λ clean. front rows says mid.conn.now now count so_far (was_clean clean)) in
+        let rest = chosen (state g new.conn.now) so_far.taken rows
+        (λ clean. front rows says mid.conn.now now count so_far (was_clean clean)) in
         record {
           books = still_books;
           keeps = still_keeps;
@@ -324,14 +389,20 @@ module _ {S A K : Type 0} (g : Ghosts S) (of : Row → A) (IsReadable : Row → 
           open_on = λ _ none. absurd (let k = is in cc);
           cause = λ clean store.
               let it = given_before clean in
-              let fails = subst (λ x. IfErr x (FailsToAdvance g mid.conn.now new.conn.now)) failed (moved.err clean) text params it.1 it.2 in
+              let fails = subst (λ x. IfErr x (FailsToAdvance g mid.conn.now new.conn.now)) failed
+              (moved.err clean) text params it.1 it.2 in
               inl (inl (
                 e,
                 let k = is in cc,
-                error_later (state g old) (state g mid.conn.now) (state g new.conn.now) was_clean so_far.unchanged so_far.crash text params
+                error_later (state g old) (state g mid.conn.now)
+                    (state g new.conn.now) was_clean so_far.unchanged so_far.crash text params
                     says.0 says.1 so_far.books clean e fails,
               ));
-          hands = (so_far.taken ++ rest.0, failed_walk after after_stop _ sink now fault (fault_of e) is (so_far.taken, rest.0, refl, so_far.takes), rest.1);
+          hands = (
+            so_far.taken ++ rest.0,
+            failed_walk after after_stop _ sink now fault (fault_of e) is (so_far.taken, rest.0, refl, so_far.takes),
+            rest.1,
+          );
         }
 
   -- after as many rows as a counter counts
@@ -349,7 +420,8 @@ module _ {S A K : Type 0} (g : Ghosts S) (of : Row → A) (IsReadable : Row → 
             let it = so_far.given kept in
             let more = so_far.keeps kept in
             let start = given_begin g text params mid it.0 it.1 in
-            let all = answers_on text params says.0 says.1 (state g old) (state g mid) so_far.books kept more.1 it.0 start in
+            let all =
+            answers_on text params says.0 says.1 (state g old) (state g mid) so_far.books kept more.1 it.0 start in
             let long : MOST_ROWS ≤ length (it.0 ++ all.0) =
             omega (arith, many, so_far.counted, ap length it.2, length-map it.0 of, length-append it.0 all.0) in
             inr (more.0, (says.0, says.1, it.0 ++ all.0, all.1, long));
@@ -358,8 +430,10 @@ module _ {S A K : Type 0} (g : Ghosts S) (of : Row → A) (IsReadable : Row → 
 
 -- ---- a walk after a look-up, and a look-up that failed before it
 
-module _ {A K : Type 0} {Fails : State → State → Type 0} (after after_stop : K → A → K → Type 0) (rows : List A) (old mid : State) (sink : K) where
-  pub then_walks : {Then : State → State → Type 0} (new : State) (end : K) (result : Result (Unit {0}) WalkFault) → KeepsRows old mid → (HasCleanDisk mid → IsTrue mid.is_open)
+module _ {A K : Type 0} {Fails : State → State → Type 0} (after after_stop : K → A → K → Type 0) (rows : List A)
+    (old mid : State) (sink : K) where
+  pub then_walks : {Then : State → State → Type 0} (new : State) (end : K) (result : Result (Unit {0}) WalkFault)
+      → KeepsRows old mid → (HasCleanDisk mid → IsTrue mid.is_open)
       → LeavesNoMore old mid → ((HasCleanDisk new → HasCleanDisk mid) → HasCleanDisk new → Then mid new → Fails old new)
       → WalksRows Then after after_stop rows mid new sink end result
       → WalksRows Fails after after_stop rows old new sink end result
@@ -372,7 +446,8 @@ module _ {A K : Type 0} {Fails : State → State → Type 0} (after after_stop :
     crash = then_survives old mid new open_on crash walked.crash;
   }
 
-  pub not_begun : (fault : WalkFault) (cause : LookFault) → failure_of (Err fault) ≡ Some cause → IsBooks mid → KeepsRows old mid → LeavesNoMore old mid
+  pub not_begun : (fault : WalkFault) (cause : LookFault)
+      → failure_of (Err fault) ≡ Some cause → IsBooks mid → KeepsRows old mid → LeavesNoMore old mid
       → (HasCleanDisk mid → cause ≢ look.Memory → Fails old mid)
       → WalksRows Fails after after_stop rows old mid sink sink (Err fault)
   not_begun fault cause is books keeps crash fails = record {

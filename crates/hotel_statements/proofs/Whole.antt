@@ -39,19 +39,25 @@ all_pass [] = refl
 all_pass (r ∷ rows) = ap (λ rs. r ∷ rs) (all_pass rows)
 
 -- the rows that are shown are those of the tree, in some order
-pub all_rows : (tree : ℕ) (project : List Term) (order : List (Term × Key)) (columns cut : Row → Row) → ((r : Row) → eval_all project (env [] r) ≡ columns r)
-    → ((r : Row) → cut (columns r) ≡ columns r) → (db : Trees) (rows : List Row) → IsAnswer (single tree [] project order) (overlay db []) [] rows
+pub all_rows : (tree : ℕ) (project : List Term) (order : List (Term × Key)) (columns cut : Row → Row)
+    → ((r : Row) → eval_all project (env [] r) ≡ columns r)
+    → ((r : Row) → cut (columns r) ≡ columns r) → (db : Trees) (rows : List Row)
+    → IsAnswer (single tree [] project order) (overlay db []) [] rows
     → IsPermutation (map columns (db tree)) (map cut rows)
 all_rows tree project order columns cut shows whole db rows a =
     let it = answered tree [] project order (overlay db []) [] rows a in
     let o : Row → Output = λ r. output (single tree [] project order) (env [] r) in
-    let all : IsPermutation (map o (db tree)) it.ordered = subst (λ rs. IsPermutation (map o rs) it.ordered) (all_pass _ ∙ same_tree db tree) it.same in
-    let mapped : IsPermutation (map (λ (x : Output). cut x.1) (map o (db tree))) (map (λ (x : Output). cut x.1) it.ordered) =
+    let all : IsPermutation (map o (db tree)) it.ordered =
+    subst (λ rs. IsPermutation (map o rs) it.ordered) (all_pass _ ∙ same_tree db tree) it.same in
+    let mapped : IsPermutation (map (λ (x : Output). cut x.1) (map o (db tree)))
+    (map (λ (x : Output). cut x.1) it.ordered) =
     IsPermutation-map (λ (x : Output). cut x.1) _ _ all in
     let left : map (λ (x : Output). cut x.1) (map o (db tree)) ≡ map columns (db tree) =
     fused (λ (x : Output). cut x.1) o (db tree) ∙ map_same _ columns (λ r. ap cut (shows r) ∙ whole r) (db tree) in
-    let right : map (λ (x : Output). cut x.1) it.ordered ≡ map cut rows = sym (fused cut (λ (x : Output). x.1) it.ordered) ∙ ap (map cut) (sym it.shown) in
-    subst (λ ys. IsPermutation (map columns (db tree)) ys) right (subst (λ xs. IsPermutation xs (map (λ (x : Output). cut x.1) it.ordered)) left mapped)
+    let right : map (λ (x : Output). cut x.1) it.ordered ≡ map cut rows =
+    sym (fused cut (λ (x : Output). x.1) it.ordered) ∙ ap (map cut) (sym it.shown) in
+    subst (λ ys. IsPermutation (map columns (db tree)) ys) right
+    (subst (λ xs. IsPermutation xs (map (λ (x : Output). cut x.1) it.ordered)) left mapped)
 
 -- ---- the tables that both versions have
 

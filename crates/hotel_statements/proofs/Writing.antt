@@ -51,19 +51,26 @@ failing P (Err e) is = tt
 
 -- ---- a statement within a transaction
 
-pub commit_kept : (sql : List ℕ) (params : Row) (old new : State) (r : Result ℕ Error) → ExecutesInside 0 sql params old new r → KeepsCommit old new
+pub commit_kept : (sql : List ℕ) (params : Row) (old new : State) (r : Result ℕ Error)
+    → ExecutesInside 0 sql params old new r → KeepsCommit old new
 commit_kept sql params old new (Ok count) h = record { was_open = λ _. h.1.was_open; committed = λ _. h.1.committed_is }
-commit_kept sql params old new (Err e) (inl (h, inl same)) = record { was_open = λ _. same.0.was_open; committed = λ _. same.0.committed_is }
-commit_kept sql params old new (Err e) (inl (h, inr back)) = record { was_open = back.was_open; committed = λ is_open. (back.undone is_open).1 }
-commit_kept sql params old new (Err e) (inr h) = record { was_open = λ _. h.2.0.was_open; committed = λ _. h.2.0.committed_is }
+commit_kept sql params old new (Err e) (inl (h, inl same)) =
+    record { was_open = λ _. same.0.was_open; committed = λ _. same.0.committed_is }
+commit_kept sql params old new (Err e) (inl (h, inr back)) =
+    record { was_open = back.was_open; committed = λ is_open. (back.undone is_open).1 }
+commit_kept sql params old new (Err e) (inr h) =
+    record { was_open = λ _. h.2.0.was_open; committed = λ _. h.2.0.committed_is }
 
 -- a statement that ran was inside its transaction
-pub ran_inside : (b : Bool) (r : Result ℕ Error) (count : ℕ) (e : Error) (Same : Type 0) → r ≡ Ok count → (b ≡ false → (r ≡ Err e) × Same) → IsTrue b
+pub ran_inside : (b : Bool) (r : Result ℕ Error) (count : ℕ) (e : Error) (Same : Type 0)
+    → r ≡ Ok count → (b ≡ false → (r ≡ Err e) × Same) → IsTrue b
 ran_inside true r count e Same ran ended = refl
 ran_inside false r count e Same ran ended = let no = sym ran ∙ (ended refl).0 in absurd cc
 
 -- whether or not the transaction had ended
-pub kept_inside : (b : Bool) (sql : List ℕ) (params : Row) (old new : State) (r : Result ℕ Error) → (IsTrue b → ExecutesInside 0 sql params old new r) → (b ≡ false → new ≡ old)
+pub kept_inside : (b : Bool) (sql : List ℕ) (params : Row) (old new : State) (r : Result ℕ Error)
+    → (IsTrue b → ExecutesInside 0 sql params old new r) → (b ≡ false → new ≡ old)
     → KeepsCommit old new
 kept_inside true sql params old new r ran ended = commit_kept sql params old new r (ran refl)
-kept_inside false sql params old new r ran ended = subst (KeepsCommit old) (sym (ended refl)) (record { was_open = λ is_open. is_open; committed = λ _. refl })
+kept_inside false sql params old new r ran ended =
+    subst (KeepsCommit old) (sym (ended refl)) (record { was_open = λ is_open. is_open; committed = λ _. refl })

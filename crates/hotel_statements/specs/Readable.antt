@@ -97,7 +97,8 @@ BeginsWith Is r = (1 ≤ length r) × Is (column r 0)
 -- ---- rows of lists
 
 abbrev pub IsInHouse : Row → Type 0
-IsInHouse r = (6 ≤ length r) × IsNumber LAST_ROOM (column r 0) × IsNumber LAST_NUMBER (column r 1) × IsGuest (column r 2)
+IsInHouse r =
+    (6 ≤ length r) × IsNumber LAST_ROOM (column r 0) × IsNumber LAST_NUMBER (column r 1) × IsGuest (column r 2)
     × IsKind (column r 3) × IsDay (column r 4) × IsBit (column r 5)
 
 abbrev pub IsOfChain : Row → Type 0

@@ -118,7 +118,8 @@ issues_card card room leaves codes =
 
 abbrev pub opens_room : ℕ → List ℕ → ℕ → List Statement
 opens_room room kind code =
-    adds_room (new_row room kind) ∷ adds_code code (record { room = room; place = 0 }) ∷ adds_fit (fit_row room 1 0 0) ∷ []
+    adds_room (new_row room kind) ∷ adds_code code (record { room = room; place = 0 })
+    ∷ adds_fit (fit_row room 1 0 0) ∷ []
 
 abbrev pub ends_stay : ℕ → ℕ → List Statement
 ends_stay party room = sets_state party state.Done ∷ frees_room room ∷ []

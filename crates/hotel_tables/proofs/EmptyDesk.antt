@@ -7,7 +7,12 @@ use Rattle.hotel_core.proofs.OfNights.NightsStanding.{none_stand}
 use Rattle.hotel_tables.specs.TableBooks.{IsCounted}
 
 none_counted : IsCounted [] [] no_rows
-none_counted = record { sound = none_sound; known = λ kind there. absurd (false≢true there); rooms = λ kind. refl; stays = none_stand }
+none_counted = record {
+  sound = none_sound;
+  known = λ kind there. absurd (false≢true there);
+  rooms = λ kind. refl;
+  stays = none_stand;
+}
 
 pub empty_counted : (rows : Rows) → rows ≡ no_rows → IsCounted [] [] rows
 empty_counted rows is = subst (IsCounted [] []) (sym is) none_counted

@@ -66,12 +66,14 @@ unfolding IsStrictlySortedBy
 sorted_of [] s = tt
 sorted_of (k ∷ ks) s = (after_of k ks s.0, sorted_of ks s.1)
 
-module _ {kinds : List (List ℕ × ℕ)} {nights : List ((List ℕ × ℕ) × List ℕ)} {rows : Rows} (c : IsCounted kinds nights rows) where
+module _ {kinds : List (List ℕ × ℕ)} {nights : List ((List ℕ × ℕ) × List ℕ)} {rows : Rows}
+    (c : IsCounted kinds nights rows) where
   rooms_known : RoomsKnown kinds rows.rooms
   rooms_known = record { counts = c.rooms; numbers = numbers_of rows.rooms c.sound.room_number }
 
   pub few_of_kind : (kind : List ℕ) → rooms_in kinds kind < 2 ^ 32 - 1
-  few_of_kind kind = few_rooms kinds rows.rooms kind rooms_known (sorted_of (keys_of rows.rooms) (orders rows c.sound).rooms)
+  few_of_kind kind =
+      few_rooms kinds rows.rooms kind rooms_known (sorted_of (keys_of rows.rooms) (orders rows c.sound).rooms)
 
   pub few_at_night : (kind : List ℕ) (d : ℕ) → counted nights kind d < 2 ^ 63
   few_at_night kind d =
@@ -79,7 +81,8 @@ module _ {kinds : List (List ℕ × ℕ)} {nights : List ((List ℕ × ℕ) × L
       counts_fit nights rows.stays kind d c.stays (omega (arith, fit))
 
   -- nothing was changed: of the kinds and nights no more is known, and of the rows nothing
-  pub counted_still : (kinds' : List (List ℕ × ℕ)) (nights' : List ((List ℕ × ℕ) × List ℕ)) → KeepsRooms kinds kinds' → CountsMore None nights nights' → IsCounted kinds' nights' rows
+  pub counted_still : (kinds' : List (List ℕ × ℕ)) (nights' : List ((List ℕ × ℕ) × List ℕ))
+      → KeepsRooms kinds kinds' → CountsMore None nights nights' → IsCounted kinds' nights' rows
   counted_still kinds' nights' keeps same = record {
     sound = c.sound;
     known = λ kind t. keeps.there kind (c.known kind t);
@@ -88,14 +91,18 @@ module _ {kinds : List (List ℕ × ℕ)} {nights : List ((List ℕ × ℕ) × L
   }
 
   -- what was added is taken back
-  pub counted_back : (stay : Option Stay) (kinds' : List (List ℕ × ℕ)) (mid nights' : List ((List ℕ × ℕ) × List ℕ)) → KeepsRooms kinds kinds' → CountsMore stay nights mid → CountsLess stay mid nights'
+  pub counted_back : (stay : Option Stay) (kinds' : List (List ℕ × ℕ)) (mid nights' : List ((List ℕ × ℕ) × List ℕ))
+      → KeepsRooms kinds kinds' → CountsMore stay nights mid → CountsLess stay mid nights'
       → IsCounted kinds' nights' rows
-  counted_back stay kinds' mid nights' keeps more less = counted_still kinds' nights' keeps (λ kind d few. let m = more kind d few in let l = less kind d in omega (arith, m, l))
+  counted_back stay kinds' mid nights' keeps more less = counted_still kinds' nights' keeps
+      (λ kind d few. let m = more kind d few in let l = less kind d in omega (arith, m, l))
 
 -- ---- kinds
 
-any_by : {K : Type 0} (cmp : K → K → Ordering) (t : K → Bool) (o : Ordering) (k x : K) (xs : List K) → (list_any t (insert_key cmp xs k) ≡ true → (t k ≡ true) ⊎ (list_any t xs ≡ true))
-    → list_any t (match_ordering o (k ∷ x ∷ xs) (x ∷ xs) (x ∷ insert_key cmp xs k)) ≡ true → (t k ≡ true) ⊎ (list_any t (x ∷ xs) ≡ true)
+any_by : {K : Type 0} (cmp : K → K → Ordering) (t : K → Bool) (o : Ordering) (k x : K) (xs : List K)
+    → (list_any t (insert_key cmp xs k) ≡ true → (t k ≡ true) ⊎ (list_any t xs ≡ true))
+    → list_any t (match_ordering o (k ∷ x ∷ xs) (x ∷ xs) (x ∷ insert_key cmp xs k)) ≡ true
+    → (t k ≡ true) ⊎ (list_any t (x ∷ xs) ≡ true)
 any_by cmp t Less k x xs ih h = or_true (t k) (list_any t (x ∷ xs)) h
 any_by cmp t Equal k x xs ih h = inr h
 any_by cmp t Greater k x xs ih h =
@@ -105,12 +112,15 @@ any_by cmp t Greater k x xs ih h =
     ]
 
 -- a key that passes, with one added, is that one or was there
-any_of_inserted : {K : Type 0} (cmp : K → K → Ordering) (t : K → Bool) (k : K) (xs : List K) → list_any t (insert_key cmp xs k) ≡ true → (t k ≡ true) ⊎ (list_any t xs ≡ true)
+any_of_inserted : {K : Type 0} (cmp : K → K → Ordering) (t : K → Bool) (k : K) (xs : List K)
+    → list_any t (insert_key cmp xs k) ≡ true → (t k ≡ true) ⊎ (list_any t xs ≡ true)
 any_of_inserted cmp t k [] h = or_true (t k) false h
 any_of_inserted cmp t k (x ∷ xs) h = any_by cmp t (cmp k x) k x xs (any_of_inserted cmp t k xs) h
 
-kind_known : (kinds : List (List ℕ × ℕ)) (rows : Rows) (added : List ℕ) → ((kind : List ℕ) → has_kind rows kind ≡ true → is_there kinds kind ≡ true) → is_there kinds added ≡ true
-    → (kind : List ℕ) → list_any (λ k. bytes_eq k kind) (insert_key (slice_cmp nat_cmp) rows.kinds added) ≡ true → is_there kinds kind ≡ true
+kind_known : (kinds : List (List ℕ × ℕ)) (rows : Rows) (added : List ℕ)
+    → ((kind : List ℕ) → has_kind rows kind ≡ true → is_there kinds kind ≡ true) → is_there kinds added ≡ true
+    → (kind : List ℕ) → list_any (λ k. bytes_eq k kind) (insert_key (slice_cmp nat_cmp) rows.kinds added) ≡ true
+    → is_there kinds kind ≡ true
 kind_known kinds rows added known there kind h =
     elim (any_of_inserted (slice_cmp nat_cmp) (λ k. bytes_eq k kind) added rows.kinds h) [
       | inl new ↦ subst (λ k. is_there kinds k ≡ true) ((bytes_eq-Decides added kind).0 new) there
@@ -123,16 +133,20 @@ kind_known kinds rows added known there kind h =
 abbrev KnowsKinds : List (List ℕ × ℕ) → Rows → Type 0
 KnowsKinds kinds rows = (kind : List ℕ) → has_kind rows kind ≡ true → is_there kinds kind ≡ true
 
-known_after : (change : Change) (rows : Rows) (mid later : List (List ℕ × ℕ)) → KnowsKinds mid rows → HasItsKind change mid → CountsItsRoom change mid later → KnowsKinds later (made change rows)
-known_after (change.Kind kind) rows mid later known there same k h = subst (λ kinds. is_there kinds k ≡ true) (sym same) (kind_known mid rows kind known there k h)
-known_after (change.Room room kind code) rows mid later known there one k h = ap (λ ks. list_any (λ x. bytes_eq x k) ks) one.kinds ∙ known k h
+known_after : (change : Change) (rows : Rows) (mid later : List (List ℕ × ℕ))
+    → KnowsKinds mid rows → HasItsKind change mid → CountsItsRoom change mid later → KnowsKinds later (made change rows)
+known_after (change.Kind kind) rows mid later known there same k h =
+    subst (λ kinds. is_there kinds k ≡ true) (sym same) (kind_known mid rows kind known there k h)
+known_after (change.Room room kind code) rows mid later known there one k h =
+    ap (λ ks. list_any (λ x. bytes_eq x k) ks) one.kinds ∙ known k h
 known_after _ rows mid later known there same k h = subst (λ kinds. is_there kinds k ≡ true) (sym same) (known k h)
 
 -- as many rooms of each kind are counted as there are
 abbrev CountsRooms : List (List ℕ × ℕ) → Rows → Type 0
 CountsRooms kinds rows = (kind : List ℕ) → rooms_in kinds kind ≡ rooms_of_kind rows.rooms kind
 
-rooms_after : (change : Change) (rows : Rows) (mid later : List (List ℕ × ℕ)) → RoomsKnown mid rows.rooms → KnowsKinds mid rows → ((kind : List ℕ) → rooms_in mid kind < 2 ^ 32 - 1) → HasItsRows change rows
+rooms_after : (change : Change) (rows : Rows) (mid later : List (List ℕ × ℕ)) → RoomsKnown mid rows.rooms
+    → KnowsKinds mid rows → ((kind : List ℕ) → rooms_in mid kind < 2 ^ 32 - 1) → HasItsRows change rows
     → CountsItsRoom change mid later → CountsRooms later (made change rows)
 rooms_after (change.Room room kind code) rows mid later known kinds few fits one k =
     let added = count_inserted (λ (r : RoomRow). bytes_eq r.kind k) rows.rooms room (new_row room kind) fits.1 in
@@ -141,49 +155,65 @@ rooms_after (change.Room room kind code) rows mid later known kinds few fits one
     omega (arith, added, was, is)
 rooms_after (change.Issue card room leaves) rows mid later known kinds few fits same k =
     ap (λ ks. rooms_in ks k) same
-    ∙ (known_changed (λ row. record row { codes = row.codes + 1; secured = false; party = Some card.party }) (λ row. refl) mid room (freed_by leaves rows.rooms) (known_left leaves mid rows.rooms known)).counts k
+    ∙ (known_changed (λ row. record row { codes = row.codes + 1; secured = false; party = Some card.party })
+    (λ row. refl) mid room (freed_by leaves rows.rooms) (known_left leaves mid rows.rooms known)).counts k
 rooms_after (change.CheckedOut party room) rows mid later known kinds few fits same k =
-    ap (λ ks. rooms_in ks k) same ∙ (known_changed (λ row. record row { party = None }) (λ row. refl) mid room rows.rooms known).counts k
+    ap (λ ks. rooms_in ks k) same
+    ∙ (known_changed (λ row. record row { party = None }) (λ row. refl) mid room rows.rooms known).counts k
 rooms_after (change.Refit room code fit) rows mid later known kinds few fits same k =
     ap (λ ks. rooms_in ks k) same ∙ (known_changed (refitted fit) (λ row. refl) mid room rows.rooms known).counts k
 rooms_after (change.Noted note place secured insides) rows mid later known kinds few fits same k =
-    ap (λ ks. rooms_in ks k) same ∙ (known_changed (λ row. record row { lock_place = place; secured = secured; notes = row.before + note.count }) (λ row. refl) mid note.room rows.rooms known).counts k
+    ap (λ ks. rooms_in ks k) same
+    ∙ (known_changed (λ row. record row { lock_place = place; secured = secured; notes = row.before + note.count })
+    (λ row. refl) mid note.room rows.rooms known).counts k
 rooms_after _ rows mid later known kinds few fits same k = ap (λ ks. rooms_in ks k) same ∙ known.counts k
 
 -- one stay is counted more and one less
 abbrev Turns : Option Stay → Option Stay → List ((List ℕ × ℕ) × List ℕ) → List ((List ℕ × ℕ) × List ℕ) → Type 0
-Turns more less old new = (kind : List ℕ) (d : ℕ) → counted new kind d ≡ counted old kind d + taken_by more kind d - taken_by less kind d
+Turns more less old new = (kind : List ℕ) (d : ℕ)
+    → counted new kind d ≡ counted old kind d + taken_by more kind d - taken_by less kind d
 
-stands_still : (old new : List ((List ℕ × ℕ) × List ℕ)) (stays : List Stay) → CountsNights old stays → Turns None None old new → CountsNights new stays
+stands_still : (old new : List ((List ℕ × ℕ) × List ℕ)) (stays : List Stay)
+    → CountsNights old stays → Turns None None old new → CountsNights new stays
 stands_still old new stays h u kind d = let is = u kind d in let was = h kind d in omega (arith, is, was)
 
-stands_ended : (o : Option Stay) (party : ℕ) (s : StayState) (rows : Rows) (old new : List ((List ℕ × ℕ) × List ℕ)) → stay_at rows party ≡ o → IsSome o → is_standing s ≡ false → CountsNightsOf old rows.stays
+stands_ended : (o : Option Stay) (party : ℕ) (s : StayState) (rows : Rows) (old new : List ((List ℕ × ℕ) × List ℕ))
+    → stay_at rows party ≡ o → IsSome o → is_standing s ≡ false → CountsNightsOf old rows.stays
     → Turns None o old new → CountsNightsOf new (in_state party s rows.stays)
 stands_ended None party s rows old new e there ends h u = absurd (false≢true there)
 stands_ended (Some stay) party s rows old new e there ends h u =
     stands_less old new rows.stays party s stay h e ends (λ kind d. let is = u kind d in omega (arith, is))
 
-stays_after : (change : Change) (rows : Rows) (old new : List ((List ℕ × ℕ) × List ℕ)) → HasItsRows change rows → CountsNightsOf old rows.stays
+stays_after : (change : Change) (rows : Rows) (old new : List ((List ℕ × ℕ) × List ℕ))
+    → HasItsRows change rows → CountsNightsOf old rows.stays
     → Turns (booked_by change) (ended_by change rows) old new → CountsNightsOf new (made change rows).stays
-stays_after (change.Reserved stay) rows old new fits h u = stands_more old new rows.stays stay.party stay h fits.2 (λ kind d. let is = u kind d in omega (arith, is))
-stays_after (change.Cancelled party) rows old new fits h u = stands_ended (stay_at rows party) party state.Cancelled rows old new refl fits refl h u
-stays_after (change.CheckedOut party room) rows old new fits h u = stands_ended (stay_at rows party) party state.Done rows old new refl fits.0 refl h u
+stays_after (change.Reserved stay) rows old new fits h u =
+    stands_more old new rows.stays stay.party stay h fits.2 (λ kind d. let is = u kind d in omega (arith, is))
+stays_after (change.Cancelled party) rows old new fits h u =
+    stands_ended (stay_at rows party) party state.Cancelled rows old new refl fits refl h u
+stays_after (change.CheckedOut party room) rows old new fits h u =
+    stands_ended (stay_at rows party) party state.Done rows old new refl fits.0 refl h u
 stays_after (change.Issue card room leaves) rows old new fits h u =
-    stands_on new rows.stays card.party (state.InHouse room) (stands_still old new (values_of rows.stays) h u) fits.5 refl
+    stands_on new rows.stays card.party (state.InHouse room)
+    (stands_still old new (values_of rows.stays) h u) fits.5 refl
 stays_after _ rows old new fits h u = stands_still old new (values_of rows.stays) h u
 
 -- The counts after a change that was made.
-pub counted_after : (change : Change) (rows : Rows) (kinds kinds' kinds'' : List (List ℕ × ℕ)) (nights nights' nights'' : List ((List ℕ × ℕ) × List ℕ)) → IsCounted kinds nights rows → Fits change rows
-    → KeepsRooms kinds kinds' → HasItsKind change kinds' → CountsMore (booked_by change) nights nights' → CountsItsRoom change kinds' kinds'' → CountsLess (ended_by change rows) nights' nights''
+pub counted_after : (change : Change) (rows : Rows) (kinds kinds' kinds'' : List (List ℕ × ℕ))
+    (nights nights' nights'' : List ((List ℕ × ℕ) × List ℕ)) → IsCounted kinds nights rows → Fits change rows
+    → KeepsRooms kinds kinds' → HasItsKind change kinds' → CountsMore (booked_by change) nights nights'
+    → CountsItsRoom change kinds' kinds'' → CountsLess (ended_by change rows) nights' nights''
     → IsCounted kinds'' nights'' (made change rows)
 counted_after change rows kinds kinds' kinds'' nights nights' nights'' c fits keeps there more one less =
     let known : KnowsKinds kinds' rows = λ kind t. keeps.there kind (c.known kind t) in
     let counts : CountsRooms kinds' rows = λ kind. keeps.rooms kind ∙ c.rooms kind in
-    let few : (kind : List ℕ) → rooms_in kinds' kind < 2 ^ 32 - 1 = λ kind. subst (λ n. n < 2 ^ 32 - 1) (sym (keeps.rooms kind)) (few_of_kind c kind) in
+    let few : (kind : List ℕ) → rooms_in kinds' kind < 2 ^ 32 - 1 =
+    λ kind. subst (λ n. n < 2 ^ 32 - 1) (sym (keeps.rooms kind)) (few_of_kind c kind) in
     let rooms_are : RoomsKnown kinds' rows.rooms = record { counts = counts; numbers = (rooms_known c).numbers } in
     record {
       sound = fits.1;
       known = known_after change rows kinds' kinds'' known there one;
       rooms = rooms_after change rows kinds' kinds'' rooms_are known few fits.0 one;
-      stays = stays_after change rows nights nights'' fits.0 c.stays (λ kind d. let m = more kind d (few_at_night c kind d) in let l = less kind d in omega (arith, m, l));
+      stays = stays_after change rows nights nights'' fits.0 c.stays
+          (λ kind d. let m = more kind d (few_at_night c kind d) in let l = less kind d in omega (arith, m, l));
     }

@@ -13,7 +13,8 @@ use Rattle.hotel_statements.specs.SameSchema.{same_schema, same_front}
 use Rattle.hotel_statements.proofs.SameSchema.{schema_is, desk_is_same, front_is, front_is_first}
 use Rattle.hotel_statements.proofs.SameSchema.{first_is_front, count_tables, count_indexes}
 
-pub memory_has_desk : (old new : Held MemStore) → IsEmpty (state over_memory old) → Survives (state over_memory old) (state over_memory new) IsEmptyDesk → IsBooks (state over_memory new)
+pub memory_has_desk : (old new : Held MemStore) → IsEmpty (state over_memory old)
+    → Survives (state over_memory old) (state over_memory new) IsEmptyDesk → IsBooks (state over_memory new)
     → (state over_memory new).now.schema ≡ desk_schema
 memory_has_desk old new empty survives books = (books.desk (memory_is_clean new, open_yet)).schema
   where
@@ -24,12 +25,15 @@ memory_has_desk old new empty survives books = (books.desk (memory_is_clean new,
     ]
 
 -- the schemas of two connections, the second of which is a desk's
-pub same_is_desk : (a b shown desk : Schema) → a ≡ shown → b ≡ desk → desk ≡ desk_schema → same_schema a b ≡ true → shown ≡ desk_schema
+pub same_is_desk : (a b shown desk : Schema)
+    → a ≡ shown → b ≡ desk → desk ≡ desk_schema → same_schema a b ≡ true → shown ≡ desk_schema
 same_is_desk a b shown desk p q r e = sym p ∙ schema_is a b e ∙ q ∙ r
 
-pub desk_is_taken : (a b shown desk : Schema) → a ≡ shown → b ≡ desk → desk ≡ desk_schema → shown ≡ desk_schema → same_schema a b ≡ true
+pub desk_is_taken : (a b shown desk : Schema)
+    → a ≡ shown → b ≡ desk → desk ≡ desk_schema → shown ≡ desk_schema → same_schema a b ≡ true
 desk_is_taken a b shown desk p q r s =
-    subst (λ x. same_schema x b ≡ true) (sym (p ∙ s)) (subst (λ x. same_schema desk_schema x ≡ true) (sym (q ∙ r)) desk_is_same)
+    subst (λ x. same_schema x b ≡ true) (sym (p ∙ s))
+    (subst (λ x. same_schema desk_schema x ≡ true) (sym (q ∙ r)) desk_is_same)
 
 -- the same of the first version
 pub front_is_shown : (a b shown desk : Schema) → a ≡ shown → b ≡ desk → desk ≡ desk_schema

@@ -91,13 +91,16 @@ path_error_opens e (inr (inr is)) = subst (λ e. IsTrue (is_open_error e)) (sym 
 
 module _ {D : Type 0} {g : disk.Ghosts D} where
   -- what was closed is the books' connection, and its files are as the close promises
-  pub holds_books : (conn closed : Held (FileStore D g)) (files : Files D) → closed ≡ conn → IsBooks (file_state closed) → IsLive (file_state closed)
+  pub holds_books : (conn closed : Held (FileStore D g)) (files : Files D)
+      → closed ≡ conn → IsBooks (file_state closed) → IsLive (file_state closed)
       → (IsTrue (g.is_clean files.log && g.is_clean files.db) → IsCopied closed files) → HoldBooks conn files
   holds_books conn closed files same books live copied =
-      subst (λ c. HoldBooks c files) same (λ log db. let it = copied (both _ _ log db) in (it, λ again opened found seen. (files_keep_books closed again files books live it opened found seen).2))
+      subst (λ c. HoldBooks c files) same (λ log db. let it = copied (both _ _ log db) in
+      (it, λ again opened found seen. (files_keep_books closed again files books live it opened found seen).2))
 
   abbrev pub IsStillThere : Held (FileStore D g) → Result (Files D) (Error × FileStore D g) → Type 0
   IsStillThere conn r = IfErr r (λ e. IsClosed conn e.1 × (IsClean (view e.1) → FailsToClose conn e.1 e.0))
 
-  pub still_there : (conn closed : Held (FileStore D g)) (r : Result (Files D) (Error × FileStore D g)) → closed ≡ conn → IsStillThere closed r → IsStillThere conn r
+  pub still_there : (conn closed : Held (FileStore D g)) (r : Result (Files D) (Error × FileStore D g))
+      → closed ≡ conn → IsStillThere closed r → IsStillThere conn r
   still_there conn closed r same there = subst (λ c. IsStillThere c r) same there

@@ -102,14 +102,17 @@ one_number at l row same shown is =
 pub lacks_row : (version : Version) (db : Trees) (meta : List PlainMeta)
     → ArePlainRows meta_columns meta_shown meta (db meta_tree) → LacksRow version meta → ¬ HasMetaRow version db
 lacks_row version db [] plain_rows none has =
-    let here : IsPermutation (map meta_columns (has.0 ∷ [])) [] = subst (λ rows. IsPermutation (map meta_columns rows) []) has.1 plain_rows in
+    let here : IsPermutation (map meta_columns (has.0 ∷ [])) [] =
+    subst (λ rows. IsPermutation (map meta_columns rows) []) has.1 plain_rows in
     absurd (omega (arith, length_permutation _ _ here))
 lacks_row version db (l ∷ []) plain_rows none has =
-    let here : IsPermutation (meta_columns has.0 ∷ []) (meta_shown l ∷ []) = subst (λ rows. IsPermutation (map meta_columns rows) (meta_shown l ∷ [])) has.1 plain_rows in
+    let here : IsPermutation (meta_columns has.0 ∷ []) (meta_shown l ∷ []) =
+    subst (λ rows. IsPermutation (map meta_columns rows) (meta_shown l ∷ [])) has.1 plain_rows in
     let same = sym (one_permutation (meta_columns has.0) (meta_shown l ∷ []) here) in
     none l (refl, one_number 0 l has.0 same refl has.2, one_number 1 l has.0 same refl has.3)
 lacks_row version db (l ∷ k ∷ meta) plain_rows none has =
-    let here : IsPermutation (map meta_columns (has.0 ∷ [])) (map meta_shown (l ∷ k ∷ meta)) = subst (λ rows. IsPermutation (map meta_columns rows) (map meta_shown (l ∷ k ∷ meta))) has.1 plain_rows in
+    let here : IsPermutation (map meta_columns (has.0 ∷ [])) (map meta_shown (l ∷ k ∷ meta)) =
+    subst (λ rows. IsPermutation (map meta_columns rows) (map meta_shown (l ∷ k ∷ meta))) has.1 plain_rows in
     absurd (omega (arith, length_permutation _ _ here))
 
 one_row : (n : ℕ) (day : Value) (rows : List Row) → map meta_columns rows ≡ (Int (pos 1) ∷ Int (pos n) ∷ day ∷ []) ∷ []
@@ -157,20 +160,26 @@ rising_passes (a ∷ []) up = refl
 rising_passes (a ∷ b ∷ ids) up = both _ _ (ap is_lt up.0.0) (rising_passes (b ∷ ids) up.1)
 
 -- no two are the same exactly where the sorted ones rise
-pub apart_in_order : (ids sorted : List ℤ) → IsPermutation ids sorted → IsSorted int_cmp sorted → AreApart int_cmp ids → are_in_order int_cmp sorted ≡ true
+pub apart_in_order : (ids sorted : List ℤ) → IsPermutation ids sorted → IsSorted int_cmp sorted → AreApart int_cmp ids
+    → are_in_order int_cmp sorted ≡ true
 apart_in_order ids sorted same in_order apart =
-    ap (are_in_order int_cmp) (sorted_is-sort_by int_cmp int_cmp_total ids sorted apart same in_order) ∙ rising_passes _ (sort_rises int_cmp int_cmp_total ids apart)
+    ap (are_in_order int_cmp) (sorted_is-sort_by int_cmp int_cmp_total ids sorted apart same in_order)
+    ∙ rising_passes _ (sort_rises int_cmp int_cmp_total ids apart)
 
-pub apart_ids : (ids sorted : List ℤ) → IsPermutation ids sorted → are_in_order int_cmp sorted ≡ true → AreApart int_cmp ids
+pub apart_ids : (ids sorted : List ℤ)
+    → IsPermutation ids sorted → are_in_order int_cmp sorted ≡ true → AreApart int_cmp ids
 apart_ids ids sorted same up =
-    let apart : AreApart int_cmp sorted = ascending_weaker _ _ (λ a b less. ap is_eq less) sorted (tested_order int_cmp int_cmp_total sorted up) in
+    let apart : AreApart int_cmp sorted =
+    ascending_weaker _ _ (λ a b less. ap is_eq less) sorted (tested_order int_cmp int_cmp_total sorted up) in
     apart_permuted int_cmp int_cmp_total sorted ids (IsPermutation-sym _ _ same) apart
 
-all_ids : (plain_rows : List NumberedInside) → AllByRecursion (λ (v : Row). column v 0 ≡ Int (id_in (column v 0))) (map numbered_shown plain_rows)
+all_ids : (plain_rows : List NumberedInside)
+    → AllByRecursion (λ (v : Row). column v 0 ≡ Int (id_in (column v 0))) (map numbered_shown plain_rows)
 all_ids [] = tt
 all_ids (l ∷ plain_rows) = (refl, all_ids plain_rows)
 
-first_ids : (plain_rows : List NumberedInside) → map (λ (v : Row). column v 0) (map numbered_shown plain_rows) ≡ map (λ (n : ℤ). Int n) (map id_inside plain_rows)
+first_ids : (plain_rows : List NumberedInside)
+    → map (λ (v : Row). column v 0) (map numbered_shown plain_rows) ≡ map (λ (n : ℤ). Int n) (map id_inside plain_rows)
 first_ids [] = refl
 first_ids (l ∷ plain_rows) = ap (λ vs. Int l.id ∷ vs) (first_ids plain_rows)
 
@@ -181,19 +190,24 @@ ids_apart plain_rows db same apart =
     let rows = db inside_tree in
     let ids : AllByRecursion (λ r. column (numbered_columns r) 0 ≡ Int (id_in (column (numbered_columns r) 0))) rows =
     all_unmap (λ (v : Row). column v 0 ≡ Int (id_in (column v 0))) numbered_columns rows
-    (every_shuffled (λ (v : Row). column v 0 ≡ Int (id_in (column v 0))) (map numbered_shown plain_rows) (map numbered_columns rows) (IsPermutation-sym _ _ same) (all_ids plain_rows)) in
+    (every_shuffled (λ (v : Row). column v 0 ≡ Int (id_in (column v 0))) (map numbered_shown plain_rows)
+    (map numbered_columns rows) (IsPermutation-sym _ _ same) (all_ids plain_rows)) in
     let values : AreApart value_cmp (map (λ (n : ℤ). Int n) (map id_inside plain_rows)) =
     ascending-map (λ a b. is_eq (value_cmp a b) ≡ false) (λ (n : ℤ). Int n) (map id_inside plain_rows)
     (ascending_weaker _ _ (λ a b other. ap is_eq (value_cmp-Int a b) ∙ other) (map id_inside plain_rows) apart) in
-    let moved : IsPermutation (map (λ (v : Row). column v 0) (map numbered_columns rows)) (map (λ (v : Row). column v 0) (map numbered_shown plain_rows)) =
+    let moved : IsPermutation (map (λ (v : Row). column v 0) (map numbered_columns rows))
+    (map (λ (v : Row). column v 0) (map numbered_shown plain_rows)) =
     IsPermutation-map (λ (v : Row). column v 0) _ _ same in
     let here : IsPermutation (map rowid rows) (map (λ (n : ℤ). Int n) (map id_inside plain_rows)) =
-    subst (λ xs. IsPermutation xs (map (λ (n : ℤ). Int n) (map id_inside plain_rows))) (fused (λ (v : Row). column v 0) numbered_columns rows)
+    subst (λ xs. IsPermutation xs (map (λ (n : ℤ). Int n) (map id_inside plain_rows)))
+    (fused (λ (v : Row). column v 0) numbered_columns rows)
     (subst (IsPermutation (map (λ (v : Row). column v 0) (map numbered_columns rows))) (first_ids plain_rows) moved) in
-    let all : AreApart value_cmp (map rowid rows) = apart_permuted value_cmp value_cmp_total _ _ (IsPermutation-sym _ _ here) values in
+    let all : AreApart value_cmp (map rowid rows) =
+    apart_permuted value_cmp value_cmp_total _ _ (IsPermutation-sym _ _ here) values in
     (ids, ascending_unmapped rows all)
   where
-    above : (a : Row) (rows : List Row) → AllByRecursion (λ v. is_eq (value_cmp (rowid a) v) ≡ false) (map rowid rows) → AllByRecursion (λ b. is_eq (value_cmp (rowid a) (rowid b)) ≡ false) rows
+    above : (a : Row) (rows : List Row) → AllByRecursion (λ v. is_eq (value_cmp (rowid a) v) ≡ false) (map rowid rows)
+        → AllByRecursion (λ b. is_eq (value_cmp (rowid a) (rowid b)) ≡ false) rows
     above a [] h = tt
     above a (r ∷ rows) h = (h.0, above a rows h.1)
 
@@ -204,20 +218,35 @@ ids_apart plain_rows db same apart =
 abbrev last_two : Row → Row
 last_two v = column v 1 ∷ column v 2 ∷ []
 
-plain_rows_of : (plain_rows : List NumberedInside) → map last_two (map numbered_shown plain_rows) ≡ map inside_shown (map plain_inside plain_rows)
+plain_rows_of : (plain_rows : List NumberedInside)
+    → map last_two (map numbered_shown plain_rows) ≡ map inside_shown (map plain_inside plain_rows)
 plain_rows_of [] = refl
 plain_rows_of (l ∷ plain_rows) = ap (λ vs. inside_shown l.plain ∷ vs) (plain_rows_of plain_rows)
 
-pub inside_plain_rows : (plain_rows : List NumberedInside) (rows : List Row) → ArePlainRows numbered_columns numbered_shown plain_rows rows → ArePlainRows inside_columns inside_shown (map plain_inside plain_rows) rows
+pub inside_plain_rows : (plain_rows : List NumberedInside) (rows : List Row)
+    → ArePlainRows numbered_columns numbered_shown plain_rows rows
+    → ArePlainRows inside_columns inside_shown (map plain_inside plain_rows) rows
 inside_plain_rows plain_rows rows same =
     subst (IsPermutation (map inside_columns rows)) (plain_rows_of plain_rows)
-    (subst (λ xs. IsPermutation xs (map last_two (map numbered_shown plain_rows))) (fused last_two numbered_columns rows) (IsPermutation-map last_two _ _ same))
+    (subst (λ xs. IsPermutation xs (map last_two (map numbered_shown plain_rows)))
+    (fused last_two numbered_columns rows) (IsPermutation-map last_two _ _ same))
 
 pub stored_are : {in_order : Bool} {of : Version} (t : Tables) (db : Trees) (plain : PlainMeta) (version : ℤ)
     (inside : Vec PlainInside Global) → version ≡ pos (number_of_version of) → AreRead of t db
     → IsMetaRow of t.meta.items plain
     → inside.items ≡ map plain_inside t.inside.items
-    → let s : Stored = record { version = version; day = plain.day; kinds = t.kinds; rooms = t.rooms; stays = t.stays; codes = t.codes; cards = t.cards; inside = inside; notes = t.notes; fits = t.fits } in
+    → let s : Stored = record {
+      version = version;
+      day = plain.day;
+      kinds = t.kinds;
+      rooms = t.rooms;
+      stays = t.stays;
+      codes = t.codes;
+      cards = t.cards;
+      inside = inside;
+      notes = t.notes;
+      fits = t.fits;
+    } in
     all_rise s ≡ in_order → AreStoredAs in_order of s db
 stored_are {in_order} {of} t db plain version inside first read meta same up = record {
   version_is = first;
@@ -237,11 +266,13 @@ stored_are {in_order} {of} t db plain version inside first read meta same up = r
 
 -- ---- the tables
 
-each : {L : Type 0} (test : L → Bool) (P : L → Type 0) → ((l : L) → test l ≡ true → P l) → (ls : List L) → list_all test ls ≡ true → AllByRecursion P ls
+each : {L : Type 0} (test : L → Bool) (P : L → Type 0) → ((l : L) → test l ≡ true → P l) → (ls : List L)
+    → list_all test ls ≡ true → AllByRecursion P ls
 each test P f [] h = tt
 each test P f (l ∷ ls) h = let a = and_true (test l) (list_all test ls) h in (f l a.0, each test P f ls a.1)
 
-each_two : {L : Type 0} (test also : L → Bool) (P : L → Type 0) → ((l : L) → test l ≡ true → also l ≡ true → P l) → (ls : List L) → list_all test ls ≡ true → list_all also ls ≡ true
+each_two : {L : Type 0} (test also : L → Bool) (P : L → Type 0) → ((l : L) → test l ≡ true → also l ≡ true → P l)
+    → (ls : List L) → list_all test ls ≡ true → list_all also ls ≡ true
     → AllByRecursion P ls
 each_two test also P f [] h k = tt
 each_two test also P f (l ∷ ls) h k =
@@ -249,17 +280,21 @@ each_two test also P f (l ∷ ls) h k =
     let b = and_true (also l) (list_all also ls) k in
     (f l a.0 b.0, each_two test also P f ls a.1 b.1)
 
-all_kinds : (ls : List PlainKind) → AllByRecursion (λ l. (kind_shown l ≡ kind_written (kind_text l)) × (kind_of (kind_shown l) ≡ kind_text l)) ls
+all_kinds : (ls : List PlainKind)
+    → AllByRecursion (λ l. (kind_shown l ≡ kind_written (kind_text l)) × (kind_of (kind_shown l) ≡ kind_text l)) ls
 all_kinds [] = tt
 all_kinds (l ∷ ls) = (kind_good l, all_kinds ls)
 
-keys_mapped : {K V L : Type 0} (entry : L → K × V) (ls : List L) → keys_of (map entry ls) ≡ map (λ (e : K × V). e.0) (map entry ls)
+keys_mapped : {K V L : Type 0} (entry : L → K × V) (ls : List L)
+    → keys_of (map entry ls) ≡ map (λ (e : K × V). e.0) (map entry ls)
 keys_mapped entry [] = refl
 keys_mapped entry (l ∷ ls) = ap (λ ks. (entry l).0 ∷ ks) (keys_mapped entry ls)
 
-rising : {K V L : Type 0} {cmp : K → K → Ordering} (total : Rattle.std.specs.Cmp.IsTotalOrder cmp) (entry : L → K × V) (ls : List L) → are_in_order cmp (keys_of (map entry ls)) ≡ true
+rising : {K V L : Type 0} {cmp : K → K → Ordering} (total : Rattle.std.specs.Cmp.IsTotalOrder cmp) (entry : L → K × V)
+    (ls : List L) → are_in_order cmp (keys_of (map entry ls)) ≡ true
     → IsAscending (λ a b. by_key cmp a b ≡ Less) (map entry ls)
-rising {K} {V} {L} {cmp} total entry ls e = tested_keys cmp total (λ (p : K × V). p.0) (map entry ls) (ap (are_in_order cmp) (sym (keys_mapped entry ls)) ∙ e)
+rising {K} {V} {L} {cmp} total entry ls e =
+    tested_keys cmp total (λ (p : K × V). p.0) (map entry ls) (ap (are_in_order cmp) (sym (keys_mapped entry ls)) ∙ e)
 
 -- ---- the fits
 
@@ -341,7 +376,8 @@ are_desk {version} s db a ids keys columns natural =
     let meta_plain : ArePlainRows meta_columns meta_shown (plain ∷ []) (db meta_tree) =
     subst (λ xs. IsPermutation xs (meta_shown plain ∷ [])) (sym a.meta)
     (IsPermutation-refl (meta_shown plain ∷ [])) in
-    let entry : PlainMeta → ℕ × (ℕ × Option ℕ) = λ l. (number_of l.id, (number_of l.version, option_map number_of l.day)) in
+    let entry : PlainMeta → ℕ × (ℕ × Option ℕ) =
+    λ l. (number_of l.id, (number_of l.version, option_map number_of l.day)) in
     let meta =
     read_back (by_key nat_cmp) (key_total nat_cmp_total) meta_columns meta_of meta_written meta_shown entry
     (plain ∷ []) (db meta_tree) meta_plain (meta_good plain refl a.version_is n.day, tt) (tt, tt) in
@@ -355,7 +391,8 @@ are_desk {version} s db a ids keys columns natural =
     (ap (are_in_order nat_cmp) (sym (keys_with_fit (fits_of s) (map room_entry s.rooms.items))) ∙ k.rooms)) in
     let stay = read_back (by_key nat_cmp) (key_total nat_cmp_total) stay_columns stay_of stay_written stay_shown
     stay_entry s.stays.items (db stay_tree) a.stays
-    (each_two stay_natural damage.stay_columns _ stay_good s.stays.items n.stays f1.1) (rising nat_cmp_total stay_entry s.stays.items k.stays) in
+    (each_two stay_natural damage.stay_columns _ stay_good s.stays.items n.stays f1.1)
+    (rising nat_cmp_total stay_entry s.stays.items k.stays) in
     let code = read_back (by_key nat_cmp) (key_total nat_cmp_total) code_columns code_of code_written code_shown
     code_entry s.codes.items (db code_tree) a.codes
     (each code_natural _ code_good s.codes.items n.codes) (rising nat_cmp_total code_entry s.codes.items k.codes) in
@@ -364,7 +401,8 @@ are_desk {version} s db a ids keys columns natural =
     (each card_natural _ card_good s.cards.items n.cards) (rising nat_cmp_total card_entry s.cards.items k.cards) in
     let inside = read_back pair_cmp pair_cmp_total inside_columns inside_of inside_written inside_shown inside_pair
     s.inside.items (db inside_tree) a.inside
-    (each inside_natural _ inside_good s.inside.items n.inside) (tested_order pair_cmp pair_cmp_total (map inside_pair s.inside.items) k.inside) in
+    (each inside_natural _ inside_good s.inside.items n.inside)
+    (tested_order pair_cmp pair_cmp_total (map inside_pair s.inside.items) k.inside) in
     let note = read_back (by_key pair_cmp) (key_total pair_cmp_total) note_columns note_of note_written note_shown
     note_entry s.notes.items (db note_tree) a.notes
     (each_two note_natural damage.note_columns _ note_good s.notes.items n.notes f2.1)

@@ -21,14 +21,19 @@ files_keep_books old again files books live copied opened found clean =
     let is = file_state again in
     let desk = books.desk (copied.was_clean, copied.was_open) in
     let trees : is.now.trees ≡ was.now.trees =
-    ap (λ (d : Database). d.trees) opened.0.clean ∙ finds_again old again files (λ _. copied) found ∙ sym (ap (λ (d : Database). d.trees) desk.settled) in
-    let there : IsSound desk_schema was.now.trees = subst (λ s. IsSound s was.now.trees) desk.schema (live copied.was_open).0 in
-    let here : IsSound is.now.schema was.now.trees = subst (λ (t : Trees). IsSound is.now.schema t) trees (opened.1 opened.0.is_open).0 in
-    let schema : is.now.schema ≡ desk_schema = lists_once (was.now.trees catalog_tree) is.now.schema desk_schema here.lists there.lists in (
+    ap (λ (d : Database). d.trees) opened.0.clean ∙ finds_again old again files (λ _. copied) found
+    ∙ sym (ap (λ (d : Database). d.trees) desk.settled) in
+    let there : IsSound desk_schema was.now.trees =
+    subst (λ s. IsSound s was.now.trees) desk.schema (live copied.was_open).0 in
+    let here : IsSound is.now.schema was.now.trees =
+    subst (λ (t : Trees). IsSound is.now.schema t) trees (opened.1 opened.0.is_open).0 in
+    let schema : is.now.schema ≡ desk_schema =
+    lists_once (was.now.trees catalog_tree) is.now.schema desk_schema here.lists there.lists in (
       (clean, opened.0.is_open),
       record {
         autocommit = opened.0.autocommit;
-        desk = λ _. record { schema = schema; settled = opened.0.clean; tables = subst AreTables (sym trees) desk.tables };
+        desk =
+            λ _. record { schema = schema; settled = opened.0.clean; tables = subst AreTables (sym trees) desk.tables };
       },
       λ i. record { schema = (schema ∙ sym desk.schema) i; trees = trees i },
     )

@@ -95,9 +95,11 @@ bit_fits n b e = ap (λ m. nat_le (number_of m) 1) (number_is n (bit_of b) e) �
     small true = refl
     small false = refl
 
-state_fits : (n : ℤ) (room : Option ℤ) (s : StayState) → Int n ≡ int (state_number s) → maybe room ≡ maybe_int (room_of_state s)
+state_fits : (n : ℤ) (room : Option ℤ) (s : StayState)
+    → Int n ≡ int (state_number s) → maybe room ≡ maybe_int (room_of_state s)
     → (nat_le (number_of n) 3 && cond (is_some room) (number_of n == 1) (not (number_of n == 1))) ≡ true
-state_fits n room s e r = ap (λ m. nat_le (number_of m) 3 && cond (is_some room) (number_of m == 1) (not (number_of m == 1))) (number_is n (state_number s) e) ∙ fits room s r
+state_fits n room s e r = ap (λ m. nat_le (number_of m) 3
+    && cond (is_some room) (number_of m == 1) (not (number_of m == 1))) (number_is n (state_number s) e) ∙ fits room s r
   where
     fits : (room : Option ℤ) (s : StayState) → maybe room ≡ maybe_int (room_of_state s)
         → (nat_le (state_number s) 3 && cond (is_some room) (state_number s == 1) (not (state_number s == 1))) ≡ true
@@ -112,7 +114,8 @@ state_fits n room s e r = ap (λ m. nat_le (number_of m) 3 && cond (is_some room
 
 act_fits : (n : ℤ) (card : Option ℤ) (a : Act) → Int n ≡ int (act_number a) → maybe card ≡ maybe_int (act_card a)
     → (nat_le (number_of n) 2 && cond (is_some card) (nat_le (number_of n) 1) (number_of n == 2)) ≡ true
-act_fits n card a e r = ap (λ m. nat_le (number_of m) 2 && cond (is_some card) (nat_le (number_of m) 1) (number_of m == 2)) (number_is n (act_number a) e) ∙ fits card a r
+act_fits n card a e r = ap (λ m. nat_le (number_of m) 2
+    && cond (is_some card) (nat_le (number_of m) 1) (number_of m == 2)) (number_is n (act_number a) e) ∙ fits card a r
   where
     fits : (card : Option ℤ) (a : Act) → maybe card ≡ maybe_int (act_card a)
         → (nat_le (act_number a) 2 && cond (is_some card) (nat_le (act_number a) 1) (act_number a == 2)) ≡ true
@@ -130,8 +133,10 @@ IsPlainRow of written shown l = shown l ≡ written (of (shown l))
 
 room_plain : (l : PlainRoom) → IsPlainRow room_of room_written room_shown l → room_natural l ≡ true
 room_plain l e =
-    both _ _ (both _ _ (both _ _ (both _ _ (both _ _ (natural l.room _ (ap (λ (v : Row). column v 0) e)) (natural l.lock_place _ (ap (λ (v : Row). column v 2) e)))
-    (natural l.codes _ (ap (λ (v : Row). column v 3) e))) (natural l.secured _ (ap (λ (v : Row). column v 4) e))) (may_natural l.party _ (ap (λ (v : Row). column v 5) e)))
+    both _ _ (both _ _ (both _ _ (both _ _ (both _ _ (natural l.room _ (ap (λ (v : Row). column v 0) e))
+    (natural l.lock_place _ (ap (λ (v : Row). column v 2) e)))
+    (natural l.codes _ (ap (λ (v : Row). column v 3) e))) (natural l.secured _ (ap (λ (v : Row). column v 4) e)))
+    (may_natural l.party _ (ap (λ (v : Row). column v 5) e)))
     (natural l.notes _ (ap (λ (v : Row). column v 6) e))
 
 room_fits : (l : PlainRoom) → IsPlainRow room_of room_written room_shown l → damage.room_columns l ≡ true
@@ -139,32 +144,42 @@ room_fits l e = bit_fits l.secured (room_of (room_shown l)).1.secured (ap (λ (v
 
 stay_plain : (l : PlainStay) → IsPlainRow stay_of stay_written stay_shown l → stay_natural l ≡ true
 stay_plain l e =
-    both _ _ (both _ _ (both _ _ (both _ _ (natural l.party _ (ap (λ (v : Row). column v 0) e)) (natural l.arrive _ (ap (λ (v : Row). column v 3) e)))
-    (natural l.depart _ (ap (λ (v : Row). column v 4) e))) (natural l.state _ (ap (λ (v : Row). column v 5) e))) (may_natural l.room _ (ap (λ (v : Row). column v 6) e))
+    both _ _ (both _ _ (both _ _ (both _ _ (natural l.party _ (ap (λ (v : Row). column v 0) e))
+    (natural l.arrive _ (ap (λ (v : Row). column v 3) e)))
+    (natural l.depart _ (ap (λ (v : Row). column v 4) e))) (natural l.state _ (ap (λ (v : Row). column v 5) e)))
+    (may_natural l.room _ (ap (λ (v : Row). column v 6) e))
 
 stay_fits : (l : PlainStay) → IsPlainRow stay_of stay_written stay_shown l → damage.stay_columns l ≡ true
-stay_fits l e = state_fits l.state l.room (stay_of (stay_shown l)).1.state (ap (λ (v : Row). column v 5) e) (ap (λ (v : Row). column v 6) e)
+stay_fits l e = state_fits l.state l.room (stay_of (stay_shown l)).1.state (ap (λ (v : Row). column v 5) e)
+    (ap (λ (v : Row). column v 6) e)
 
 code_plain : (l : PlainCode) → IsPlainRow code_of code_written code_shown l → code_natural l ≡ true
 code_plain l e =
-    both _ _ (both _ _ (natural l.code _ (ap (λ (v : Row). column v 0) e)) (natural l.room _ (ap (λ (v : Row). column v 1) e))) (natural l.place _ (ap (λ (v : Row). column v 2) e))
+    both _ _ (both _ _ (natural l.code _ (ap (λ (v : Row). column v 0) e))
+    (natural l.room _ (ap (λ (v : Row). column v 1) e))) (natural l.place _ (ap (λ (v : Row). column v 2) e))
 
 card_plain : (l : PlainCard) → IsPlainRow card_of card_written card_shown l → card_natural l ≡ true
 card_plain l e =
-    both _ _ (both _ _ (both _ _ (natural l.number _ (ap (λ (v : Row). column v 0) e)) (natural l.party _ (ap (λ (v : Row). column v 1) e)))
+    both _ _ (both _ _ (both _ _ (natural l.number _ (ap (λ (v : Row). column v 0) e))
+    (natural l.party _ (ap (λ (v : Row). column v 1) e)))
     (natural l.old_code _ (ap (λ (v : Row). column v 2) e))) (natural l.new_code _ (ap (λ (v : Row). column v 3) e))
 
 inside_plain : (l : PlainInside) → IsPlainRow inside_of inside_written inside_shown l → inside_natural l ≡ true
-inside_plain l e = both _ _ (natural l.room _ (ap (λ (v : Row). column v 0) e)) (natural l.card _ (ap (λ (v : Row). column v 1) e))
+inside_plain l e =
+    both _ _ (natural l.room _ (ap (λ (v : Row). column v 0) e)) (natural l.card _ (ap (λ (v : Row). column v 1) e))
 
 note_plain : (l : PlainNote) → IsPlainRow note_of note_written note_shown l → note_natural l ≡ true
 note_plain l e =
-    both _ _ (both _ _ (both _ _ (both _ _ (both _ _ (both _ _ (both _ _ (natural l.room _ (ap (λ (v : Row). column v 0) e)) (natural l.n _ (ap (λ (v : Row). column v 1) e)))
-    (natural l.act _ (ap (λ (v : Row). column v 2) e))) (may_natural l.card _ (ap (λ (v : Row). column v 3) e))) (natural l.first_code _ (ap (λ (v : Row). column v 4) e)))
-    (natural l.second_code _ (ap (λ (v : Row). column v 5) e))) (natural l.day _ (ap (λ (v : Row). column v 6) e))) (natural l.second _ (ap (λ (v : Row). column v 7) e))
+    both _ _ (both _ _ (both _ _ (both _ _ (both _ _ (both _ _
+    (both _ _ (natural l.room _ (ap (λ (v : Row). column v 0) e)) (natural l.n _ (ap (λ (v : Row). column v 1) e)))
+    (natural l.act _ (ap (λ (v : Row). column v 2) e))) (may_natural l.card _ (ap (λ (v : Row). column v 3) e)))
+    (natural l.first_code _ (ap (λ (v : Row). column v 4) e)))
+    (natural l.second_code _ (ap (λ (v : Row). column v 5) e))) (natural l.day _ (ap (λ (v : Row). column v 6) e)))
+    (natural l.second _ (ap (λ (v : Row). column v 7) e))
 
 note_fits : (l : PlainNote) → IsPlainRow note_of note_written note_shown l → damage.note_columns l ≡ true
-note_fits l e = act_fits l.act l.card (note_of (note_shown l)).1.act (ap (λ (v : Row). column v 2) e) (ap (λ (v : Row). column v 3) e)
+note_fits l e = act_fits l.act l.card (note_of (note_shown l)).1.act (ap (λ (v : Row). column v 2) e)
+    (ap (λ (v : Row). column v 3) e)
 
 fit_plain : (l : PlainFit) → IsPlainRow fit_of fit_written fit_shown l → fit_natural l ≡ true
 fit_plain l e =
@@ -175,13 +190,17 @@ fit_plain l e =
 
 -- ---- all plain rows of a table
 
-are_plain_rows : {L X : Type 0} (columns : Row → Row) (of : Row → X) (written : X → Row) (shown : L → Row) (plain_rows : List L) (rows : List Row)
-    → AllByRecursion (IsWrittenAs columns of written) rows → ArePlainRows columns shown plain_rows rows → AllByRecursion (IsPlainRow of written shown) plain_rows
+are_plain_rows : {L X : Type 0} (columns : Row → Row) (of : Row → X) (written : X → Row) (shown : L → Row)
+    (plain_rows : List L) (rows : List Row)
+    → AllByRecursion (IsWrittenAs columns of written) rows → ArePlainRows columns shown plain_rows rows
+    → AllByRecursion (IsPlainRow of written shown) plain_rows
 are_plain_rows columns of written shown plain_rows rows good same =
     all_unmap (λ (v : Row). v ≡ written (of v)) shown plain_rows
-    (every_shuffled (λ (v : Row). v ≡ written (of v)) (map columns rows) (map shown plain_rows) same (all_map (λ (v : Row). v ≡ written (of v)) columns rows good))
+    (every_shuffled (λ (v : Row). v ≡ written (of v)) (map columns rows) (map shown plain_rows) same
+    (all_map (λ (v : Row). v ≡ written (of v)) columns rows good))
 
-all_pass : {L : Type 0} (P : L → Type 0) (test : L → Bool) → ((l : L) → P l → test l ≡ true) → (ls : List L) → AllByRecursion P ls → list_all test ls ≡ true
+all_pass : {L : Type 0} (P : L → Type 0) (test : L → Bool) → ((l : L) → P l → test l ≡ true) → (ls : List L)
+    → AllByRecursion P ls → list_all test ls ≡ true
 all_pass P test f [] h = refl
 all_pass P test f (l ∷ ls) h = both (test l) (list_all test ls) (f l h.0) (all_pass P test f ls h.1)
 
@@ -230,7 +249,9 @@ are_written {version} s db t a =
       natural =
           let first = both _ _ (both _ _ (both _ _ day room) stay) code in
           both _ _ (both _ _ (both _ _ (both _ _ first card) within) note) fit;
-      fit = both _ _ (both _ _ (all_pass _ damage.room_columns room_fits s.rooms.items rooms) (all_pass _ damage.stay_columns stay_fits s.stays.items stays)) (all_pass _ damage.note_columns note_fits s.notes.items notes);
+      fit = both _ _ (both _ _ (all_pass _ damage.room_columns room_fits s.rooms.items rooms)
+          (all_pass _ damage.stay_columns stay_fits s.stays.items stays))
+          (all_pass _ damage.note_columns note_fits s.notes.items notes);
     }
 
 -- ---- the order of the keys
@@ -240,7 +261,8 @@ same_numbers m n = nat_cmp_is m n (int_cmp (pos m) (pos n)) (elim (cases_Bool (n
   | inl below ↦ rw below (ltb-true m n below)
   | inr not_below ↦ elim (cases_Bool (nat_lt n m)) [
     | inl above ↦ rw (not_below, above) (ltb-true n m above)
-    | inr not_above ↦ rw (not_below, not_above) (let low = ltb-false m n not_below in let high = ltb-false n m not_above in omega (arith, low, high))
+    | inr not_above ↦ rw (not_below, not_above)
+        (let low = ltb-false m n not_below in let high = ltb-false n m not_above in omega (arith, low, high))
   ]
 ])
 
@@ -262,16 +284,20 @@ rise_by order cmp key test same (a ∷ b ∷ ls) all up =
     let first = and_true (test a) (list_all test (b ∷ ls)) all in
     let second = and_true (test b) (list_all test ls) first.1 in
     let parts = and_true (is_lt (order a b)) (are_in_order order (b ∷ ls)) up in
-    both _ _ (ap is_lt (sym (same a b first.0 second.0)) ∙ parts.0) (rise_by order cmp key test same (b ∷ ls) first.1 parts.1)
+    both _ _ (ap is_lt (sym (same a b first.0 second.0)) ∙ parts.0)
+    (rise_by order cmp key test same (b ∷ ls) first.1 parts.1)
 
 keys_are : {K V L : Type 0} (entry : L → K × V) (ls : List L) → keys_of (map entry ls) ≡ map (λ l. (entry l).0) ls
 keys_are entry [] = refl
 keys_are entry (l ∷ ls) = ap (λ ks. (entry l).0 ∷ ks) (keys_are entry ls)
 
-entries_rise : {L K V : Type 0} (order : L → L → Ordering) (cmp : K → K → Ordering) (entry : L → K × V) (test : L → Bool)
+entries_rise : {L K V : Type 0} (order : L → L → Ordering) (cmp : K → K → Ordering)
+    (entry : L → K × V) (test : L → Bool)
     → ((a b : L) → test a ≡ true → test b ≡ true → order a b ≡ cmp (entry a).0 (entry b).0)
-    → (ls : List L) → list_all test ls ≡ true → are_in_order order ls ≡ true → are_in_order cmp (keys_of (map entry ls)) ≡ true
-entries_rise order cmp entry test same ls all up = ap (are_in_order cmp) (keys_are entry ls) ∙ rise_by order cmp (λ l. (entry l).0) test same ls all up
+    → (ls : List L) → list_all test ls ≡ true → are_in_order order ls ≡ true
+    → are_in_order cmp (keys_of (map entry ls)) ≡ true
+entries_rise order cmp entry test same ls all up =
+    ap (are_in_order cmp) (keys_are entry ls) ∙ rise_by order cmp (λ l. (entry l).0) test same ls all up
 
 then_equal : (o : Ordering) → o ≡ ordering_then o Equal
 then_equal Less = refl
@@ -313,16 +339,23 @@ keys_rise s db a natural =
     let r3 = and_true _ (are_in_order code_order s.codes.items) r4.0 in
     let r2 = and_true _ (are_in_order stay_order s.stays.items) r3.0 in
     let r1 = and_true (are_in_order kind_order s.kinds.items) (are_in_order room_order s.rooms.items) r2.0 in
-    let kinds = rise_by kind_order (slice_cmp nat_cmp) kind_text kind_natural (λ x y h k. refl) s.kinds.items (all_kinds s.kinds.items) r1.0 in
-    let rooms = entries_rise room_order nat_cmp room_entry room_natural (λ x y h k. same_order x.room y.room (of_room x h) (of_room y k)) s.rooms.items n.rooms r1.1 in
-    let stays = entries_rise stay_order nat_cmp stay_entry stay_natural (λ x y h k. same_order x.party y.party (of_stay x h) (of_stay y k)) s.stays.items n.stays r2.1 in
-    let codes = entries_rise code_order nat_cmp code_entry code_natural (λ x y h k. same_order x.code y.code (of_code x h) (of_code y k)) s.codes.items n.codes r3.1 in
-    let cards = entries_rise card_order nat_cmp card_entry card_natural (λ x y h k. same_order x.number y.number (of_card x h) (of_card y k)) s.cards.items n.cards r4.1 in
+    let kinds = rise_by kind_order (slice_cmp nat_cmp) kind_text kind_natural (λ x y h k. refl) s.kinds.items
+    (all_kinds s.kinds.items) r1.0 in
+    let rooms = entries_rise room_order nat_cmp room_entry room_natural
+    (λ x y h k. same_order x.room y.room (of_room x h) (of_room y k)) s.rooms.items n.rooms r1.1 in
+    let stays = entries_rise stay_order nat_cmp stay_entry stay_natural
+    (λ x y h k. same_order x.party y.party (of_stay x h) (of_stay y k)) s.stays.items n.stays r2.1 in
+    let codes = entries_rise code_order nat_cmp code_entry code_natural
+    (λ x y h k. same_order x.code y.code (of_code x h) (of_code y k)) s.codes.items n.codes r3.1 in
+    let cards = entries_rise card_order nat_cmp card_entry card_natural
+    (λ x y h k. same_order x.number y.number (of_card x h) (of_card y k)) s.cards.items n.cards r4.1 in
     let inside = rise_by inside_order pair_cmp inside_pair inside_natural
-    (λ x y h k. let p = and_true (is_natural x.room) (is_natural x.card) h in let q = and_true (is_natural y.room) (is_natural y.card) k in same_pairs x.room x.card y.room y.card p.0 p.1 q.0 q.1)
+    (λ x y h k. let p = and_true (is_natural x.room) (is_natural x.card) h in let q = and_true (is_natural y.room)
+    (is_natural y.card) k in same_pairs x.room x.card y.room y.card p.0 p.1 q.0 q.1)
     s.inside.items n.inside r5.1 in
     let notes = entries_rise note_order pair_cmp note_entry note_natural
-    (λ x y h k. let p = of_note x h in let q = of_note y k in same_pairs x.room x.n y.room y.n p.0 p.1 q.0 q.1) s.notes.items n.notes r6.1 in
+    (λ x y h k. let p = of_note x h in let q = of_note y k in same_pairs x.room x.n y.room y.n p.0 p.1 q.0 q.1)
+    s.notes.items n.notes r6.1 in
     let began = rise_by room_order pair_cmp (λ (l : PlainRoom). (number_of l.room, 1)) room_natural
     (λ x y h k.
     then_equal (int_cmp x.room y.room)

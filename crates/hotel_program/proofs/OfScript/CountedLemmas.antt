@@ -9,7 +9,8 @@ use Rattle.hotel_core.specs.Books.Failures.{AreCounted, failure_in}
 use Rattle.hotel_core.proofs.OfCode.FailuresCounted.{none_counted}
 use Rattle.hotel_program.specs.Script.Copies.{counted_in}
 
-pub known_counted : (old new : LookFault → ℕ) (reply : Reply) (copied : Bool) → NoFewer old new → AreCounted old new (failure_in reply) → AreCounted old new (counted_in reply copied)
+pub known_counted : (old new : LookFault → ℕ) (reply : Reply) (copied : Bool)
+    → NoFewer old new → AreCounted old new (failure_in reply) → AreCounted old new (counted_in reply copied)
 known_counted old new (Refused why.Memory) true fewer counted = none_counted old new fewer
 known_counted old new (Refused why.Memory) false fewer counted = counted
 known_counted old new _ copied fewer counted = counted

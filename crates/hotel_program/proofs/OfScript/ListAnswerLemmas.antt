@@ -42,29 +42,38 @@ by_memory why e = let same : refusal.Memory ≡ why = cc e in subst (λ (w : Ref
 
 by_store : (why : Refusal) → told_refusal fault.Store ≡ Some why → FailsSo why (refusal.Store ∷ [])
 unfolding FailsSo
-by_store why e = let same : refusal.Store ≡ why = cc e in subst (λ (w : Refusal). FailsSo w (refusal.Store ∷ [])) same (refl, refl)
+by_store why e =
+    let same : refusal.Store ≡ why = cc e in subst (λ (w : Refusal). FailsSo w (refusal.Store ∷ [])) same (refl, refl)
 
-said_no_room : (listing : Option Listing) (old new : Option (List ℕ)) (why : Refusal) → told_refusal fault.NoRoom ≡ Some why → ListEnds [] listing old new (Err fault.NoRoom)
+said_no_room : (listing : Option Listing) (old new : Option (List ℕ)) (why : Refusal)
+    → told_refusal fault.NoRoom ≡ Some why → ListEnds [] listing old new (Err fault.NoRoom)
     → (front : List ℕ) × AnswersList listing (front ++ refusal_text why) [] × Appends old new front
-said_no_room None old new why e p = let same : refusal.NoRoom ≡ why = cc e in ([], inl (ap refusal_text (sym same), refl), p.1)
+said_no_room None old new why e p =
+    let same : refusal.NoRoom ≡ why = cc e in ([], inl (ap refusal_text (sym same), refl), p.1)
 said_no_room (Some listing) old new why e p = cc p.0
 
 -- whole lines of a list, which its refusal follows
-refused_front : (listing : Option Listing) (old new : Option (List ℕ)) (why_not : ListFault) (why : Refusal) → told_refusal why_not ≡ Some why → ListEnds [] listing old new (Err why_not)
+refused_front : (listing : Option Listing) (old new : Option (List ℕ)) (why_not : ListFault) (why : Refusal)
+    → told_refusal why_not ≡ Some why → ListEnds [] listing old new (Err why_not)
     → (front : List ℕ) × AnswersList listing (front ++ refusal_text why) (failed_by why_not) × Appends old new front
 unfolding failed_by FailsSo
 refused_front listing old new fault.NoRoom why e p = said_no_room listing old new why e p
-refused_front listing old new fault.Memory why e p = let so = by_memory why e in (p.0, inr (p.0, why, p.1, so.0, refl, so.1), p.2)
-refused_front listing old new fault.Store why e p = let so = by_store why e in (p.0, inr (p.0, why, p.1, so.0, refl, so.1), p.2)
+refused_front listing old new fault.Memory why e p =
+    let so = by_memory why e in (p.0, inr (p.0, why, p.1, so.0, refl, so.1), p.2)
+refused_front listing old new fault.Store why e p =
+    let so = by_store why e in (p.0, inr (p.0, why, p.1, so.0, refl, so.1), p.2)
 refused_front listing old new fault.Write why e p = cc e
 
 -- the failures of a list were counted
 counted_by : {B : Type 0} (I : IssuedOf B) {old new : B} (why_not : ListFault)
     → LooksAt I old new (Err why_not) → AreCounted (I.failures old) (I.failures new) (failed_by why_not)
 unfolding failed_by
-counted_by I {old = old} {new = new} fault.NoRoom looks = none_counted (I.failures old) (I.failures new) looks.since.counted
-counted_by I {old = old} {new = new} fault.Memory looks = none_counted (I.failures old) (I.failures new) looks.since.counted
-counted_by I {old = old} {new = new} fault.Write looks = none_counted (I.failures old) (I.failures new) looks.since.counted
+counted_by I {old = old} {new = new} fault.NoRoom looks =
+    none_counted (I.failures old) (I.failures new) looks.since.counted
+counted_by I {old = old} {new = new} fault.Memory looks =
+    none_counted (I.failures old) (I.failures new) looks.since.counted
+counted_by I {old = old} {new = new} fault.Write looks =
+    none_counted (I.failures old) (I.failures new) looks.since.counted
 counted_by I {old = old} {new = new} fault.Store looks =
     one_counted (I.failures old) (I.failures new) look.Store looks.since.counted (looks.store refl)
 
@@ -84,12 +93,18 @@ its_end front end =
 
 by_its_end : (front end : List ℕ) → ends_by end end ≡ true → ends_by end (front ++ end) ≡ true
 by_its_end front end k =
-    let same : drop (length (front ++ end) - length end) (front ++ end) ≡ drop (length end - length end) end = its_end front end ∙ sym (its_end [] end) in
+    let same : drop (length (front ++ end) - length end) (front ++ end) ≡ drop (length end - length end) end =
+    its_end front end ∙ sym (its_end [] end) in
     ap (λ (l : List ℕ). bytes_eq l end) same ∙ k
 
-pub told_failed : (front : List ℕ) (why : Refusal) → is_failed (Refused why) ≡ true → tells_failure (front ++ refusal_text why) ≡ true
-told_failed front refusal.Memory k = or_first (ends_by (refusal_text refusal.Memory) (front ++ refusal_text refusal.Memory)) _ (by_its_end front (refusal_text refusal.Memory) refl)
-told_failed front refusal.Store k = or_then _ (ends_by (refusal_text refusal.Store) (front ++ refusal_text refusal.Store)) (by_its_end front (refusal_text refusal.Store) refl)
+pub told_failed : (front : List ℕ) (why : Refusal)
+    → is_failed (Refused why) ≡ true → tells_failure (front ++ refusal_text why) ≡ true
+told_failed front refusal.Memory k =
+    or_first (ends_by (refusal_text refusal.Memory) (front ++ refusal_text refusal.Memory)) _
+    (by_its_end front (refusal_text refusal.Memory) refl)
+told_failed front refusal.Store k =
+    or_then _ (ends_by (refusal_text refusal.Store) (front ++ refusal_text refusal.Store))
+    (by_its_end front (refusal_text refusal.Store) refl)
 told_failed front _ k = absurd (false≢true k)
 
 -- a reply whose text tells no failure is none
@@ -99,10 +114,16 @@ reply_sure (Refused refusal.Store) k = absurd (false≢true (sym k ∙ told_fail
 reply_sure _ k = refl
 
 -- where the answer tells no failure the books are kept
-refusal_vouches : (is_clean : Type 0) (front : List ℕ) (why_not : ListFault) (why : Refusal) → told_refusal why_not ≡ Some why → Vouches is_clean (Err why_not) → tells_failure (front ++ refusal_text why) ≡ false → is_clean
+refusal_vouches : (is_clean : Type 0) (front : List ℕ) (why_not : ListFault) (why : Refusal)
+    → told_refusal why_not ≡ Some why → Vouches is_clean (Err why_not)
+    → tells_failure (front ++ refusal_text why) ≡ false → is_clean
 refusal_vouches is_clean front fault.NoRoom why e v k = v
-refusal_vouches is_clean front fault.Memory why e v k = let same : refusal.Memory ≡ why = cc e in absurd (false≢true (sym k ∙ subst (λ (w : Refusal). tells_failure (front ++ refusal_text w) ≡ true) same (told_failed front refusal.Memory refl)))
-refusal_vouches is_clean front fault.Store why e v k = let same : refusal.Store ≡ why = cc e in absurd (false≢true (sym k ∙ subst (λ (w : Refusal). tells_failure (front ++ refusal_text w) ≡ true) same (told_failed front refusal.Store refl)))
+refusal_vouches is_clean front fault.Memory why e v k =
+    let same : refusal.Memory ≡ why = cc e in absurd (false≢true (sym k ∙ subst (λ (w : Refusal).
+    tells_failure (front ++ refusal_text w) ≡ true) same (told_failed front refusal.Memory refl)))
+refusal_vouches is_clean front fault.Store why e v k =
+    let same : refusal.Store ≡ why = cc e in absurd (false≢true (sym k ∙ subst (λ (w : Refusal).
+    tells_failure (front ++ refusal_text w) ≡ true) same (told_failed front refusal.Store refl)))
 refusal_vouches is_clean front fault.Write why e v k = cc e
 
 -- An answer to a list that was written whole: these bytes, and what it vouches for.
@@ -111,36 +132,57 @@ Whole old new is_clean text = Appends old new text × (tells_failure text ≡ fa
 
 -- the whole answer of a list that was refused
 pub refused_whole : {B : Type 0} (I : IssuedOf B) {b c : B}
-    (listing : Option Listing) (old mid new : Option (List ℕ)) (why_not : ListFault) (why : Refusal) → told_refusal why_not ≡ Some why
-    → ListEnds [] listing old mid (Err why_not) → LooksAt I b c (Err why_not) → I.is_honest c → Appends mid new (refusal_text why)
+    (listing : Option Listing) (old mid new : Option (List ℕ)) (why_not : ListFault) (why : Refusal)
+    → told_refusal why_not ≡ Some why
+    → ListEnds [] listing old mid (Err why_not) → LooksAt I b c (Err why_not) → I.is_honest c
+    → Appends mid new (refusal_text why)
     → ListAnswered listing (Whole old new (I.is_clean c)) (AreCounted (I.failures b) (I.failures c))
 refused_whole I {c = c} listing old mid new why_not why e p looks honest written =
-    let r = refused_front listing old mid why_not why e p in
-    (r.0 ++ refusal_text why, failed_by why_not, r.1, (Appends-trans old mid new r.0 (refusal_text why) r.2 written, refusal_vouches (I.is_clean c) r.0 why_not why e (looks.vouched honest)), counted_by I why_not looks)
+    let r = refused_front listing old mid why_not why e p in (
+      r.0 ++ refusal_text why,
+      failed_by why_not,
+      r.1,
+      (
+        Appends-trans old mid new r.0 (refusal_text why) r.2 written,
+        refusal_vouches (I.is_clean c) r.0 why_not why e (looks.vouched honest),
+      ),
+      counted_by I why_not looks,
+    )
 
 -- a front of the answer of a list that was refused
 pub refused_cut : {B : Type 0} (I : IssuedOf B) {b c : B}
-    (listing : Option Listing) (old mid new : Option (List ℕ)) (why_not : ListFault) (why : Refusal) → told_refusal why_not ≡ Some why
+    (listing : Option Listing) (old mid new : Option (List ℕ)) (why_not : ListFault) (why : Refusal)
+    → told_refusal why_not ≡ Some why
     → ListEnds [] listing old mid (Err why_not) → LooksAt I b c (Err why_not) → AppendsFront mid new (refusal_text why)
     → ListAnswered listing (AppendsFront old new) (AreCounted (I.failures b) (I.failures c))
 refused_cut I listing old mid new why_not why e p looks written =
-    let r = refused_front listing old mid why_not why e p in
-    (r.0 ++ refusal_text why, failed_by why_not, r.1, appends_front old mid new r.0 (refusal_text why) written r.2, counted_by I why_not looks)
+    let r = refused_front listing old mid why_not why e p in (
+      r.0 ++ refusal_text why,
+      failed_by why_not,
+      r.1,
+      appends_front old mid new r.0 (refusal_text why) written r.2,
+      counted_by I why_not looks,
+    )
 
 -- a list that was written whole
-pub whole_answered : {a b : LookFault → ℕ} (is_clean : Type 0) (listing : Option Listing) (old new : Option (List ℕ)) → ListEnds [] listing old new (Ok tt) → is_clean → NoFewer a b
+pub whole_answered : {a b : LookFault → ℕ} (is_clean : Type 0) (listing : Option Listing) (old new : Option (List ℕ))
+    → ListEnds [] listing old new (Ok tt) → is_clean → NoFewer a b
     → ListAnswered listing (Whole old new is_clean) (AreCounted a b)
 whole_answered {a} {b} is_clean None old new p clean grown = cc p.0
-whole_answered {a} {b} is_clean (Some listing) old new p clean grown = (_, [], inl (refl, refl), (p.1, λ k. clean), none_counted a b grown)
+whole_answered {a} {b} is_clean (Some listing) old new p clean grown =
+    (_, [], inl (refl, refl), (p.1, λ k. clean), none_counted a b grown)
 
-write_failed : {a b : LookFault → ℕ} (listing : Option Listing) (old new : Option (List ℕ)) → ListEnds [] listing old new (Err fault.Write) → NoFewer a b
+write_failed : {a b : LookFault → ℕ} (listing : Option Listing) (old new : Option (List ℕ))
+    → ListEnds [] listing old new (Err fault.Write) → NoFewer a b
     → ListAnswered listing (AppendsFront old new) (AreCounted a b)
 write_failed {a} {b} None old new p grown = absurd (p.0 refl refl)
 write_failed {a} {b} (Some listing) old new p grown = (_, [], inl (refl, refl), p.1, none_counted a b grown)
 
 -- a list whose write failed, which no refusal answers
-pub cut_answered : {a b : LookFault → ℕ} (listing : Option Listing) (old new : Option (List ℕ)) (why_not : ListFault) → told_refusal why_not ≡ None
-    → ListEnds [] listing old new (Err why_not) → NoFewer a b → ListAnswered listing (AppendsFront old new) (AreCounted a b)
+pub cut_answered : {a b : LookFault → ℕ} (listing : Option Listing) (old new : Option (List ℕ)) (why_not : ListFault)
+    → told_refusal why_not ≡ None
+    → ListEnds [] listing old new (Err why_not) → NoFewer a b
+    → ListAnswered listing (AppendsFront old new) (AreCounted a b)
 cut_answered listing old new fault.NoRoom e p grown = cc e
 cut_answered listing old new fault.Memory e p grown = cc e
 cut_answered listing old new fault.Store e p grown = cc e

@@ -3,7 +3,8 @@ use Rattle.std.proofs.Common.{◌≡◌, ℕ, suc, ◌-◌, ◌<◌, List, [], �
 use Rattle.std.proofs.lemmas.Bool.{ne_eqb}
 use Rattle.hotel_program.specs.Script.Lines.{without_return}
 
-pub cr-at-end : (line : List ℕ) → 0 < length line → get_or line (length line - 1) 0 ≡ 13 → take (length line - 1) line ≡ without_return line
+pub cr-at-end : (line : List ℕ) → 0 < length line → get_or line (length line - 1) 0 ≡ 13
+    → take (length line - 1) line ≡ without_return line
 unfolding without_return
 cr-at-end [] h e = absurd (omega arith)
 cr-at-end (b ∷ []) h e = let k : b ≡ 13 = e in rw k refl
@@ -17,5 +18,6 @@ no-cr [] h = refl
 no-cr (b ∷ []) h = rw (ne_eqb b 13 (h (omega arith))) refl
 no-cr (b ∷ x ∷ rest) h =
     let n : length (b ∷ x ∷ rest) - 1 ≡ suc (length (x ∷ rest) - 1) = omega arith in
-    let k : 0 < length (x ∷ rest) → get_or (x ∷ rest) (length (x ∷ rest) - 1) 0 ≡ 13 → ⊥ = λ p q. h (omega arith) (rw n q) in
+    let k : 0 < length (x ∷ rest) → get_or (x ∷ rest) (length (x ∷ rest) - 1) 0 ≡ 13 → ⊥ =
+    λ p q. h (omega arith) (rw n q) in
     ap (λ (l : List ℕ). b ∷ l) (no-cr (x ∷ rest) k)

@@ -22,10 +22,13 @@ with_text {a} {b} {x} {y} e f = ap (λ l. a ∷ l) f ∙ ap (λ t. t ∷ y) e
 -- what is asked has a run, with the answers and the failures of its replies and lists
 AsksRun : History → Stream → List (Option Ask) → List (List ℕ) → List Refusal → History → Stream → Type 0
 AsksRun h s asks texts failed h' s' =
-    (replies : List Reply) × (lists : List (List ℕ × List Refusal)) × Runs h s (commands_of asks) replies h' s' × (texts ≡ texts_of asks replies lists) × (failed ≡ failed_of asks replies lists)
+    (replies : List Reply) × (lists : List (List ℕ × List Refusal)) × Runs h s (commands_of asks) replies h' s'
+    × (texts ≡ texts_of asks replies lists) × (failed ≡ failed_of asks replies lists)
 
-asks_more : (sure : List ℕ → Type 0) (wanted : Option Ask) (asks : List (Option Ask)) (h mid h' : History) (s source s' : Stream) (text : List ℕ) (texts : List (List ℕ)) (failed first more : List Refusal)
-    → AskGoes sure wanted h s text first mid source → AsksRun mid source asks texts more h' s' → failed ≡ first ++ more → AsksRun h s (wanted ∷ asks) (text ∷ texts) failed h' s'
+asks_more : (sure : List ℕ → Type 0) (wanted : Option Ask) (asks : List (Option Ask)) (h mid h' : History)
+    (s source s' : Stream) (text : List ℕ) (texts : List (List ℕ)) (failed first more : List Refusal)
+    → AskGoes sure wanted h s text first mid source → AsksRun mid source asks texts more h' s' → failed ≡ first ++ more
+    → AsksRun h s (wanted ∷ asks) (text ∷ texts) failed h' s'
 unfolding AsksRun
 asks_more sure None asks h mid h' s source s' text texts failed first more g ran f =
     let run = subst (λ (x : History). Runs x source (commands_of asks) ran.0 h' s') g.2 ran.2 in
@@ -43,11 +46,14 @@ asks_more sure (Some (ask.List its_list)) asks h mid h' s source s' text texts f
     let run = subst (λ (x : Stream). Runs h x (commands_of asks) ran.0 h' s') g.2 run in
     (ran.0, (text, first) ∷ ran.1, run, with_text refl ran.3, f ∙ ap (λ (l : List Refusal). first ++ l) ran.4)
 
-lines_run : (sure : List ℕ → Type 0) (lines texts : List (List ℕ)) (h h' : History) (s s' : Stream) (failed : List Refusal) → ScriptGoes sure h s lines texts failed h' s' → AsksRun h s (map ask_in lines) texts failed h' s'
+lines_run : (sure : List ℕ → Type 0) (lines texts : List (List ℕ))
+    (h h' : History) (s s' : Stream) (failed : List Refusal)
+    → ScriptGoes sure h s lines texts failed h' s' → AsksRun h s (map ask_in lines) texts failed h' s'
 unfolding ScriptGoes AsksRun
 lines_run sure [] [] h h' s s' failed r = ([], [], (r.1, r.2), refl, r.0)
 lines_run sure (line ∷ later) (text ∷ texts) h h' s s' failed r =
-    asks_more sure (ask_in line) (map ask_in later) h r.0 h' s r.1 s' text texts failed r.2 r.3 r.4 (lines_run sure later texts r.0 h' r.1 s' r.3 r.5) r.6
+    asks_more sure (ask_in line) (map ask_in later) h r.0 h' s r.1 s' text texts failed r.2 r.3 r.4
+    (lines_run sure later texts r.0 h' r.1 s' r.3 r.5) r.6
 lines_run sure [] (text ∷ texts) h h' s s' failed r = absurd r
 lines_run sure (line ∷ later) [] h h' s s' failed r = absurd r
 
@@ -56,7 +62,8 @@ unfolding AsksRun
 scripts_run = λ sure h h' s s' lines texts failed r. lines_run (λ text. sure text ≡ true) lines texts h h' s s' failed r
 
 -- the lines before a line, the line, and those after it
-record Split (sure : List ℕ → Type 0) (h : History) (s : Stream) (before : List (List ℕ)) (line : List ℕ) (later : List (List ℕ)) (texts : List (List ℕ)) (failed : List Refusal) (h' : History) (s' : Stream) : Type 0 where
+record Split (sure : List ℕ → Type 0) (h : History) (s : Stream) (before : List (List ℕ)) (line : List ℕ)
+    (later : List (List ℕ)) (texts : List (List ℕ)) (failed : List Refusal) (h' : History) (s' : Stream) : Type 0 where
   mid : History
   then : History
   source : Stream
@@ -76,8 +83,10 @@ record Split (sure : List ℕ → Type 0) (h : History) (s : Stream) (before : L
 four_joined : {A : Type 0} (a b c d : List A) → a ++ (b ++ c ++ d) ≡ a ++ b ++ c ++ d
 four_joined {A} a b c d = sym (append_assoc a (b ++ c) d) ∙ ap (λ (l : List A). l ++ d) (sym (append_assoc a b c))
 
-split_at : (sure : List ℕ → Type 0) (before texts : List (List ℕ)) (h h' : History) (s s' : Stream) (line : List ℕ) (later : List (List ℕ)) (failed : List Refusal)
-    → ScriptGoes sure h s (before ++ line ∷ later) texts failed h' s' → Split sure h s before line later texts failed h' s'
+split_at : (sure : List ℕ → Type 0) (before texts : List (List ℕ)) (h h' : History) (s s' : Stream) (line : List ℕ)
+    (later : List (List ℕ)) (failed : List Refusal)
+    → ScriptGoes sure h s (before ++ line ∷ later) texts failed h' s'
+    → Split sure h s before line later texts failed h' s'
 unfolding ScriptGoes
 split_at sure [] (text ∷ texts) h h' s s' line later failed r = record {
   mid = h;
@@ -113,7 +122,8 @@ split_at sure (one ∷ before) (text ∷ texts) h h' s s' line later failed r =
       went_line = k.went_line;
       went_rest = k.went_rest;
       texts_are = ap (λ (l : List (List ℕ)). text ∷ l) k.texts_are;
-      failed_is = r.6 ∙ ap (λ (l : List Refusal). r.2 ++ l) k.failed_is ∙ four_joined r.2 k.failed_first k.failed_text k.failed_rest;
+      failed_is = r.6 ∙ ap (λ (l : List Refusal). r.2 ++ l) k.failed_is
+          ∙ four_joined r.2 k.failed_first k.failed_text k.failed_rest;
     }
 split_at sure [] [] h h' s s' line later failed r = absurd r
 split_at sure (one ∷ before) [] h h' s s' line later failed r = absurd r
@@ -122,7 +132,8 @@ pub lists_between : ListsBetween
 lists_between = λ sure h h' s s' before later line its_list texts failed r asked.
     let P : List ℕ → Type 0 = λ text. sure text ≡ true in
     let k = split_at P before texts h h' s s' line later failed r in
-    let goes = subst (λ (w : Option Ask). AskGoes P w k.mid k.source k.text k.failed_text k.then k.next) asked k.went_line in
+    let goes =
+    subst (λ (w : Option Ask). AskGoes P w k.mid k.source k.text k.failed_text k.then k.next) asked k.went_line in
     let after = subst (λ (x : History). ScriptGoes P x k.next later k.rest k.failed_rest h' s') goes.1 k.went_rest in
     let after = subst (λ (x : Stream). ScriptGoes P k.mid x later k.rest k.failed_rest h' s') goes.2 after in (
       k.mid,

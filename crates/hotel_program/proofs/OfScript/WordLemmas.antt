@@ -8,7 +8,8 @@ use Rattle.hotel_program.specs.Script.Words.{with_first}
 
 spaces-skip : (b : ℕ) (rest : List ℕ) → (b == 32) ≡ true → trimmed_start (b ∷ rest) ≡ trimmed_start rest
 unfolding trimmed_start
-spaces-skip b rest h = let e : 1 + prefix_len (λ b. b == 32) rest ≡ suc (prefix_len (λ b. b == 32) rest) = omega arith in rw (h, e) refl
+spaces-skip b rest h =
+    let e : 1 + prefix_len (λ b. b == 32) rest ≡ suc (prefix_len (λ b. b == 32) rest) = omega arith in rw (h, e) refl
 
 spaces-stop : (b : ℕ) (rest : List ℕ) → (b == 32) ≡ false → trimmed_start (b ∷ rest) ≡ b ∷ rest
 unfolding trimmed_start
@@ -16,11 +17,15 @@ spaces-stop b rest h = rw h refl
 
 first-more : (b : ℕ) (rest : List ℕ) → (b == 32) ≡ false → first_word (b ∷ rest) ≡ b ∷ first_word rest
 unfolding first_word
-first-more b rest h = let e : 1 + position_or_len (λ b. b == 32) rest ≡ suc (position_or_len (λ b. b == 32) rest) = omega arith in rw (h, e) refl
+first-more b rest h =
+    let e : 1 + position_or_len (λ b. b == 32) rest ≡ suc (position_or_len (λ b. b == 32) rest) = omega arith in
+    rw (h, e) refl
 
 after-more : (b : ℕ) (rest : List ℕ) → (b == 32) ≡ false → after_word (b ∷ rest) ≡ after_word rest
 unfolding after_word
-after-more b rest h = let e : 1 + position_or_len (λ b. b == 32) rest ≡ suc (position_or_len (λ b. b == 32) rest) = omega arith in rw (h, e) refl
+after-more b rest h =
+    let e : 1 + position_or_len (λ b. b == 32) rest ≡ suc (position_or_len (λ b. b == 32) rest) = omega arith in
+    rw (h, e) refl
 
 first-stop : (b : ℕ) (rest : List ℕ) → (b == 32) ≡ true → first_word (b ∷ rest) ≡ []
 unfolding first_word
@@ -43,11 +48,13 @@ unfolding words
 words-skip b rest h = rw h refl
 
 -- a text that begins with a word
-words-first : (b : ℕ) (rest : List ℕ) → (b == 32) ≡ false → words (b ∷ rest) ≡ first_word (b ∷ rest) ∷ words (after_word (b ∷ rest))
+words-first : (b : ℕ) (rest : List ℕ)
+    → (b == 32) ≡ false → words (b ∷ rest) ≡ first_word (b ∷ rest) ∷ words (after_word (b ∷ rest))
 unfolding words
 words-first b [] h = rw (first-more b [] h, after-more b [] h, first-nil, after-nil, h) refl
 words-first b (x ∷ rest) h = elim (cases_Bool (x == 32)) [
-  | inl y ↦ rw (first-more b (x ∷ rest) h, after-more b (x ∷ rest) h, first-stop x rest y, after-stop x rest y, h, y) refl
+  | inl y ↦ rw (first-more b (x ∷ rest) h, after-more b (x ∷ rest) h, first-stop x rest y, after-stop x rest y, h, y)
+      refl
   | inr n ↦
       let k = words-first x rest n in
       rw (first-more b (x ∷ rest) h, after-more b (x ∷ rest) h, h, n) (rw n at (ap (with_first b) k))

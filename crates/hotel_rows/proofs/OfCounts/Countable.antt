@@ -44,33 +44,43 @@ use Rattle.hotel_rows.proofs.OfDamage.Undamaged.{all_passed, undamaged_is_sound}
 -- ---- numbers
 
 -- numbers that count up from n
-counted_within : (l n most : ℕ) (ks : List ℕ) → l ≤ n → n + length ks ≤ most + 1 → count_up n ks ≡ true → list_all (λ k. nat_le l k && nat_le k most) ks ≡ true
+counted_within : (l n most : ℕ) (ks : List ℕ)
+    → l ≤ n → n + length ks ≤ most + 1 → count_up n ks ≡ true → list_all (λ k. nat_le l k && nat_le k most) ks ≡ true
 counted_within l n most [] low few h = refl
 counted_within l n most (k ∷ ks) low few h =
     let p = and_true (k == n) (count_up (n + 1) ks) h in
     let is : k ≡ n = eq_from k n p.0 in
-    let in_range : (nat_le l k && nat_le k most) ≡ true = both _ _ (le_tested l k (omega (arith, low, is))) (le_tested k most (omega (arith, few, is))) in
+    let in_range : (nat_le l k && nat_le k most) ≡ true =
+    both _ _ (le_tested l k (omega (arith, low, is))) (le_tested k most (omega (arith, few, is))) in
     both _ _ in_range (counted_within l (n + 1) most ks (omega (arith, low)) (omega (arith, few)) p.1)
 
 less_tested : (a b : ℕ) → is_lt (nat_cmp a b) ≡ true → a < b
 less_tested a b h = grind (arith, nat_tests)
 
 -- numbers in order, none above the greatest, are few
-few_in_order : (l most k : ℕ) (ks : List ℕ) → l ≤ k → list_all (λ k. nat_le k most) (k ∷ ks) ≡ true → are_in_order nat_cmp (k ∷ ks) ≡ true → l + length (k ∷ ks) ≤ most + 1
+few_in_order : (l most k : ℕ) (ks : List ℕ) → l ≤ k → list_all (λ k. nat_le k most) (k ∷ ks) ≡ true
+    → are_in_order nat_cmp (k ∷ ks) ≡ true → l + length (k ∷ ks) ≤ most + 1
 few_in_order l most k [] low all h =
     let top : k ≤ most = grind (arith, nat_tests, (and_true (nat_le k most) true all).0) in
     omega (arith, low, top)
 few_in_order l most k (y ∷ ys) low all h =
     let p = and_true (is_lt (nat_cmp k y)) (are_in_order nat_cmp (y ∷ ys)) h in
     let up : k < y = less_tested k y p.0 in
-    let rest = few_in_order (l + 1) most y ys (omega (arith, low, up)) (and_true (nat_le k most) (list_all (λ k. nat_le k most) (y ∷ ys)) all).1 p.1 in
+    let rest = few_in_order (l + 1) most y ys (omega (arith, low, up))
+    (and_true (nat_le k most) (list_all (λ k. nat_le k most) (y ∷ ys)) all).1 p.1 in
     omega (arith, rest)
 
-few_rooms : (ks : List ℕ) → list_all (λ k. nat_le 1 k && nat_le k 9999) ks ≡ true → are_in_order nat_cmp ks ≡ true → length ks ≤ 9999
+few_rooms : (ks : List ℕ) → list_all (λ k. nat_le 1 k && nat_le k 9999) ks ≡ true
+    → are_in_order nat_cmp ks ≡ true → length ks ≤ 9999
 few_rooms [] all h = omega arith
 few_rooms (k ∷ ks) all h =
-    let first : 1 ≤ k = grind (arith, nat_tests, (and_true (nat_le 1 k) (nat_le k 9999) (and_true _ (list_all (λ k. nat_le 1 k && nat_le k 9999) ks) all).0).0) in
-    let some = few_in_order 1 9999 k ks first (all_weaker (λ k. nat_le 1 k && nat_le k 9999) (λ k. nat_le k 9999) (λ k h. (and_true (nat_le 1 k) (nat_le k 9999) h).1) (k ∷ ks) all) h in
+    let first : 1 ≤ k = grind (
+      arith,
+      nat_tests,
+      (and_true (nat_le 1 k) (nat_le k 9999) (and_true _ (list_all (λ k. nat_le 1 k && nat_le k 9999) ks) all).0).0,
+    ) in
+    let some = few_in_order 1 9999 k ks first (all_weaker (λ k. nat_le 1 k && nat_le k 9999) (λ k. nat_le k 9999)
+    (λ k h. (and_true (nat_le 1 k) (nat_le k 9999) h).1) (k ∷ ks) all) h in
     omega (arith, some)
 
 -- ---- kinds
@@ -83,37 +93,47 @@ kind_there rows kind read there = elim (cases_Bool (is_kind kind)) [
 ]
 
 -- a kind that the rows name reads as one
-pub named_reads : (kind : List ℕ) (plain_kinds : List PlainKind) → list_all (λ plain. is_kind (kind_text plain)) plain_kinds ≡ true → names_kind kind plain_kinds ≡ true → is_kind kind ≡ true
+pub named_reads : (kind : List ℕ) (plain_kinds : List PlainKind)
+    → list_all (λ plain. is_kind (kind_text plain)) plain_kinds ≡ true
+    → names_kind kind plain_kinds ≡ true → is_kind kind ≡ true
 named_reads kind plain_kinds read named = elim (cases_Bool (is_kind kind)) [
   | inl reads ↦ reads
-  | inr unread ↦ not_both (names_kind kind plain_kinds) named (named_kind kind plain_kinds ∙ none_of_kinds (map kind_text plain_kinds) kind (all_mapped is_kind kind_text plain_kinds ∙ read) unread)
+  | inr unread ↦ not_both (names_kind kind plain_kinds) named (named_kind kind plain_kinds
+      ∙ none_of_kinds (map kind_text plain_kinds) kind (all_mapped is_kind kind_text plain_kinds ∙ read) unread)
 ]
 
 -- ---- stays
 
 -- the room of a stay in house has a room's number
-home_number : (rows : Rows) (party room : ℕ) → room_numbers rows ≡ true → has_party rows party room ≡ true → is_number_up_to 9999 room ≡ true
+home_number : (rows : Rows) (party room : ℕ) → room_numbers rows ≡ true → has_party rows party room ≡ true
+    → is_number_up_to 9999 room ≡ true
 home_number rows party room numbers there = by (at_number rows.rooms room) refl there
   where
-    by : (o : Option RoomRow) → at_number rows.rooms room ≡ o → said_of o false (λ row. is_that row.party party) ≡ true → is_number_up_to 9999 room ≡ true
+    by : (o : Option RoomRow) → at_number rows.rooms room ≡ o → said_of o false (λ row. is_that row.party party) ≡ true
+        → is_number_up_to 9999 room ≡ true
     by (Some row) found h =
         let p = and_true _ (nat_le room 9999) (found_passes _ rows.rooms room row numbers found) in
         both _ _ (and_true (row.room == room) (nat_le 1 room) p.0).1 p.1
     by None found h = not_both false h refl
 
-state_told : (rows : Rows) (party state : ℕ) (room : Option ℤ) → room_numbers rows ≡ true → (nat_le state 3 && cond (is_some room) (state == 1) (not (state == 1))) ≡ true
-    → said_of (room_of_state (state_of state (option_map number_of room))) true (has_party rows party) ≡ true → tells_state state (option_map number_of room) ≡ true
+state_told : (rows : Rows) (party state : ℕ) (room : Option ℤ)
+    → room_numbers rows ≡ true → (nat_le state 3 && cond (is_some room) (state == 1) (not (state == 1))) ≡ true
+    → said_of (room_of_state (state_of state (option_map number_of room))) true (has_party rows party) ≡ true
+    → tells_state state (option_map number_of room) ≡ true
 state_told rows party state None numbers columns home = columns
 state_told rows party state (Some room) numbers columns home =
     let in_house = (and_true (nat_le state 3) (state == 1) columns).1 in
-    let at_home : has_party rows party (number_of room) ≡ true = subst (λ n. said_of (room_of_state (state_of n (Some (number_of room)))) true (has_party rows party) ≡ true) (eq_from state 1 in_house) home in
+    let at_home : has_party rows party (number_of room) ≡ true =
+    subst (λ n. said_of (room_of_state (state_of n (Some (number_of room)))) true (has_party rows party) ≡ true)
+    (eq_from state 1 in_house) home in
     both _ _ in_house (home_number rows party (number_of room) numbers at_home)
 
 day_before : (arrive depart : ℕ) → is_day depart ≡ true → nat_lt arrive depart ≡ true → is_day arrive ≡ true
 day_before arrive depart h less = grind (arith, nat_tests)
 
 -- a stay that fits is told by its columns
-stay_told : (s : Stored) → kinds_read (rows_of s) ≡ true → room_numbers (rows_of s) ≡ true → (plain : PlainStay) → (is_number_up_to 9999999 (stay_key plain) && stay_fits s plain) ≡ true → tells_stay plain ≡ true
+stay_told : (s : Stored) → kinds_read (rows_of s) ≡ true → room_numbers (rows_of s) ≡ true → (plain : PlainStay)
+    → (is_number_up_to 9999999 (stay_key plain) && stay_fits s plain) ≡ true → tells_stay plain ≡ true
 stay_told s read numbers plain h =
     let p = and_true (is_number_up_to 9999999 (stay_key plain)) (stay_fits s plain) h in
     let homes = and_true _ (has_home (rows_of s) (stay_row plain)) p.1 in
@@ -121,8 +141,10 @@ stay_told s read numbers plain h =
     let kinds = and_true _ (has_kind (rows_of s) (string_bytes plain.kind)) days.0 in
     let guests = and_true (stay_columns plain) (is_guest (string_bytes plain.guest)) kinds.0 in
     let until = and_true _ (nat_le (number_of plain.depart) (number_of plain.arrive + 90)) days.1 in
-    let depart = and_true (is_day (number_of plain.depart)) (nat_lt (number_of plain.arrive) (number_of plain.depart)) until.0 in
-    both _ _ (both _ _ (both _ _ (both _ _ (both _ _ p.0 guests.1) (kind_there (rows_of s) (string_bytes plain.kind) read kinds.1)) (day_before _ _ depart.0 depart.1)) depart.0)
+    let depart =
+    and_true (is_day (number_of plain.depart)) (nat_lt (number_of plain.arrive) (number_of plain.depart)) until.0 in
+    both _ _ (both _ _ (both _ _ (both _ _ (both _ _ p.0 guests.1)
+    (kind_there (rows_of s) (string_bytes plain.kind) read kinds.1)) (day_before _ _ depart.0 depart.1)) depart.0)
     (state_told (rows_of s) (number_of plain.party) (number_of plain.state) plain.room numbers guests.0 homes.1)
 
 -- ---- undamaged rows
@@ -135,12 +157,17 @@ stays_told s none =
     let fits = and_true (are_numbered (map stay_key s.stays.items)) (list_all (stay_fits s) s.stays.items) passed.0 in
     let numbered = and_true _ (nat_le (length (map stay_key s.stays.items)) 9999999) fits.0 in
     let few : length (map stay_key s.stays.items) ≤ 9999999 = grind (arith, nat_tests, numbered.1) in
-    let numbers = counted_within 1 1 9999999 (map stay_key s.stays.items) (omega arith) (omega (arith, few)) (and_true _ (count_up 1 (map stay_key s.stays.items)) numbered.0).1 in
-    let keys : list_all (λ plain. is_number_up_to 9999999 (stay_key plain)) s.stays.items ≡ true = sym (all_mapped (is_number_up_to 9999999) stay_key s.stays.items) ∙ numbers in
-    all_weaker (λ plain. is_number_up_to 9999999 (stay_key plain) && stay_fits s plain) tells_stay (stay_told s sound.kind_reads sound.room_number) s.stays.items
-    (sym (all_and (λ plain. is_number_up_to 9999999 (stay_key plain)) (stay_fits s) s.stays.items _ refl) ∙ both _ _ keys fits.1)
+    let numbers = counted_within 1 1 9999999 (map stay_key s.stays.items) (omega arith) (omega (arith, few))
+    (and_true _ (count_up 1 (map stay_key s.stays.items)) numbered.0).1 in
+    let keys : list_all (λ plain. is_number_up_to 9999999 (stay_key plain)) s.stays.items ≡ true =
+    sym (all_mapped (is_number_up_to 9999999) stay_key s.stays.items) ∙ numbers in
+    all_weaker (λ plain. is_number_up_to 9999999 (stay_key plain) && stay_fits s plain) tells_stay
+    (stay_told s sound.kind_reads sound.room_number) s.stays.items
+    (sym (all_and (λ plain. is_number_up_to 9999999 (stay_key plain)) (stay_fits s) s.stays.items _ refl)
+    ∙ both _ _ keys fits.1)
 
-room_told : (s : Stored) (plain : PlainRoom) → room_fits s plain ≡ true → (is_room_number plain ≡ true) × (names_kind (string_bytes plain.kind) s.kinds.items ≡ true)
+room_told : (s : Stored) (plain : PlainRoom) → room_fits s plain ≡ true
+    → (is_room_number plain ≡ true) × (names_kind (string_bytes plain.kind) s.kinds.items ≡ true)
 room_told s plain h =
     let secured = and_true _ (is_secured_as_due s plain) h in
     let home = and_true _ (is_at_home (rows_of s) (room_row plain)) secured.0 in
@@ -161,34 +188,54 @@ pub rooms_told : (s : Stored) → first_damaged_of s ≡ None → are_rooms_of s
 rooms_told s none =
     let h = all_passed s none in
     let sound = ((undamaged_is_sound s).0 none).0 in
-    let passed = and_true (are_in_order nat_cmp (map room_key s.rooms.items)) (list_all (room_fits s) s.rooms.items) (sym (rooms_together s) ∙ h.room) in
-    let kinds : list_all (λ kind. is_kind (kind_text kind)) s.kinds.items ≡ true = sym (all_mapped is_kind kind_text s.kinds.items) ∙ sound.kind_reads in
-    let named = all_weaker (room_fits s) (λ room. names_kind (string_bytes room.kind) s.kinds.items) (λ room h. (room_told s room h).1) s.rooms.items passed.1 in
+    let passed = and_true (are_in_order nat_cmp (map room_key s.rooms.items)) (list_all (room_fits s) s.rooms.items)
+    (sym (rooms_together s) ∙ h.room) in
+    let kinds : list_all (λ kind. is_kind (kind_text kind)) s.kinds.items ≡ true =
+    sym (all_mapped is_kind kind_text s.kinds.items) ∙ sound.kind_reads in
+    let named = all_weaker (room_fits s) (λ room. names_kind (string_bytes room.kind) s.kinds.items)
+    (λ room h. (room_told s room h).1) s.rooms.items passed.1 in
     let numbers = rooms_numbered s none in
-    let few = few_rooms (map room_key s.rooms.items) (all_mapped (λ k. nat_le 1 k && nat_le k 9999) room_key s.rooms.items ∙ numbers) passed.0 in
-    both _ _ (both _ _ kinds named) (le_tested (length s.rooms.items) 9999 (subst (λ n. n ≤ 9999) (length_mapped room_key s.rooms.items) few))
+    let few = few_rooms (map room_key s.rooms.items)
+    (all_mapped (λ k. nat_le 1 k && nat_le k 9999) room_key s.rooms.items ∙ numbers) passed.0 in
+    both _ _ (both _ _ kinds named)
+    (le_tested (length s.rooms.items) 9999 (subst (λ n. n ≤ 9999) (length_mapped room_key s.rooms.items) few))
 
 -- ---- where counting stops
 
 -- a room that can't be counted
-pub not_rooms_of : (plain_kinds : List PlainKind) (plain_rooms : List PlainRoom) (counts : List (List ℕ × ℕ)) (i : ℕ) (room : PlainRoom) → i < length plain_rooms → room ≡ get_or plain_rooms i room
-    → ((kind : List ℕ) → rooms_in counts kind ≡ count_by (is_room_of_kind kind) (take i plain_rooms)) → KnowsKinds counts plain_kinds
-    → (is_kind (string_bytes room.kind) ≡ true → is_there counts (string_bytes room.kind) ≡ true → 2 ^ 32 - 1 ≤ rooms_in counts (string_bytes room.kind))
+pub not_rooms_of : (plain_kinds : List PlainKind) (plain_rooms : List PlainRoom) (counts : List (List ℕ × ℕ)) (i : ℕ)
+    (room : PlainRoom) → i < length plain_rooms → room ≡ get_or plain_rooms i room
+    → ((kind : List ℕ) → rooms_in counts kind ≡ count_by (is_room_of_kind kind) (take i plain_rooms))
+    → KnowsKinds counts plain_kinds
+    → (is_kind (string_bytes room.kind) ≡ true → is_there counts (string_bytes room.kind) ≡ true
+    → 2 ^ 32 - 1 ≤ rooms_in counts (string_bytes room.kind))
     → are_rooms_of plain_kinds plain_rooms ≡ false
-not_rooms_of plain_kinds plain_rooms counts i room low is counted known refused = elim (either_way (are_rooms_of plain_kinds plain_rooms)) [
-  | inl holds ↦
-      let kind = string_bytes room.kind in
-      let p = and_true _ (nat_le (length plain_rooms) 9999) holds in
-      let q = and_true (list_all (λ kind. is_kind (kind_text kind)) plain_kinds) (list_all (λ room. names_kind (string_bytes room.kind) plain_kinds) plain_rooms) p.0 in
-      let named : names_kind kind plain_kinds ≡ true = subst (λ (it : PlainRoom). names_kind (string_bytes it.kind) plain_kinds ≡ true) (sym is) (passes_at (λ room. names_kind (string_bytes room.kind) plain_kinds) plain_rooms i room low q.1) in
-      let full = refused (named_reads kind plain_kinds q.0 named) (known kind named) in
-      let few : length plain_rooms ≤ 9999 = grind (arith, nat_tests, p.1) in
-      absurd (omega (arith, full, counted kind, count_by-le-length (is_room_of_kind kind) (take i plain_rooms), length-take i plain_rooms, few))
-  | inr fails ↦ fails
-]
+not_rooms_of plain_kinds plain_rooms counts i room low is counted known refused =
+    elim (either_way (are_rooms_of plain_kinds plain_rooms)) [
+      | inl holds ↦
+          let kind = string_bytes room.kind in
+          let p = and_true _ (nat_le (length plain_rooms) 9999) holds in
+          let q = and_true (list_all (λ kind. is_kind (kind_text kind)) plain_kinds)
+          (list_all (λ room. names_kind (string_bytes room.kind) plain_kinds) plain_rooms) p.0 in
+          let named : names_kind kind plain_kinds ≡ true =
+          subst (λ (it : PlainRoom). names_kind (string_bytes it.kind) plain_kinds ≡ true) (sym is)
+          (passes_at (λ room. names_kind (string_bytes room.kind) plain_kinds) plain_rooms i room low q.1) in
+          let full = refused (named_reads kind plain_kinds q.0 named) (known kind named) in
+          let few : length plain_rooms ≤ 9999 = grind (arith, nat_tests, p.1) in
+          absurd (omega (
+            arith,
+            full,
+            counted kind,
+            count_by-le-length (is_room_of_kind kind) (take i plain_rooms),
+            length-take i plain_rooms,
+            few,
+          ))
+      | inr fails ↦ fails
+    ]
 
 -- what holds of an error that is passed on
-pub passed_on : {A : Type 0} (r : Result A LookFault) {why : LookFault} (P : LookFault → Type 0) → IsErrAnd r (λ e. e ≡ why) → P why → IfErr r P
+pub passed_on : {A : Type 0} (r : Result A LookFault) {why : LookFault} (P : LookFault → Type 0)
+    → IsErrAnd r (λ e. e ≡ why) → P why → IfErr r P
 passed_on (Ok x) P is p = absurd is
 passed_on (Err e) P is p = subst P (sym is) p
 

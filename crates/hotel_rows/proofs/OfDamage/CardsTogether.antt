@@ -29,7 +29,8 @@ numbers_joined : (o e u w : Bool) → e ≡ true → (o && ((e && u) && w)) ≡ 
 numbers_joined true e u w is = ap (λ z. (z && u) && w) is
 numbers_joined false e u w is = refl
 
-any_mapped : {L X : Type 0} (t : X → Bool) (f : L → X) (ls : List L) → list_any t (map f ls) ≡ list_any (λ l. t (f l)) ls
+any_mapped : {L X : Type 0} (t : X → Bool) (f : L → X) (ls : List L)
+    → list_any t (map f ls) ≡ list_any (λ l. t (f l)) ls
 any_mapped t f [] = refl
 any_mapped t f (l ∷ ls) = ap (λ b. t (f l) || b) (any_mapped t f ls)
 
@@ -39,8 +40,10 @@ said_alike None d f g e = refl
 
 agree_together : (s : Stored) → links_of_one_party (rows_of s) ≡ list_all (agrees s) s.cards.items
 agree_together s =
-    all_mapped (λ (e : ℕ × Card). list_all (λ (f : ℕ × Card). not (same_link e.1.link f.1.link) || (e.1.party == f.1.party)) (rows_of s).cards) card_entry s.cards.items
-    ∙ all_alike _ (agrees s) s.cards.items (λ plain. all_mapped (λ (f : ℕ × Card). not (same_link (link_row plain) f.1.link) || (number_of plain.party == f.1.party)) card_entry s.cards.items)
+    all_mapped (λ (e : ℕ × Card). list_all (λ (f : ℕ × Card). not (same_link e.1.link f.1.link)
+    || (e.1.party == f.1.party)) (rows_of s).cards) card_entry s.cards.items
+    ∙ all_alike _ (agrees s) s.cards.items (λ plain. all_mapped (λ (f : ℕ × Card).
+    not (same_link (link_row plain) f.1.link) || (number_of plain.party == f.1.party)) card_entry s.cards.items)
 
 brought_together : (s : Stored) → (neighbours_are_links (rows_of s) && fits_without_links (rows_of s))
     ≡ list_all (is_brought s) s.codes.items
@@ -60,11 +63,14 @@ owners_together : (s : Stored) → newest_of_party (rows_of s) ≡ list_all (has
 owners_together s =
     all_rooms (λ (e : ℕ × RoomRow). said_of e.1.party true (owns_newest (rows_of s) e.1.room)) (fits_of s) s.rooms.items
     ∙ all_alike _ (has_owner s) s.rooms.items (λ plain.
-    said_alike (option_map number_of plain.party) true (owns_newest (rows_of s) (number_of plain.room)) (λ party. list_all (is_owned s (number_of plain.room) party) s.cards.items)
-    (λ party. all_mapped (λ (e : ℕ × Card). not (is_newest (rows_of s) (number_of plain.room) e.1.link) || (e.1.party == party)) card_entry s.cards.items))
+    said_alike (option_map number_of plain.party) true (owns_newest (rows_of s) (number_of plain.room))
+    (λ party. list_all (is_owned s (number_of plain.room) party) s.cards.items)
+    (λ party. all_mapped (λ (e : ℕ × Card). not (is_newest (rows_of s) (number_of plain.room) e.1.link)
+    || (e.1.party == party)) card_entry s.cards.items))
 
 lasts_together : (s : Stored) → last_cards_newest (rows_of s) ≡ list_all (has_last s) s.stays.items
-lasts_together s = all_mapped (λ (e : ℕ × Stay). said_of (room_of_state e.1.state) true (has_newest (rows_of s) e.1.party)) stay_entry s.stays.items
+lasts_together s = all_mapped (λ (e : ℕ × Stay). said_of (room_of_state e.1.state) true
+    (has_newest (rows_of s) e.1.party)) stay_entry s.stays.items
 
 both_first : (a b c d e : Bool) → ((((a && b) && c) && d) && e) ≡ (((a && (b && c)) && d) && e)
 both_first true b c d e = refl
@@ -76,7 +82,8 @@ joined true false c d e f = refl
 joined false b c d e f = refl
 
 -- the rules of cards are tests of the keys and of each row
-pub cards_together : (s : Stored) → card_holds s ≡ (are_numbered (map card_key s.cards.items) && list_all (λ card. card_fits (rows_of s) (card_row card)) s.cards.items && links_hold s)
+pub cards_together : (s : Stored) → card_holds s ≡ (are_numbered (map card_key s.cards.items)
+    && list_all (λ card. card_fits (rows_of s) (card_row card)) s.cards.items && links_hold s)
 cards_together s =
     let plain_rows = s.cards.items in
     let rows = rows_of s in
@@ -93,16 +100,22 @@ cards_together s =
     (length_mapped card_entry plain_rows ∙ sym (length_mapped card_key plain_rows))
     ∙ ap (λ b. b && card_parties_there rows && links_are_neighbours rows && links_of_one_party rows
     && neighbours_are_links rows && fits_without_links rows && newest_of_party rows && last_cards_newest rows)
-    (numbers_joined (are_in_order nat_cmp ks) own (count_up 1 ks) (nat_le (length ks) 9999999) (own_keys card_key card_row (λ (card : Card). card.number) (λ plain. refl) plain_rows))
+    (numbers_joined (are_in_order nat_cmp ks) own (count_up 1 ks) (nat_le (length ks) 9999999)
+    (own_keys card_key card_row (λ (card : Card). card.number) (λ plain. refl) plain_rows))
     ∙ ap (λ b. b && links_of_one_party rows && neighbours_are_links rows && fits_without_links rows
     && newest_of_party rows && last_cards_newest rows)
-    (left_and o card_entry (λ (e : ℕ × Card). code_is rows e.1.link.new_code (λ new. stands_at rows new.room e.1.link)) _ plain_rows _
+    (left_and o card_entry
+    (λ (e : ℕ × Card). code_is rows e.1.link.new_code (λ new. stands_at rows new.room e.1.link)) _ plain_rows _
     (ap (λ b. o && b) (all_mapped (λ (e : ℕ × Card). is_some (at_number rows.stays e.1.party)) card_entry plain_rows)))
     ∙ ap (λ b. o && list_all (λ card. card_fits rows (card_row card)) plain_rows && b && neighbours_are_links rows
     && fits_without_links rows && newest_of_party rows && last_cards_newest rows) (agree_together s)
     ∙ both_first (o && list_all (λ card. card_fits rows (card_row card)) plain_rows && list_all (agrees s) plain_rows)
     (neighbours_are_links rows) (fits_without_links rows) (newest_of_party rows) (last_cards_newest rows)
-    ∙ ap (λ b. o && list_all (λ card. card_fits rows (card_row card)) plain_rows && list_all (agrees s) plain_rows && b && newest_of_party rows && last_cards_newest rows) (brought_together s)
-    ∙ ap (λ b. o && list_all (λ card. card_fits rows (card_row card)) plain_rows && list_all (agrees s) plain_rows && list_all (is_brought s) s.codes.items && b && last_cards_newest rows) (owners_together s)
-    ∙ ap (λ b. o && list_all (λ card. card_fits rows (card_row card)) plain_rows && list_all (agrees s) plain_rows && list_all (is_brought s) s.codes.items && list_all (has_owner s) s.rooms.items && b) (lasts_together s)
-    ∙ joined o (list_all (λ card. card_fits rows (card_row card)) plain_rows) (list_all (agrees s) plain_rows) (list_all (is_brought s) s.codes.items) (list_all (has_owner s) s.rooms.items) (list_all (has_last s) s.stays.items)
+    ∙ ap (λ b. o && list_all (λ card. card_fits rows (card_row card)) plain_rows && list_all (agrees s) plain_rows && b
+    && newest_of_party rows && last_cards_newest rows) (brought_together s)
+    ∙ ap (λ b. o && list_all (λ card. card_fits rows (card_row card)) plain_rows && list_all (agrees s) plain_rows
+    && list_all (is_brought s) s.codes.items && b && last_cards_newest rows) (owners_together s)
+    ∙ ap (λ b. o && list_all (λ card. card_fits rows (card_row card)) plain_rows && list_all (agrees s) plain_rows
+    && list_all (is_brought s) s.codes.items && list_all (has_owner s) s.rooms.items && b) (lasts_together s)
+    ∙ joined o (list_all (λ card. card_fits rows (card_row card)) plain_rows) (list_all (agrees s) plain_rows)
+    (list_all (is_brought s) s.codes.items) (list_all (has_owner s) s.rooms.items) (list_all (has_last s) s.stays.items)

@@ -15,7 +15,8 @@ use Rattle.hotel_rows.specs.RowTests.{HasKinds}
 use Rattle.hotel_rows.proofs.OfDamage.Rising.{short_in_order}
 
 not_alike : (b : Bool) (k q : List ℕ) → bytes_eq k q ≡ b → is_kind k ≡ true → is_kind q ≡ false → b ≡ false
-not_alike true k q e yes_k no_q = absurd (let w : ◌≡◌ {A = Bool} true false = sym yes_k ∙ ap is_kind ((bytes_eq-Decides k q).0 e) ∙ no_q in cc)
+not_alike true k q e yes_k no_q =
+    absurd (let w : ◌≡◌ {A = Bool} true false = sym yes_k ∙ ap is_kind ((bytes_eq-Decides k q).0 e) ∙ no_q in cc)
 not_alike false k q e yes_k no_q = refl
 
 and_parts : (a b : Bool) → (a && b) ≡ true → (a ≡ true) × (b ≡ true)
@@ -23,11 +24,13 @@ and_parts true b h = (refl, h)
 and_parts false b h = absurd (let w : ◌≡◌ {A = Bool} false true = h in cc)
 
 -- a text that is no kind is none of the kinds
-pub none_of_kinds : (kinds : List (List ℕ)) (q : List ℕ) → list_all is_kind kinds ≡ true → is_kind q ≡ false → list_any (λ k. bytes_eq k q) kinds ≡ false
+pub none_of_kinds : (kinds : List (List ℕ)) (q : List ℕ)
+    → list_all is_kind kinds ≡ true → is_kind q ≡ false → list_any (λ k. bytes_eq k q) kinds ≡ false
 none_of_kinds [] q all no_q = refl
 none_of_kinds (k ∷ ks) q all no_q =
     let p = and_parts (is_kind k) (list_all is_kind ks) all in
-    ap (λ b. b || list_any (λ k. bytes_eq k q) ks) (not_alike (bytes_eq k q) k q refl p.0 no_q) ∙ none_of_kinds ks q p.1 no_q
+    ap (λ b. b || list_any (λ k. bytes_eq k q) ks) (not_alike (bytes_eq k q) k q refl p.0 no_q)
+    ∙ none_of_kinds ks q p.1 no_q
 
 unread_by : (b : Bool) (t : List ℕ) → cond b (Some t) None ≡ None → b ≡ false
 unread_by true t e = absurd (let w : ◌≡◌ {A = Option (List ℕ)} (Some t) None = e in cc)
@@ -59,7 +62,8 @@ some_by false v o = refl
 -- a kind more
 pub knows_more : (known later : List (List ℕ × ℕ)) (kinds : List (List ℕ)) (kind : List ℕ) (v : ℕ)
     → HasKinds known kinds
-    → ((q : List ℕ) → lookup (is_at (slice_cmp nat_cmp q)) later ≡ cond (is_at (slice_cmp nat_cmp kind) q) (Some v) (lookup (is_at (slice_cmp nat_cmp q)) known))
+    → ((q : List ℕ) → lookup (is_at (slice_cmp nat_cmp q)) later
+    ≡ cond (is_at (slice_cmp nat_cmp kind) q) (Some v) (lookup (is_at (slice_cmp nat_cmp q)) known))
     → HasKinds later (kinds ++ kind ∷ [])
 knows_more known later kinds kind v knows put q =
     ap is_some (put q)
@@ -75,9 +79,11 @@ length_mapped f (x ∷ xs) = ap (λ n. suc_of n) (length_mapped f xs)
     suc_of : ℕ → ℕ
     suc_of n = suc n
 
-pub last_text : {X : Type 0} (f : X → List ℕ) (xs : List X) (i : ℕ) → length xs ≤ i → are_in_order (slice_cmp nat_cmp) (map f (drop (i - 1) xs)) ≡ true
+pub last_text : {X : Type 0} (f : X → List ℕ) (xs : List X) (i : ℕ)
+    → length xs ≤ i → are_in_order (slice_cmp nat_cmp) (map f (drop (i - 1) xs)) ≡ true
 last_text f xs i h =
-    short_in_order (slice_cmp nat_cmp) (map f (drop (i - 1) xs)) (subst (λ n. n ≤ 1) (sym (length_mapped f (drop (i - 1) xs) ∙ length-drop (i - 1) xs)) (omega (arith, h)))
+    short_in_order (slice_cmp nat_cmp) (map f (drop (i - 1) xs))
+    (subst (λ n. n ≤ 1) (sym (length_mapped f (drop (i - 1) xs) ∙ length-drop (i - 1) xs)) (omega (arith, h)))
 
 pub text_more : {X : Type 0} (f : X → List ℕ) (xs : List X) (x : X) → map f (xs ++ x ∷ []) ≡ map f xs ++ f x ∷ []
 text_more f [] x = refl

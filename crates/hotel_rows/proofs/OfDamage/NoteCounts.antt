@@ -25,7 +25,16 @@ use Rattle.hotel_rows.proofs.OfDamage.RowsTogether.{all_and, all_alike, all_room
 
 -- what stands past the end of a list of notes
 abbrev pub no_note : PlainNote
-no_note = record { room = pos 0; n = pos 0; act = pos 0; card = None; first_code = pos 0; second_code = pos 0; day = pos 0; second = pos 0 }
+no_note = record {
+  room = pos 0;
+  n = pos 0;
+  act = pos 0;
+  card = None;
+  first_code = pos 0;
+  second_code = pos 0;
+  day = pos 0;
+  second = pos 0;
+}
 
 more_by : (b : Bool) (plain : PlainNote) (plain_rows : List PlainNote) (before : List (ℕ × NoteRun)) (r : ℕ)
     → (number_of plain.room == r) ≡ b → NoteRunsOf before plain_rows
@@ -66,9 +75,11 @@ due_by : (b d : Bool) (n : ℕ) (ns : List ℕ) (m : ℕ) → (n == 1) ≡ b →
 due_by true true n ns m e f =
     let is : n ≡ 1 = eq_from n 1 e in
     let up : count_up (1 + 1) ns ≡ true = ap (λ q. count_up (q + 1) ns) (sym is) ∙ f in
-    let end : suc (length ns) ≡ last_of (n ∷ ns) = let g : suc (length ns) ≡ n + length ns = omega (arith, is) in g ∙ sym (last_counted n ns f) in
+    let end : suc (length ns) ≡ last_of (n ∷ ns) = let g : suc (length ns) ≡ n + length ns = omega (arith, is) in
+    g ∙ sym (last_counted n ns f) in
     ap (λ z. z && (suc (length ns) == m)) up ∙ ap (λ z. z == m) end
-due_by true false n ns m e f = ap (λ z. z && (suc (length ns) == m)) (ap (λ q. count_up (q + 1) ns) (sym (eq_from n 1 e)) ∙ f)
+due_by true false n ns m e f =
+    ap (λ z. z && (suc (length ns) == m)) (ap (λ q. count_up (q + 1) ns) (sym (eq_from n 1 e)) ∙ f)
 due_by false true n ns m e f = refl
 due_by false false n ns m e f = refl
 
@@ -96,7 +107,8 @@ counts_as_due s runs is =
     ap (λ ns. count_up 1 ns && (length ns == number_of plain.notes))
     (numbers_joined (fits_of s) (map note_entry s.notes.items) (number_of plain.room))
     ∙ due_as_counted (numbers_at (map note_entry s.notes.items) (number_of plain.room)) (number_of plain.notes)
-    ∙ ap (λ o. said_of o (number_of plain.notes == 0) (λ run. run.counted && (run.first == 1) && (run.last == number_of plain.notes))) (sym (is (number_of plain.room))))
+    ∙ ap (λ o. said_of o (number_of plain.notes == 0)
+    (λ run. run.counted && (run.first == 1) && (run.last == number_of plain.notes))) (sym (is (number_of plain.room))))
 
 swap_last : (o c n f t : Bool) → (c && f) ≡ t → (((o && c) && n) && f) ≡ ((o && t) && n)
 swap_last true true n true t e = let g : n && true ≡ n && true = refl in and_true_last n ∙ ap (λ z. z && n) e
@@ -128,14 +140,16 @@ pub all_notes : (t : (ℕ × ℕ) × Note → Bool) (fits : FitEntries) (ls : Li
 all_notes t fits ls = ap (list_all t) (notes_are fits ls) ∙ all_mapped t (λ l. (note_key l, joined_note fits l)) ls
 
 -- the rules of notes are a test of each note, and one of each room
-pub notes_together : (s : Stored) → note_holds s ≡ (are_in_order pair_cmp (map note_key s.notes.items) && list_all (plain_note_fits (rows_of s)) s.notes.items && notes_counted (rows_of s))
+pub notes_together : (s : Stored) → note_holds s ≡ (are_in_order pair_cmp (map note_key s.notes.items)
+    && list_all (plain_note_fits (rows_of s)) s.notes.items && notes_counted (rows_of s))
 notes_together s =
     let plain_rows = s.notes.items in
     let rows = rows_of s in
     let fits = fits_of s in
     ap (λ ks. are_in_order pair_cmp ks && list_all note_columns plain_rows && notes_counted rows && notes_fit rows)
     (ap keys_of (notes_are fits plain_rows) ∙ pair_keys_mapped plain_rows)
-    ∙ swap_last (are_in_order pair_cmp (map note_key plain_rows)) (list_all note_columns plain_rows) (notes_counted rows) (notes_fit rows) (list_all (plain_note_fits rows) plain_rows)
+    ∙ swap_last (are_in_order pair_cmp (map note_key plain_rows)) (list_all note_columns plain_rows)
+    (notes_counted rows) (notes_fit rows) (list_all (plain_note_fits rows) plain_rows)
     (all_and note_columns (λ plain. note_fits rows (note_key plain, joined_note fits plain)) plain_rows (notes_fit rows)
     (all_notes (note_fits rows) fits plain_rows)
     ∙ all_alike _ (plain_note_fits rows) plain_rows (λ plain.

@@ -18,7 +18,8 @@ use Rattle.hotel_rows.specs.Keys.{room_key}
 use Rattle.hotel_rows.specs.Damage.{most_notes, notes_few, room_columns, room_holds}
 use Rattle.hotel_rows.specs.RowTests.{room_fits, is_room_number, is_at_home, is_secured_as_due}
 
-pub keys_mapped : {L X : Type 0} (key : L → ℕ) (row : L → X) (ls : List L) → keys_of (map (λ l. (key l, row l)) ls) ≡ map key ls
+pub keys_mapped : {L X : Type 0} (key : L → ℕ) (row : L → X) (ls : List L)
+    → keys_of (map (λ l. (key l, row l)) ls) ≡ map key ls
 keys_mapped key row [] = refl
 keys_mapped key row (l ∷ ls) = ap (λ ks. key l ∷ ks) (keys_mapped key row ls)
 
@@ -32,7 +33,8 @@ swap_and true false true d = refl
 swap_and true false false d = refl
 swap_and false b c d = refl
 
-pub all_and : {L : Type 0} (t u : L → Bool) (ls : List L) (b : Bool) → b ≡ list_all u ls → (list_all t ls && b) ≡ list_all (λ l. t l && u l) ls
+pub all_and : {L : Type 0} (t u : L → Bool) (ls : List L) (b : Bool)
+    → b ≡ list_all u ls → (list_all t ls && b) ≡ list_all (λ l. t l && u l) ls
 all_and t u ls b e = ap (λ z. list_all t ls && z) e ∙ joined ls
   where
     joined : (ls : List _) → (list_all t ls && list_all u ls) ≡ list_all (λ l. t l && u l) ls
@@ -48,7 +50,8 @@ and_more true a b = refl
 and_more false a b = refl
 
 -- what was joined so far, and a rule more
-pub left_and : {L X : Type 0} (o : Bool) (f : L → X) (t : X → Bool) (u : L → Bool) (ls : List L) (b : Bool) → b ≡ (o && list_all u ls)
+pub left_and : {L X : Type 0} (o : Bool) (f : L → X) (t : X → Bool) (u : L → Bool) (ls : List L) (b : Bool)
+    → b ≡ (o && list_all u ls)
     → (b && list_all t (map f ls)) ≡ (o && list_all (λ l. u l && t (f l)) ls)
 left_and o f t u ls b e =
     ap (λ z. z && list_all t (map f ls)) e ∙ and_more o (list_all u ls) (list_all t (map f ls))
@@ -77,7 +80,8 @@ left_rooms o fits t u ls b e = ap (λ es. b && list_all t es) (rooms_are fits ls
     ∙ left_and o (λ l. (room_key l, joined_row fits l)) t u ls b e
 
 -- the rules of rooms are a test of each row
-pub rooms_together : (s : Stored) → room_holds s ≡ (are_in_order nat_cmp (map room_key s.rooms.items) && list_all (room_fits s) s.rooms.items)
+pub rooms_together : (s : Stored)
+    → room_holds s ≡ (are_in_order nat_cmp (map room_key s.rooms.items) && list_all (room_fits s) s.rooms.items)
 rooms_together s =
     let plain_rows = s.rooms.items in
     let rows = rows_of s in
@@ -98,11 +102,13 @@ rooms_together s =
     (left_rooms o fits (λ (e : ℕ × RoomRow). (e.1.room == e.0) && nat_le 1 e.0
     && nat_le e.0 9999) room_columns plain_rows _ refl))))))
     ∙ ap (λ b. o && b) (all_alike _ (room_fits s) plain_rows (λ plain.
-    ap (λ b. room_columns plain && (b && nat_le 1 (number_of plain.room) && nat_le (number_of plain.room) 9999) && nat_lt (number_of plain.lock_place) (number_of plain.codes)
+    ap (λ b. room_columns plain && (b && nat_le 1 (number_of plain.room) && nat_le (number_of plain.room) 9999)
+    && nat_lt (number_of plain.lock_place) (number_of plain.codes)
     && has_kind rows (string_bytes plain.kind) && nat_le (number_of plain.codes)
     (length rows.cards + length (fits_at fits (number_of plain.room))) && nat_le (number_of plain.notes) (most_notes s)
     && is_at_home rows (room_row plain) && is_secured_as_due s plain) (eq_self (number_of plain.room))
-    ∙ ap (λ n. room_columns plain && is_room_number plain && nat_lt (number_of plain.lock_place) (number_of plain.codes) && has_kind rows (string_bytes plain.kind)
+    ∙ ap (λ n. room_columns plain && is_room_number plain && nat_lt (number_of plain.lock_place) (number_of plain.codes)
+    && has_kind rows (string_bytes plain.kind)
     && nat_le (number_of plain.codes) (n + length (fits_at fits (number_of plain.room)))
     && nat_le (number_of plain.notes) (most_notes s) && is_at_home rows (room_row plain) && is_secured_as_due s plain)
     (length_mapped card_entry s.cards.items)))

@@ -75,7 +75,8 @@ pass_on false t rest h e = absurd (let w : ◌≡◌ {A = Bool} false true = h i
 
 none_first : (s : Stored) → AllHold s → first_damaged_of s ≡ None
 none_first s h =
-    pass_on (meta_holds s) table.Meta _ h.meta (pass_on (kind_holds s) table.Kind _ h.kind (pass_on (room_holds s) table.Room _ h.room (pass_on (stay_holds s) table.Stay _ h.stay
+    pass_on (meta_holds s) table.Meta _ h.meta (pass_on (kind_holds s) table.Kind _ h.kind
+    (pass_on (room_holds s) table.Room _ h.room (pass_on (stay_holds s) table.Stay _ h.stay
     (pass_on (code_holds s) table.Code _ h.code (pass_on (card_holds s) table.Card _ h.card
     (pass_on (inside_holds s) table.Inside _ h.inside (pass_on (note_holds s) table.Note _ h.note
     (pass_on (fit_holds s) table.Fit _ h.fit refl))))))))
@@ -162,10 +163,12 @@ rules_hold s sound columns =
       kind = more k.kinds sound.kind_reads;
       room = more (more (more (more (more (more (more (more k.rooms c1.0) sound.room_number) sound.room_lock_place)
           sound.room_kind) sound.room_codes) (few_of_sound s sound)) sound.room_party) sound.room_secured;
-      stay = more (more (more (more (more (more (more k.stays c1.1) sound.stay_number) sound.stay_guest) sound.stay_kind)
+      stay =
+          more (more (more (more (more (more (more k.stays c1.1) sound.stay_number) sound.stay_guest) sound.stay_kind)
           sound.stay_day) sound.stay_room) nights;
       code = more (more (more k.codes sound.code_range) sound.code_room) sound.code_places;
-      card = more (more (more (more (more (more (more (more k.cards sound.card_number) sound.card_party) sound.card_link)
+      card =
+          more (more (more (more (more (more (more (more k.cards sound.card_number) sound.card_party) sound.card_link)
           sound.card_one_party) sound.card_neighbours) sound.card_fits) sound.card_newest) sound.card_last;
       inside = more k.inside sound.inside_fits;
       note = more (more (more k.notes c2.1) sound.note_counted) sound.note_fits;

@@ -46,7 +46,8 @@ passes_alone next row rows fits is fresh =
 -- so no row of the tree before has its key
 pub none_agrees : (next : Trees) (row : Row) (rows : List Row) → Fits desk_schema next
     → next inside_tree ≡ put_row row rows → is_taken rows row ≡ false
-    → AllByRecursion (λ other. (((equal Binary (column other 1) (column row 1)) && (equal Binary (column other 2) (column row 2) && true)) && differ (rowid other) (rowid row)) ≡ false) rows
+    → AllByRecursion (λ other. (((equal Binary (column other 1) (column row 1))
+    && (equal Binary (column other 2) (column row 2) && true)) && differ (rowid other) (rowid row)) ≡ false) rows
 unfolding first_key
 none_agrees next row rows fits is fresh =
     let passed : (not (clashes plain (1 ∷ 2 ∷ []) (next inside_tree) row) && true) ≡ true =
@@ -54,7 +55,9 @@ none_agrees next row rows fits is fresh =
     let free : clashes plain (1 ∷ 2 ∷ []) (next inside_tree) row ≡ false = not_true _ passed in
     let all = none_from_any (λ other. agree plain (1 ∷ 2 ∷ []) other (1 ∷ 2 ∷ []) row
     && differ (rowid other) (rowid row)) (next inside_tree) free in
-    (every_shuffled (λ other. (agree plain (1 ∷ 2 ∷ []) other (1 ∷ 2 ∷ []) row && differ (rowid other) (rowid row)) ≡ false) (put_row row rows) (row ∷ rows) (put_fresh row rows fresh) (subst (λ rs. AllByRecursion (λ other. (agree plain (1 ∷ 2 ∷ []) other (1 ∷ 2 ∷ []) row && differ (rowid other) (rowid row)) ≡ false) rs) is all)).1
+    (every_shuffled (λ other. (agree plain (1 ∷ 2 ∷ []) other (1 ∷ 2 ∷ []) row && differ (rowid other) (rowid row))
+    ≡ false) (put_row row rows) (row ∷ rows) (put_fresh row rows fresh) (subst (λ rs. AllByRecursion (λ other.
+    (agree plain (1 ∷ 2 ∷ []) other (1 ∷ 2 ∷ []) row && differ (rowid other) (rowid row)) ≡ false) rs) is all)).1
 
 unequal : (o : Ordering) → is_eq o ≡ false → is_ne o ≡ true
 unequal Less h = refl
@@ -79,7 +82,13 @@ alone next room card id rows good ids fits is fresh =
     let row : Row = inside_stored id (room, card) in
     let agrees = none_agrees next row rows fits is fresh in
     let others = none_from_any (λ r. is_eq (value_cmp (rowid r) (rowid row))) rows fresh in
-    let apart = all_both HasId _ (λ r. differ (rowid r) (rowid row) ≡ true) (λ r has other. subst (λ v. differ v (Int id) ≡ true) (sym has) (differs _ id (subst (λ v. is_eq (value_cmp v (Int id)) ≡ false) has other))) rows ids others in
-    let lonely = all_both _ (λ r. differ (rowid r) (rowid row) ≡ true) (λ r. test room card r ≡ false) (λ r no d. lone (test room card r) _ no d) rows agrees apart in
-    let out = all_both Good (λ r. test room card r ≡ false) (λ r. is_eq (pair_cmp (room, card) (read r)) ≡ false) (λ r g no. at_pair room card (read r) ∙ sym (tested room card r g) ∙ no) rows good lonely in
-    every_shuffled (λ e. is_eq (pair_cmp (room, card) e) ≡ false) _ _ (IsPermutation-sym _ _ (IsPermutation-sort_by pair_cmp pair_total (map read rows))) (all_map (λ e. is_eq (pair_cmp (room, card) e) ≡ false) read rows out)
+    let apart =
+    all_both HasId _ (λ r. differ (rowid r) (rowid row) ≡ true) (λ r has other. subst (λ v. differ v (Int id) ≡ true)
+    (sym has) (differs _ id (subst (λ v. is_eq (value_cmp v (Int id)) ≡ false) has other))) rows ids others in
+    let lonely = all_both _ (λ r. differ (rowid r) (rowid row) ≡ true) (λ r. test room card r ≡ false)
+    (λ r no d. lone (test room card r) _ no d) rows agrees apart in
+    let out = all_both Good (λ r. test room card r ≡ false) (λ r. is_eq (pair_cmp (room, card) (read r)) ≡ false)
+    (λ r g no. at_pair room card (read r) ∙ sym (tested room card r g) ∙ no) rows good lonely in
+    every_shuffled (λ e. is_eq (pair_cmp (room, card) e) ≡ false) _ _
+    (IsPermutation-sym _ _ (IsPermutation-sort_by pair_cmp pair_total (map read rows)))
+    (all_map (λ e. is_eq (pair_cmp (room, card) e) ≡ false) read rows out)

@@ -67,11 +67,15 @@ test room card r = passes (by_pair 1 2) (int room ∷ int card ∷ []) r
 
 pub tested : (room card : ℕ) (r : Row) → Good r → test room card r ≡ is_pair room card (read r)
 tested room card r good =
-    let a : is_true (binary (Compare Eq Binary) (column r 1) (int room)) ≡ eqb (read r).0 room = ap (λ (v : Row). is_true (binary (Compare Eq Binary) (column v 0) (int room))) good ∙ equals (read r).0 room in
-    let b : is_true (binary (Compare Eq Binary) (column r 2) (int card)) ≡ eqb (read r).1 card = ap (λ (v : Row). is_true (binary (Compare Eq Binary) (column v 1) (int card))) good ∙ equals (read r).1 card in
-    ap (λ x. x && (is_true (binary (Compare Eq Binary) (column r 2) (int card)) && true)) a ∙ ap (λ y. eqb (read r).0 room && (y && true)) b ∙ ap (λ y. eqb (read r).0 room && y) (and_true _)
+    let a : is_true (binary (Compare Eq Binary) (column r 1) (int room)) ≡ eqb (read r).0 room =
+    ap (λ (v : Row). is_true (binary (Compare Eq Binary) (column v 0) (int room))) good ∙ equals (read r).0 room in
+    let b : is_true (binary (Compare Eq Binary) (column r 2) (int card)) ≡ eqb (read r).1 card =
+    ap (λ (v : Row). is_true (binary (Compare Eq Binary) (column v 1) (int card))) good ∙ equals (read r).1 card in
+    ap (λ x. x && (is_true (binary (Compare Eq Binary) (column r 2) (int card)) && true)) a
+    ∙ ap (λ y. eqb (read r).0 room && (y && true)) b ∙ ap (λ y. eqb (read r).0 room && y) (and_true _)
 
-only : (room card : ℕ) (a b : ℕ × ℕ) → is_pair room card a ≡ true → is_eq (pair_cmp a b) ≡ false → is_pair room card b ≡ false
+only : (room card : ℕ) (a b : ℕ × ℕ)
+    → is_pair room card a ≡ true → is_eq (pair_cmp a b) ≡ false → is_pair room card b ≡ false
 only room card a b is apart = elim (cases_Bool (is_pair room card b)) [
   | inl too ↦
       let p : eqb a.0 room ≡ true = first_of_both (eqb a.0 room) (eqb a.1 card) is in
@@ -81,17 +85,20 @@ only room card a b is apart = elim (cases_Bool (is_pair room card b)) [
       let rooms : a.0 ≡ b.0 = grind (arith, nat_tests, p, q) in
       let cards : a.1 ≡ b.1 = grind (arith, nat_tests, u, v) in
       let same : a ≡ b = ap₂ (λ (r c : ℕ). (r, c)) rooms cards in
-      absurd (true≢false (sym (ap is_eq (tied_itself pair_total b)) ∙ subst (λ (x : ℕ × ℕ). is_eq (pair_cmp x b) ≡ false) same apart))
+      absurd (true≢false (sym (ap is_eq (tied_itself pair_total b))
+      ∙ subst (λ (x : ℕ × ℕ). is_eq (pair_cmp x b) ≡ false) same apart))
   | inr other ↦ other
 ]
 
-none_after : (room card : ℕ) (a : ℕ × ℕ) (rows : List Row) → AllByRecursion Good rows → is_pair room card a ≡ true → AllByRecursion (λ b. is_eq (pair_cmp a b) ≡ false) (map read rows) → filter (test room card) rows ≡ []
+none_after : (room card : ℕ) (a : ℕ × ℕ) (rows : List Row) → AllByRecursion Good rows → is_pair room card a ≡ true
+    → AllByRecursion (λ b. is_eq (pair_cmp a b) ≡ false) (map read rows) → filter (test room card) rows ≡ []
 none_after room card a [] good is apart = refl
 none_after room card a (r ∷ rows) good is apart =
     let not_it : test room card r ≡ false = tested room card r good.0 ∙ only room card a (read r) is apart.0 in
     rw not_it (none_after room card a rows good.1 is apart.1)
 
-few : (room card : ℕ) (rows : List Row) → AllByRecursion Good rows → AreApart pair_cmp (map read rows) → (filter (test room card) rows ≡ []) ⊎ ((r : Row) × (filter (test room card) rows ≡ r ∷ []))
+few : (room card : ℕ) (rows : List Row) → AllByRecursion Good rows → AreApart pair_cmp (map read rows)
+    → (filter (test room card) rows ≡ []) ⊎ ((r : Row) × (filter (test room card) rows ≡ r ∷ []))
 few room card [] good apart = inl refl
 few room card (r ∷ rows) good apart = elim (cases_Bool (test room card r)) [
   | inl is ↦
@@ -129,11 +136,13 @@ shown_ids room card db rows keyed ids cases a =
     (env (int room ∷ int card ∷ []) r) in
     elim cases [
       | inl none ↦
-          let ordered : it.ordered ≡ [] = empty it.ordered (subst (λ rs. IsPermutation (map outs rs) it.ordered) none it.same) in
+          let ordered : it.ordered ≡ [] =
+          empty it.ordered (subst (λ rs. IsPermutation (map outs rs) it.ordered) none it.same) in
           let shown : rows ≡ [] = it.shown ∙ ap (map (λ o. o.1)) ordered in
           ap (left_of db) shown ∙ sym (none_gone (test room card) (db inside_tree) none)
       | inr one ↦
-          let ordered : it.ordered ≡ outs one.0 ∷ [] = one_permutation _ it.ordered (subst (λ rs. IsPermutation (map outs rs) it.ordered) one.1 it.same) in
+          let ordered : it.ordered ≡ outs one.0 ∷ [] =
+          one_permutation _ it.ordered (subst (λ rs. IsPermutation (map outs rs) it.ordered) one.1 it.same) in
           let shown : rows ≡ (rowid one.0 ∷ []) ∷ [] = it.shown ∙ ap (map (λ o. o.1)) ordered in
           ap (left_of db) shown ∙ gone_one (test room card) one.0 (db inside_tree) ids keyed one.1
     ]
@@ -146,17 +155,25 @@ pair_is Equal b = refl
 pair_is Greater b = refl
 
 pub at_pair : (room card : ℕ) (e : ℕ × ℕ) → is_at (pair_cmp (room, card)) e ≡ is_pair room card e
-at_pair room card e = pair_is (nat_cmp room e.0) (nat_cmp card e.1) ∙ ap₂ (λ a b. a && b) (is_key room e.0) (is_key card e.1)
+at_pair room card e =
+    pair_is (nat_cmp room e.0) (nat_cmp card e.1) ∙ ap₂ (λ a b. a && b) (is_key room e.0) (is_key card e.1)
 
-all_stay : (room card : ℕ) (a : ℕ × ℕ) (es : List (ℕ × ℕ)) → is_pair room card a ≡ true → AllByRecursion (λ b. is_eq (pair_cmp a b) ≡ false) es → filter (λ e. not (is_pair room card e)) es ≡ es
+all_stay : (room card : ℕ) (a : ℕ × ℕ) (es : List (ℕ × ℕ)) → is_pair room card a ≡ true
+    → AllByRecursion (λ b. is_eq (pair_cmp a b) ≡ false) es → filter (λ e. not (is_pair room card e)) es ≡ es
 all_stay room card a [] is apart = refl
-all_stay room card a (e ∷ es) is apart = let other = only room card a e is apart.0 in rw other (ap (λ rest. e ∷ rest) (all_stay room card a es is apart.1))
+all_stay room card a (e ∷ es) is apart =
+    let other = only room card a e is apart.0 in rw other (ap (λ rest. e ∷ rest) (all_stay room card a es is apart.1))
 
-removed : (room card : ℕ) (es : List (ℕ × ℕ)) → AreApart pair_cmp es → filter (λ e. not (is_pair room card e)) es ≡ remove_key (is_at (pair_cmp (room, card))) es
+removed : (room card : ℕ) (es : List (ℕ × ℕ))
+    → AreApart pair_cmp es → filter (λ e. not (is_pair room card e)) es ≡ remove_key (is_at (pair_cmp (room, card))) es
 removed room card [] apart = refl
 removed room card (e ∷ es) apart = elim (cases_Bool (is_pair room card e)) [
-  | inl is ↦ let found : is_at (pair_cmp (room, card)) e ≡ true = at_pair room card e ∙ is in rw (is, found) (all_stay room card e es is apart.0)
-  | inr other ↦ let lost : is_at (pair_cmp (room, card)) e ≡ false = at_pair room card e ∙ other in rw (other, lost) (ap (λ rest. e ∷ rest) (removed room card es apart.1))
+  | inl is ↦
+      let found : is_at (pair_cmp (room, card)) e ≡ true = at_pair room card e ∙ is in
+      rw (is, found) (all_stay room card e es is apart.0)
+  | inr other ↦
+      let lost : is_at (pair_cmp (room, card)) e ≡ false = at_pair room card e ∙ other in
+      rw (other, lost) (ap (λ rest. e ∷ rest) (removed room card es apart.1))
 ]
 
 pub gone_step : (old new : State) (room card count : ℕ)
@@ -172,13 +189,19 @@ gone_step old new room card count h mid =
     changes.delete_inside (λ w. w) (λ _ does. does) was.schema h.0 in
     let given = went done.1 in
     let put = went given.2 in
-    let applied = one_step desk_schema (mode_of old).keys db put.0 (edit_of db table (ids_of given.0) Given 0 []) refl put.1 in
-    let left = shown_ids room card db given.0 was.tables.inside_numbered was.tables.inside_ids (few room card rows was.tables.inside.good was.tables.inside.apart) (given.1.answer Null) in
+    let applied =
+    one_step desk_schema (mode_of old).keys db put.0 (edit_of db table (ids_of given.0) Given 0 []) refl put.1 in
+    let left = shown_ids room card db given.0 was.tables.inside_numbered was.tables.inside_ids
+    (few room card rows was.tables.inside.good was.tables.inside.apart) (given.1.answer Null) in
     let did = changed old new put.0 inside_tree (filter stays rows)
     (done.2 ∙ ap (λ (it : Written). record { schema = desk_schema; trees = it.trees }) (same_value put.2))
     (applied.rows ∙ left) applied.tables in
-    let tests = all_weaker Good (λ r. stays r ≡ not (is_pair room card (read r))) (λ r g. ap not (tested room card r g)) rows was.tables.inside.good in
-    let made = filter_makes pair_cmp pair_total Good read stays (λ e. not (is_pair room card e)) rows was.tables.inside tests in
-    let sorted : AreApart pair_cmp (listed pair_cmp read rows) = apart_permuted pair_cmp pair_total _ _ (IsPermutation-sym _ _ (IsPermutation-sort_by pair_cmp pair_total (map read rows))) was.tables.inside.apart in
+    let tests = all_weaker Good (λ r. stays r ≡ not (is_pair room card (read r)))
+    (λ r g. ap not (tested room card r g)) rows was.tables.inside.good in
+    let made =
+    filter_makes pair_cmp pair_total Good read stays (λ e. not (is_pair room card e)) rows was.tables.inside tests in
+    let sorted : AreApart pair_cmp (listed pair_cmp read rows) = apart_permuted pair_cmp pair_total _ _
+    (IsPermutation-sym _ _ (IsPermutation-sort_by pair_cmp pair_total (map read rows))) was.tables.inside.apart in
     steps old new (inside_gone room card) h.1 did
-    (insides_set was.tables (made.0, made.1 ∙ removed room card (listed pair_cmp read rows) sorted) (all-filter HasId stays rows was.tables.inside_numbered) (apart_filtered stays rows was.tables.inside_ids))
+    (insides_set was.tables (made.0, made.1 ∙ removed room card (listed pair_cmp read rows) sorted)
+    (all-filter HasId stays rows was.tables.inside_numbered) (apart_filtered stays rows was.tables.inside_ids))

@@ -100,24 +100,33 @@ pub record Changed (tree : ℕ) (rows : List Row) (old new : State) : Type 0 whe
   pub schema : new.now.schema ≡ desk_schema
   pub trees : Same (with_tree old.now.trees tree rows) new.now.trees
 
-set_one : (db next : Trees) (tree : ℕ) (rows : List Row) (ts : List Table) → next tree ≡ rows → AllByRecursion (λ (t : Table). t.tree ≢ tree → next t.tree ≡ db t.tree) ts → AllByRecursion (λ (t : Table). next t.tree ≡ with_tree db tree rows t.tree) ts
+set_one : (db next : Trees) (tree : ℕ) (rows : List Row) (ts : List Table)
+    → next tree ≡ rows → AllByRecursion (λ (t : Table). t.tree ≢ tree → next t.tree ≡ db t.tree) ts
+    → AllByRecursion (λ (t : Table). next t.tree ≡ with_tree db tree rows t.tree) ts
 set_one db next tree rows [] is others = tt
 set_one db next tree rows (t ∷ ts) is others =
     let more = set_one db next tree rows ts is others.1 in
     elim (cases_Bool (eqb t.tree tree)) [
       | inl same ↦ let e : t.tree ≡ tree = grind (arith, nat_tests, same) in (ap next e ∙ is ∙ rw same refl, more)
-      | inr other ↦ let e : t.tree ≢ tree = (λ same. let no : eqb t.tree tree ≡ true = grind (arith, nat_tests, same) in absurd (let z = sym other ∙ no in cc)) in (others.0 e ∙ rw other refl, more)
+      | inr other ↦
+          let e : t.tree ≢ tree = (λ same. let no : eqb t.tree tree ≡ true = grind (arith, nat_tests, same) in
+          absurd (let z = sym other ∙ no in cc)) in (others.0 e ∙ rw other refl, more)
     ]
 
-pub changed : (old new : State) (next : Trees) (tree : ℕ) (rows : List Row) → new.now ≡ record { schema = desk_schema; trees = next } → next tree ≡ rows
-    → AllByRecursion (λ (t : Table). t.tree ≢ tree → next t.tree ≡ old.now.trees t.tree) desk_schema.tables → Changed tree rows old new
+pub changed : (old new : State) (next : Trees) (tree : ℕ) (rows : List Row)
+    → new.now ≡ record { schema = desk_schema; trees = next } → next tree ≡ rows
+    → AllByRecursion (λ (t : Table). t.tree ≢ tree → next t.tree ≡ old.now.trees t.tree) desk_schema.tables
+    → Changed tree rows old new
 changed old new next tree rows now is others = record {
   schema = ap (λ (d : Database). d.schema) now;
-  trees = subst (λ (d : Database). Same (with_tree old.now.trees tree rows) d.trees) (sym now) (set_one old.now.trees next tree rows desk_schema.tables is others);
+  trees = subst (λ (d : Database). Same (with_tree old.now.trees tree rows) d.trees) (sym now)
+      (set_one old.now.trees next tree rows desk_schema.tables is others);
 }
 
-pub steps : {tree : ℕ} {rows : List Row} (old new : State) (make : Rows → Rows) → Shows old new new.now old.committed true → Changed tree rows old new
-    → AreTables (with_tree old.now.trees tree rows) × (rows_in (with_tree old.now.trees tree rows) ≡ make (rows_in old.now.trees)) → MovesRows old new make
+pub steps : {tree : ℕ} {rows : List Row} (old new : State) (make : Rows → Rows)
+    → Shows old new new.now old.committed true → Changed tree rows old new
+    → AreTables (with_tree old.now.trees tree rows)
+    × (rows_in (with_tree old.now.trees tree rows) ≡ make (rows_in old.now.trees)) → MovesRows old new make
 steps {tree} {rows} old new make shown did now =
     let same = same_desk (with_tree old.now.trees tree rows) new.now.trees did.trees now.0 in record {
       was_open = shown.was_open;
@@ -129,7 +138,8 @@ steps {tree} {rows} old new make shown did now =
 
 -- ---- which list moves
 
-pub rooms_set : {db : Trees} {rows : List Row} {list : List (ℕ × RoomRow)} → AreTables db → AreRooms rows × (listed (by_key nat_cmp) (λ r. room_of (room_columns r)) rows ≡ list)
+pub rooms_set : {db : Trees} {rows : List Row} {list : List (ℕ × RoomRow)}
+    → AreTables db → AreRooms rows × (listed (by_key nat_cmp) (λ r. room_of (room_columns r)) rows ≡ list)
     → AreTables (with_tree db room_tree rows) × (rows_in (with_tree db room_tree rows)
     ≡ record (rows_in db) { rooms = map (with_fit (fits_in db)) list })
 rooms_set {db} was made = (
@@ -151,7 +161,8 @@ rooms_set {db} was made = (
   ap (λ rooms. record (rows_in db) { rooms = map (with_fit (fits_in db)) rooms }) made.1,
 )
 
-pub stays_set : {db : Trees} {rows : List Row} {list : List (ℕ × Stay)} → AreTables db → AreStays rows × (listed (by_key nat_cmp) (λ r. stay_of (stay_columns r)) rows ≡ list)
+pub stays_set : {db : Trees} {rows : List Row} {list : List (ℕ × Stay)}
+    → AreTables db → AreStays rows × (listed (by_key nat_cmp) (λ r. stay_of (stay_columns r)) rows ≡ list)
     → AreTables (with_tree db stay_tree rows)
     × (rows_in (with_tree db stay_tree rows) ≡ record (rows_in db) { stays = list })
 stays_set {db} was made = (
@@ -173,7 +184,8 @@ stays_set {db} was made = (
   ap (λ stays. record (rows_in db) { stays = stays }) made.1,
 )
 
-pub codes_set : {db : Trees} {rows : List Row} {list : List (ℕ × CodeRow)} → AreTables db → AreCodes rows × (listed (by_key nat_cmp) (λ r. code_of (code_columns r)) rows ≡ list)
+pub codes_set : {db : Trees} {rows : List Row} {list : List (ℕ × CodeRow)}
+    → AreTables db → AreCodes rows × (listed (by_key nat_cmp) (λ r. code_of (code_columns r)) rows ≡ list)
     → AreTables (with_tree db code_tree rows)
     × (rows_in (with_tree db code_tree rows) ≡ record (rows_in db) { codes = list })
 codes_set {db} was made = (
@@ -195,7 +207,8 @@ codes_set {db} was made = (
   ap (λ codes. record (rows_in db) { codes = codes }) made.1,
 )
 
-pub cards_set : {db : Trees} {rows : List Row} {list : List (ℕ × Card)} → AreTables db → AreCards rows × (listed (by_key nat_cmp) (λ r. card_of (card_columns r)) rows ≡ list)
+pub cards_set : {db : Trees} {rows : List Row} {list : List (ℕ × Card)}
+    → AreTables db → AreCards rows × (listed (by_key nat_cmp) (λ r. card_of (card_columns r)) rows ≡ list)
     → AreTables (with_tree db card_tree rows)
     × (rows_in (with_tree db card_tree rows) ≡ record (rows_in db) { cards = list })
 cards_set {db} was made = (
@@ -217,7 +230,8 @@ cards_set {db} was made = (
   ap (λ cards. record (rows_in db) { cards = cards }) made.1,
 )
 
-pub kinds_set : {db : Trees} {rows : List Row} {list : List (List ℕ)} → AreTables db → AreKinds rows × (listed (slice_cmp nat_cmp) (λ r. kind_of (kind_columns r)) rows ≡ list)
+pub kinds_set : {db : Trees} {rows : List Row} {list : List (List ℕ)}
+    → AreTables db → AreKinds rows × (listed (slice_cmp nat_cmp) (λ r. kind_of (kind_columns r)) rows ≡ list)
     → AreTables (with_tree db kind_tree rows)
     × (rows_in (with_tree db kind_tree rows) ≡ record (rows_in db) { kinds = list })
 kinds_set {db} was made = (
@@ -239,7 +253,8 @@ kinds_set {db} was made = (
   ap (λ kinds. record (rows_in db) { kinds = kinds }) made.1,
 )
 
-pub notes_set : {db : Trees} {rows : List Row} {list : List ((ℕ × ℕ) × Note)} → AreTables db → AreNotes rows × (listed (by_key pair_cmp) (λ r. note_of (note_columns r)) rows ≡ list)
+pub notes_set : {db : Trees} {rows : List Row} {list : List ((ℕ × ℕ) × Note)}
+    → AreTables db → AreNotes rows × (listed (by_key pair_cmp) (λ r. note_of (note_columns r)) rows ≡ list)
     → AreTables (with_tree db note_tree rows) × (rows_in (with_tree db note_tree rows)
     ≡ record (rows_in db) { notes = map (under_fit (fits_in db)) list })
 notes_set {db} was made = (
@@ -295,7 +310,8 @@ fits_set {db} was made = (
   }) made.1,
 )
 
-pub insides_set : {db : Trees} {rows : List Row} {list : List (ℕ × ℕ)} → AreTables db → AreInside rows × (listed pair_cmp (λ r. inside_of (inside_columns r)) rows ≡ list) → AllByRecursion HasId rows → AreApartIds rows
+pub insides_set : {db : Trees} {rows : List Row} {list : List (ℕ × ℕ)} → AreTables db → AreInside rows
+    × (listed pair_cmp (λ r. inside_of (inside_columns r)) rows ≡ list) → AllByRecursion HasId rows → AreApartIds rows
     → AreTables (with_tree db inside_tree rows)
     × (rows_in (with_tree db inside_tree rows) ≡ record (rows_in db) { inside = list })
 insides_set {db} was made numbered apart = (

@@ -30,20 +30,27 @@ key_total cmp total = on_total (λ e. e.0) total
 
 -- ---- the two ways to put an entry into a list without its key
 
-pub entry_put : {K V : Type 0} (cmp : K → K → Ordering) (k : K) (v : V) (es : List (K × V)) → AllByRecursion (λ e. is_eq (cmp k e.0) ≡ false) es → insert_sorted (by_key cmp) (k, v) es ≡ insert_entry cmp es k v
+pub entry_put : {K V : Type 0} (cmp : K → K → Ordering) (k : K) (v : V) (es : List (K × V))
+    → AllByRecursion (λ e. is_eq (cmp k e.0) ≡ false) es
+    → insert_sorted (by_key cmp) (k, v) es ≡ insert_entry cmp es k v
 entry_put cmp k v [] apart = refl
 entry_put cmp k v (e ∷ es) apart = go (cmp k e.0) refl (entry_put cmp k v es apart.1)
   where
-    go : (o : Ordering) → cmp k e.0 ≡ o → insert_sorted (by_key cmp) (k, v) es ≡ insert_entry cmp es k v → (if is_gt o then e ∷ insert_sorted (by_key cmp) (k, v) es else (k, v) ∷ e ∷ es) ≡ match_ordering o ((k, v) ∷ e ∷ es) ((e.0, v) ∷ es) (e ∷ insert_entry cmp es k v)
+    go : (o : Ordering) → cmp k e.0 ≡ o → insert_sorted (by_key cmp) (k, v) es ≡ insert_entry cmp es k v
+        → (if is_gt o then e ∷ insert_sorted (by_key cmp) (k, v) es else (k, v) ∷ e ∷ es)
+        ≡ match_ordering o ((k, v) ∷ e ∷ es) ((e.0, v) ∷ es) (e ∷ insert_entry cmp es k v)
     go Less is more = refl
     go Equal is more = absurd (true≢false (sym (ap is_eq is) ∙ apart.0))
     go Greater is more = ap (λ rest. e ∷ rest) more
 
-pub key_put : {K : Type 0} (cmp : K → K → Ordering) (k : K) (ks : List K) → AllByRecursion (λ x. is_eq (cmp k x) ≡ false) ks → insert_sorted cmp k ks ≡ insert_key cmp ks k
+pub key_put : {K : Type 0} (cmp : K → K → Ordering) (k : K) (ks : List K)
+    → AllByRecursion (λ x. is_eq (cmp k x) ≡ false) ks → insert_sorted cmp k ks ≡ insert_key cmp ks k
 key_put cmp k [] apart = refl
 key_put cmp k (x ∷ ks) apart = go (cmp k x) refl (key_put cmp k ks apart.1)
   where
-    go : (o : Ordering) → cmp k x ≡ o → insert_sorted cmp k ks ≡ insert_key cmp ks k → (if is_gt o then x ∷ insert_sorted cmp k ks else k ∷ x ∷ ks) ≡ match_ordering o (k ∷ x ∷ ks) (x ∷ ks) (x ∷ insert_key cmp ks k)
+    go : (o : Ordering) → cmp k x ≡ o → insert_sorted cmp k ks ≡ insert_key cmp ks k
+        → (if is_gt o then x ∷ insert_sorted cmp k ks else k ∷ x ∷ ks)
+        ≡ match_ordering o (k ∷ x ∷ ks) (x ∷ ks) (x ∷ insert_key cmp ks k)
     go Less is more = refl
     go Equal is more = absurd (true≢false (sym (ap is_eq is) ∙ apart.0))
     go Greater is more = ap (λ rest. x ∷ rest) more
@@ -61,52 +68,64 @@ filter_passes p (y ∷ xs) x is = elim (cases_Bool (p y)) [
   | inr other ↦ filter_passes p xs x (rw other at is)
 ]
 
-none_left : {X : Type 0} (xs ys : List (ℕ × X)) (k : ℕ) → IsPermutation xs ys → filter (λ (e : ℕ × X). eqb e.0 k) ys ≡ [] → filter (λ (e : ℕ × X). eqb e.0 k) xs ≡ []
-none_left xs ys k same none = empty _ (subst (IsPermutation (filter (λ e. eqb e.0 k) xs)) none (IsPermutation-filter (λ e. eqb e.0 k) xs ys same))
+none_left : {X : Type 0} (xs ys : List (ℕ × X)) (k : ℕ)
+    → IsPermutation xs ys → filter (λ (e : ℕ × X). eqb e.0 k) ys ≡ [] → filter (λ (e : ℕ × X). eqb e.0 k) xs ≡ []
+none_left xs ys k same none =
+    empty _ (subst (IsPermutation (filter (λ e. eqb e.0 k) xs)) none (IsPermutation-filter (λ e. eqb e.0 k) xs ys same))
   where
     empty : {A : Type 0} (xs : List A) → IsPermutation xs [] → xs ≡ []
     empty [] h = refl
     empty (x ∷ xs) h = absurd (omega (arith, length_permutation _ _ h))
 
-one_left : {X : Type 0} (xs ys : List (ℕ × X)) (k : ℕ) (e : ℕ × X) → IsPermutation xs ys → filter (λ (e : ℕ × X). eqb e.0 k) ys ≡ e ∷ [] → filter (λ (e : ℕ × X). eqb e.0 k) xs ≡ e ∷ []
-one_left xs ys k e same one = one_permutation e _ (IsPermutation-sym _ _ (subst (IsPermutation (filter (λ e. eqb e.0 k) xs)) one (IsPermutation-filter (λ e. eqb e.0 k) xs ys same)))
+one_left : {X : Type 0} (xs ys : List (ℕ × X)) (k : ℕ) (e : ℕ × X) → IsPermutation xs ys
+    → filter (λ (e : ℕ × X). eqb e.0 k) ys ≡ e ∷ [] → filter (λ (e : ℕ × X). eqb e.0 k) xs ≡ e ∷ []
+one_left xs ys k e same one = one_permutation e _ (IsPermutation-sym _ _
+    (subst (IsPermutation (filter (λ e. eqb e.0 k) xs)) one (IsPermutation-filter (λ e. eqb e.0 k) xs ys same)))
 
-none_changed : {X : Type 0} (k : ℕ) (f : X → X) (es : List (ℕ × X)) → filter (λ (e : ℕ × X). eqb e.0 k) es ≡ [] → changed_at k f es ≡ es
+none_changed : {X : Type 0} (k : ℕ) (f : X → X) (es : List (ℕ × X))
+    → filter (λ (e : ℕ × X). eqb e.0 k) es ≡ [] → changed_at k f es ≡ es
 none_changed k f [] none = refl
 none_changed k f (e ∷ es) none = elim (cases_Bool (eqb e.0 k)) [
   | inl at ↦ absurd (let z = rw at at none in cc)
   | inr other ↦ rw other (ap (λ rest. e ∷ rest) (none_changed k f es (rw other at none)))
 ]
 
-below_found : {X : Type 0} (low k : ℕ) (e : ℕ × X) (es : List (ℕ × X)) → AllByRecursion (λ (b : ℕ × X). low < b.0) es → filter (λ (e : ℕ × X). eqb e.0 k) es ≡ e ∷ [] → low < k
+below_found : {X : Type 0} (low k : ℕ) (e : ℕ × X) (es : List (ℕ × X))
+    → AllByRecursion (λ (b : ℕ × X). low < b.0) es → filter (λ (e : ℕ × X). eqb e.0 k) es ≡ e ∷ [] → low < k
 below_found low k e es up one =
     let low_e : low < e.0 = found_in (λ b. low < b.0) (λ b. eqb b.0 k) es e up one in
     let is = filter_passes (λ (b : _). eqb b.0 k) es e one in
     let number : e.0 ≡ k = grind (arith, nat_tests, is) in
     omega (arith, low_e, number)
   where
-    found_in : {A : Type 0} (P : A → Type 0) (p : A → Bool) (xs : List A) (x : A) → AllByRecursion P xs → filter p xs ≡ x ∷ [] → P x
+    found_in : {A : Type 0} (P : A → Type 0) (p : A → Bool) (xs : List A) (x : A)
+        → AllByRecursion P xs → filter p xs ≡ x ∷ [] → P x
     found_in P p xs x all is = (subst (AllByRecursion P) is (all-filter P p xs all)).0
 
-others_kept : {X : Type 0} (k : ℕ) (es : List (ℕ × X)) → AllByRecursion (λ (b : ℕ × X). k < b.0) es → filter (λ (e : ℕ × X). not (eqb e.0 k)) es ≡ es
+others_kept : {X : Type 0} (k : ℕ) (es : List (ℕ × X))
+    → AllByRecursion (λ (b : ℕ × X). k < b.0) es → filter (λ (e : ℕ × X). not (eqb e.0 k)) es ≡ es
 others_kept k [] up = refl
 others_kept k (e ∷ es) up =
     let other : eqb e.0 k ≡ false = grind (arith, nat_tests, up.0) in
     rw other (ap (λ rest. e ∷ rest) (others_kept k es up.1))
 
-put_first : {X : Type 0} (k : ℕ) (x : X) (es : List (ℕ × X)) → AllByRecursion (λ (b : ℕ × X). k < b.0) es → insert_entry nat_cmp es k x ≡ (k, x) ∷ es
+put_first : {X : Type 0} (k : ℕ) (x : X) (es : List (ℕ × X))
+    → AllByRecursion (λ (b : ℕ × X). k < b.0) es → insert_entry nat_cmp es k x ≡ (k, x) ∷ es
 put_first k x [] up = refl
 put_first k x (e ∷ es) up = let less : nat_cmp k e.0 ≡ Less = grind (arith, nat_tests, up.0) in rw less refl
 
-put_back : {X : Type 0} (k : ℕ) (f : X → X) (e : ℕ × X) (es : List (ℕ × X)) → IsAscending (λ (a b : ℕ × X). a.0 < b.0) es → filter (λ (e : ℕ × X). eqb e.0 k) es ≡ e ∷ []
+put_back : {X : Type 0} (k : ℕ) (f : X → X) (e : ℕ × X) (es : List (ℕ × X))
+    → IsAscending (λ (a b : ℕ × X). a.0 < b.0) es → filter (λ (e : ℕ × X). eqb e.0 k) es ≡ e ∷ []
     → insert_entry nat_cmp (filter (λ (e : ℕ × X). not (eqb e.0 k)) es) k (f e.1) ≡ changed_at k f es
 put_back k f e [] up one = absurd cc
 put_back {X} k f e (a ∷ es) up one = elim (cases_Bool (eqb a.0 k)) [
   | inl at ↦
       let same : a ≡ e = (let z = rw at at one in cc) in
       let number : a.0 ≡ k = grind (arith, nat_tests, at) in
-      let over : AllByRecursion (λ (b : ℕ × X). k < b.0) es = subst (λ n. AllByRecursion (λ (b : ℕ × X). n < b.0) es) number up.0 in
-      rw at (ap (λ rest. insert_entry nat_cmp rest k (f e.1)) (others_kept k es over) ∙ put_first k (f e.1) es over ∙ ap₂ (λ (n : ℕ) (b : ℕ × X). (n, f b.1) ∷ es) (sym number) (sym same))
+      let over : AllByRecursion (λ (b : ℕ × X). k < b.0) es =
+      subst (λ n. AllByRecursion (λ (b : ℕ × X). n < b.0) es) number up.0 in
+      rw at (ap (λ rest. insert_entry nat_cmp rest k (f e.1)) (others_kept k es over) ∙ put_first k (f e.1) es over
+      ∙ ap₂ (λ (n : ℕ) (b : ℕ × X). (n, f b.1) ∷ es) (sym number) (sym same))
   | inr other ↦
       let later : filter (λ (e : ℕ × X). eqb e.0 k) es ≡ e ∷ [] = rw other at one in
       let low : a.0 < k = below_found a.0 k e es up.0 later in
@@ -116,7 +135,8 @@ put_back {X} k f e (a ∷ es) up one = elim (cases_Bool (eqb a.0 k)) [
 
 -- ---- tables whose key is the number of the row
 
-module _ {X : Type 0} (columns : Row → Row) (of : Row → ℕ × X) (written : ℕ × X → Row) (numbered : (r : Row) → IsWrittenAs columns of written r → column r 0 ≡ int (of (columns r)).0) where
+module _ {X : Type 0} (columns : Row → Row) (of : Row → ℕ × X) (written : ℕ × X → Row)
+    (numbered : (r : Row) → IsWrittenAs columns of written r → column r 0 ≡ int (of (columns r)).0) where
   abbrev Good : Row → Type 0
   Good = IsWrittenAs columns of written
 
@@ -129,24 +149,39 @@ module _ {X : Type 0} (columns : Row → Row) (of : Row → ℕ × X) (written :
   total : IsTotalOrder cmp
   total = key_total nat_cmp nat_cmp_total
 
-  apart_from : (k : ℕ) (new r : Row) → rowid new ≡ int k → Good r → is_eq (value_cmp (rowid r) (rowid new)) ≡ false → is_eq (nat_cmp k (read r).0) ≡ false
-  apart_from k new r id good fresh = is_key k (read r).0 ∙ sym (same_number (read r).0 k) ∙ ap₂ (λ a b. is_eq (value_cmp a b)) (sym (numbered r good)) (sym id) ∙ fresh
+  apart_from : (k : ℕ) (new r : Row) → rowid new ≡ int k → Good r → is_eq (value_cmp (rowid r) (rowid new)) ≡ false
+      → is_eq (nat_cmp k (read r).0) ≡ false
+  apart_from k new r id good fresh = is_key k (read r).0 ∙ sym (same_number (read r).0 k)
+      ∙ ap₂ (λ a b. is_eq (value_cmp a b)) (sym (numbered r good)) (sym id) ∙ fresh
 
-  pub insert_makes : (new : Row) (k : ℕ) (x : X) (rows : List Row) → IsTable cmp columns of written rows → Good new → read new ≡ (k, x) → rowid new ≡ int k → is_taken rows new ≡ false
-      → IsTable cmp columns of written (put_row new rows) × (listed cmp read (put_row new rows) ≡ insert_entry nat_cmp (listed cmp read rows) k x)
+  pub insert_makes : (new : Row) (k : ℕ) (x : X) (rows : List Row) → IsTable cmp columns of written rows → Good new
+      → read new ≡ (k, x) → rowid new ≡ int k → is_taken rows new ≡ false
+      → IsTable cmp columns of written (put_row new rows)
+      × (listed cmp read (put_row new rows) ≡ insert_entry nat_cmp (listed cmp read rows) k x)
   insert_makes new k x rows was good is id fresh =
-      let apart : AllByRecursion (λ r. is_eq (nat_cmp k (read r).0) ≡ false) rows = all_both Good _ _ (λ r h free. apart_from k new r id h free) rows was.good (none_from_any (λ r. is_eq (value_cmp (rowid r) (rowid new))) rows fresh) in
-      let keys : AllByRecursion (λ (y : ℕ × X). is_eq (nat_cmp k y.0) ≡ false) (map read rows) = all_map _ read rows apart in
-      let put = put_makes cmp total Good read new rows was good fresh (subst (λ (e : ℕ × X). AllByRecursion (λ (y : ℕ × X). is_eq (nat_cmp e.0 y.0) ≡ false) (map read rows)) (sym is) keys) in
-      let sorted = every_shuffled (λ (y : ℕ × X). is_eq (nat_cmp k y.0) ≡ false) _ _ (IsPermutation-sym _ _ (IsPermutation-sort_by cmp total (map read rows))) keys in
-      (put.0, put.1 ∙ ap (λ e. insert_sorted cmp e (listed cmp read rows)) is ∙ entry_put nat_cmp k x (listed cmp read rows) sorted)
+      let apart : AllByRecursion (λ r. is_eq (nat_cmp k (read r).0) ≡ false) rows =
+      all_both Good _ _ (λ r h free. apart_from k new r id h free) rows was.good
+      (none_from_any (λ r. is_eq (value_cmp (rowid r) (rowid new))) rows fresh) in
+      let keys : AllByRecursion (λ (y : ℕ × X). is_eq (nat_cmp k y.0) ≡ false) (map read rows) =
+      all_map _ read rows apart in
+      let put = put_makes cmp total Good read new rows was good fresh (subst (λ (e : ℕ × X). AllByRecursion
+      (λ (y : ℕ × X). is_eq (nat_cmp e.0 y.0) ≡ false) (map read rows)) (sym is) keys) in
+      let sorted = every_shuffled (λ (y : ℕ × X). is_eq (nat_cmp k y.0) ≡ false) _ _
+      (IsPermutation-sym _ _ (IsPermutation-sort_by cmp total (map read rows))) keys in (
+        put.0,
+        put.1 ∙ ap (λ e. insert_sorted cmp e (listed cmp read rows)) is
+            ∙ entry_put nat_cmp k x (listed cmp read rows) sorted,
+      )
 
   -- ---- a row that is changed in its place
 
-  tests : (k : ℕ) (rows : List Row) → AllByRecursion Good rows → AllByRecursion (λ r. not (has_rowid (pos k) r) ≡ not (eqb (read r).0 k)) rows
-  tests k rows good = all_weaker Good _ (λ r h. ap not (ap (λ v. is_eq (value_cmp v (int k))) (numbered r h) ∙ same_number (read r).0 k)) rows good
+  tests : (k : ℕ) (rows : List Row)
+      → AllByRecursion Good rows → AllByRecursion (λ r. not (has_rowid (pos k) r) ≡ not (eqb (read r).0 k)) rows
+  tests k rows good = all_weaker Good _
+      (λ r h. ap not (ap (λ v. is_eq (value_cmp v (int k))) (numbered r h) ∙ same_number (read r).0 k)) rows good
 
-  not_kept : (k : ℕ) (new : Row) (rows : List Row) → rowid new ≡ int k → AllByRecursion (λ r. is_eq (value_cmp (rowid r) (rowid new)) ≡ false) (without_rowid (pos k) rows)
+  not_kept : (k : ℕ) (new : Row) (rows : List Row) → rowid new ≡ int k
+      → AllByRecursion (λ r. is_eq (value_cmp (rowid r) (rowid new)) ≡ false) (without_rowid (pos k) rows)
   not_kept k new [] is = tt
   not_kept k new (r ∷ rows) is = elim (cases_Bool (has_rowid (pos k) r)) [
     | inl at ↦ rw at (not_kept k new rows is)
@@ -154,13 +189,17 @@ module _ {X : Type 0} (columns : Row → Row) (of : Row → ℕ × X) (written :
   ]
 
   -- at most one row has the number
-  none_after : (k : ℕ) (a : Row) (rows : List Row) → (read a).0 ≡ k → AllByRecursion (λ (y : ℕ × X). is_eq (nat_cmp (read a).0 y.0) ≡ false) (map read rows) → filter (λ r. eqb (read r).0 k) rows ≡ []
+  none_after : (k : ℕ) (a : Row) (rows : List Row)
+      → (read a).0 ≡ k → AllByRecursion (λ (y : ℕ × X). is_eq (nat_cmp (read a).0 y.0) ≡ false) (map read rows)
+      → filter (λ r. eqb (read r).0 k) rows ≡ []
   none_after k a [] is apart = refl
   none_after k a (r ∷ rows) is apart =
-      let other : eqb (read r).0 k ≡ false = sym (is_key k (read r).0) ∙ ap (λ n. is_eq (nat_cmp n (read r).0)) (sym is) ∙ apart.0 in
+      let other : eqb (read r).0 k ≡ false =
+      sym (is_key k (read r).0) ∙ ap (λ n. is_eq (nat_cmp n (read r).0)) (sym is) ∙ apart.0 in
       rw other (none_after k a rows is apart.1)
 
-  pub few : (k : ℕ) (rows : List Row) → IsAscending (λ (a b : ℕ × X). is_eq (nat_cmp a.0 b.0) ≡ false) (map read rows) → (filter (λ r. eqb (read r).0 k) rows ≡ []) ⊎ ((r : Row) × (filter (λ r. eqb (read r).0 k) rows ≡ r ∷ []))
+  pub few : (k : ℕ) (rows : List Row) → IsAscending (λ (a b : ℕ × X). is_eq (nat_cmp a.0 b.0) ≡ false) (map read rows)
+      → (filter (λ r. eqb (read r).0 k) rows ≡ []) ⊎ ((r : Row) × (filter (λ r. eqb (read r).0 k) rows ≡ r ∷ []))
   few k [] apart = inl refl
   few k (r ∷ rows) apart = elim (cases_Bool (eqb (read r).0 k)) [
     | inl is ↦
@@ -169,8 +208,10 @@ module _ {X : Type 0} (columns : Row → Row) (of : Row → ℕ × X) (written :
     | inr other ↦ rw other (few k rows apart.1)
   ]
 
-  rises : (rows : List Row) → IsTable cmp columns of written rows → IsAscending (λ (a b : ℕ × X). a.0 < b.0) (listed cmp read rows)
-  rises rows was = ascending_weaker _ _ (λ a b less. above a.0 b.0 less) (listed cmp read rows) (sort_rises cmp total (map read rows) was.apart)
+  rises : (rows : List Row) → IsTable cmp columns of written rows
+      → IsAscending (λ (a b : ℕ × X). a.0 < b.0) (listed cmp read rows)
+  rises rows was = ascending_weaker _ _ (λ a b less. above a.0 b.0 less) (listed cmp read rows)
+      (sort_rises cmp total (map read rows) was.apart)
     where
       above : (a b : ℕ) → nat_cmp a b ≡ Less → a < b
       above a b less = grind (arith, nat_tests, less)
@@ -188,25 +229,43 @@ module _ {X : Type 0} (columns : Row → Row) (of : Row → ℕ × X) (written :
       → ((filter (λ r. eqb (read r).0 k) rows ≡ []) × (after ≡ rows)) ⊎ ((r : Row) × Updated k f rows after r)
       → IsTable cmp columns of written after × (listed cmp read after ≡ changed_at k f (listed cmp read rows))
   update_makes k f rows after was (inl none) =
-      let mapped : filter (λ (e : ℕ × X). eqb e.0 k) (map read rows) ≡ [] = sym (filter_mapped cmp total Good read (λ r. eqb (read r).0 k) (λ e. eqb e.0 k) rows (all_weaker Good _ (λ r h. refl) rows was.good)) ∙ ap (map read) none.0 in
-      let sorted : filter (λ (e : ℕ × X). eqb e.0 k) (listed cmp read rows) ≡ [] = none_left (listed cmp read rows) (map read rows) k (IsPermutation-sort_by cmp total (map read rows)) mapped in
-      (subst (IsTable cmp columns of written) (sym none.1) was, ap (listed cmp read) none.1 ∙ sym (none_changed k f (listed cmp read rows) sorted))
+      let mapped : filter (λ (e : ℕ × X). eqb e.0 k) (map read rows) ≡ [] =
+      sym (filter_mapped cmp total Good read (λ r. eqb (read r).0 k) (λ e. eqb e.0 k) rows
+      (all_weaker Good _ (λ r h. refl) rows was.good)) ∙ ap (map read) none.0 in
+      let sorted : filter (λ (e : ℕ × X). eqb e.0 k) (listed cmp read rows) ≡ [] =
+      none_left (listed cmp read rows) (map read rows) k (IsPermutation-sort_by cmp total (map read rows)) mapped in (
+        subst (IsTable cmp columns of written) (sym none.1) was,
+        ap (listed cmp read) none.1 ∙ sym (none_changed k f (listed cmp read rows) sorted),
+      )
   update_makes k f rows after was (inr (r, did)) =
-      let number : (read r).0 ≡ k = (let t = filter_passes (λ r. eqb (read r).0 k) rows r did.found in grind (arith, nat_tests, t)) in
-      let cut = filter_makes cmp total Good read (λ r. not (has_rowid (pos k) r)) (λ e. not (eqb e.0 k)) rows was (tests k rows was.good) in
-      let free : is_taken (without_rowid (pos k) rows) did.new ≡ false = any_from_none _ _ (not_kept k did.new rows did.id) in
-      let put = insert_makes did.new k (f (read r).1) (without_rowid (pos k) rows) cut.0 did.good did.reads did.id free in
-      let one : filter (λ (e : ℕ × X). eqb e.0 k) (map read rows) ≡ read r ∷ [] = sym (filter_mapped cmp total Good read (λ r. eqb (read r).0 k) (λ e. eqb e.0 k) rows (all_weaker Good _ (λ r h. refl) rows was.good)) ∙ ap (map read) did.found in
-      let sorted : filter (λ (e : ℕ × X). eqb e.0 k) (listed cmp read rows) ≡ read r ∷ [] = one_left (listed cmp read rows) (map read rows) k (read r) (IsPermutation-sort_by cmp total (map read rows)) one in (
+      let number : (read r).0 ≡ k =
+      (let t = filter_passes (λ r. eqb (read r).0 k) rows r did.found in grind (arith, nat_tests, t)) in
+      let cut = filter_makes cmp total Good read (λ r. not (has_rowid (pos k) r))
+      (λ e. not (eqb e.0 k)) rows was (tests k rows was.good) in
+      let free : is_taken (without_rowid (pos k) rows) did.new ≡ false =
+      any_from_none _ _ (not_kept k did.new rows did.id) in
+      let put =
+      insert_makes did.new k (f (read r).1) (without_rowid (pos k) rows) cut.0 did.good did.reads did.id free in
+      let one : filter (λ (e : ℕ × X). eqb e.0 k) (map read rows) ≡ read r ∷ [] =
+      sym (filter_mapped cmp total Good read (λ r. eqb (read r).0 k) (λ e. eqb e.0 k) rows
+      (all_weaker Good _ (λ r h. refl) rows was.good)) ∙ ap (map read) did.found in
+      let sorted : filter (λ (e : ℕ × X). eqb e.0 k) (listed cmp read rows) ≡ read r ∷ [] = one_left
+      (listed cmp read rows) (map read rows) k (read r) (IsPermutation-sort_by cmp total (map read rows)) one in (
         subst (IsTable cmp columns of written) (sym did.after_is) put.0,
-        ap (listed cmp read) did.after_is ∙ put.1 ∙ ap (λ es. insert_entry nat_cmp es k (f (read r).1)) cut.1 ∙ put_back k f (read r) (listed cmp read rows) (rises rows was) sorted,
+        ap (listed cmp read) did.after_is ∙ put.1 ∙ ap (λ es. insert_entry nat_cmp es k (f (read r).1)) cut.1
+            ∙ put_back k f (read r) (listed cmp read rows) (rises rows was) sorted,
       )
 
 -- ---- a table whose rows have a number of their own
 
-pub put_keyed : {X : Type 0} (cmp : X → X → Ordering) (total : IsTotalOrder cmp) (Good : Row → Type 0) (of : Row → X) (new : Row) (x : X) (rows : List Row) → IsTableOf cmp Good of rows → Good new → of new ≡ x → is_taken rows new ≡ false
-    → AllByRecursion (λ y. is_eq (cmp x y) ≡ false) (listed cmp of rows) → IsTableOf cmp Good of (put_row new rows) × (listed cmp of (put_row new rows) ≡ insert_sorted cmp x (listed cmp of rows))
+pub put_keyed : {X : Type 0} (cmp : X → X → Ordering) (total : IsTotalOrder cmp)
+    (Good : Row → Type 0) (of : Row → X) (new : Row) (x : X) (rows : List Row)
+    → IsTableOf cmp Good of rows → Good new → of new ≡ x → is_taken rows new ≡ false
+    → AllByRecursion (λ y. is_eq (cmp x y) ≡ false) (listed cmp of rows) → IsTableOf cmp Good of (put_row new rows)
+    × (listed cmp of (put_row new rows) ≡ insert_sorted cmp x (listed cmp of rows))
 put_keyed cmp total Good of new x rows was good is fresh apart =
-    let keys = every_shuffled (λ y. is_eq (cmp x y) ≡ false) _ _ (IsPermutation-sort_by cmp total (map of rows)) apart in
-    let put = put_makes cmp total Good of new rows was good fresh (subst (λ z. AllByRecursion (λ y. is_eq (cmp z y) ≡ false) (map of rows)) (sym is) keys) in
+    let keys =
+    every_shuffled (λ y. is_eq (cmp x y) ≡ false) _ _ (IsPermutation-sort_by cmp total (map of rows)) apart in
+    let put = put_makes cmp total Good of new rows was good fresh
+    (subst (λ z. AllByRecursion (λ y. is_eq (cmp z y) ≡ false) (map of rows)) (sym is) keys) in
     (put.0, put.1 ∙ ap (λ z. insert_sorted cmp z (listed cmp of rows)) is)

@@ -55,7 +55,8 @@ has_fits {tree} {rows} old new shown did sound set =
 -- ---- the version of meta
 
 pub version_step : (old new : State) (count : ℕ)
-    → ExecutesInside 0 update_version (int 1 ∷ int 2 ∷ []) old new (Ok count) → (IsTrue old.is_open → IsOutdated old) → HasFits [] old new
+    → ExecutesInside 0 update_version (int 1 ∷ int 2 ∷ []) old new (Ok count)
+    → (IsTrue old.is_open → IsOutdated old) → HasFits [] old new
 version_step old new count h before =
     let was = before h.1.was_open in
     let e = λ (r : Row). meta_of (meta_columns r) in

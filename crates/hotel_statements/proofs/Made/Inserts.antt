@@ -86,9 +86,12 @@ pub record Put (tree : ℕ) (row : Row) (old new : State) : Type 0 where
   pub next_is : next tree ≡ put_row row (old.now.trees tree)
 
 -- an INSERT of one row, whatever the table is: `source` is what its terms give, and `row` that row as it is stored
-pub put : {at width : ℕ} {text : List ℕ} {terms : List Term} (tree : ℕ) (t : Table) (params source row : Row) (old new : State) (count : ℕ) → Does text (Insert at (Values terms width))
-    → IsOn tree t (statement_of text (understood desk_schema text)) (Insert at (Values terms width)) old params → value_rows (params ++ []) width (length terms / width) terms ≡ source ∷ []
-    → (edit_of old.now.trees (at_place tree t) [] Chosen 0 (source ∷ [])).news ≡ row ∷ [] → old.now.schema ≡ desk_schema → ExecutesIn false text params old new (Ok count) → Put tree row old new
+pub put : {at width : ℕ} {text : List ℕ} {terms : List Term} (tree : ℕ) (t : Table) (params source row : Row)
+    (old new : State) (count : ℕ) → Does text (Insert at (Values terms width))
+    → IsOn tree t (statement_of text (understood desk_schema text)) (Insert at (Values terms width)) old params
+    → value_rows (params ++ []) width (length terms / width) terms ≡ source ∷ []
+    → (edit_of old.now.trees (at_place tree t) [] Chosen 0 (source ∷ [])).news ≡ row ∷ [] → old.now.schema ≡ desk_schema
+    → ExecutesIn false text params old new (Ok count) → Put tree row old new
 put {at} {width} {text} {terms} tree t params source row old new count does on shown news has h =
     let db = old.now.trees in
     let keys = (mode_of old).keys in
@@ -97,14 +100,17 @@ put {at} {width} {text} {terms} tree t params source row old new count does on s
     let given = went done.1 in
     let written = went (went given.2).2 in
     let counted = went written.2 in
-    let trees : done.0.trees ≡ written.0 = ap (λ (it : Written). it.trees) (same_value counted.2) ∙ same_value counted.1 in
+    let trees : done.0.trees ≡ written.0 =
+    ap (λ (it : Written). it.trees) (same_value counted.2) ∙ same_value counted.1 in
     let edit = edit_of db table [] Chosen 0 (source ∷ []) in
-    let went_in = subst (λ all. Edited desk_schema keys db (edit_of db table [] Chosen 0 all) (Ok written.0)) (given.1.1 ∙ shown) written.1 in
+    let went_in = subst (λ all. Edited desk_schema keys db (edit_of db table [] Chosen 0 all) (Ok written.0))
+    (given.1.1 ∙ shown) written.1 in
     let applied = one_step desk_schema keys db written.0 edit refl went_in in
     let rows = applied.rows ∙ ap (put_all (db tree)) news in
     record {
       fresh = fresh_one _ _ (subst (λ rows. are_fresh (db tree) rows ≡ true) news applied.fresh);
-      changes = changed old new written.0 tree (put_row row (db tree)) (done.2 ∙ ap (λ (s : Trees). record { schema = desk_schema; trees = s }) trees) rows applied.tables;
+      changes = changed old new written.0 tree (put_row row (db tree))
+          (done.2 ∙ ap (λ (s : Trees). record { schema = desk_schema; trees = s }) trees) rows applied.tables;
       next = written.0;
       fits = applied.fits;
       next_is = rows;
@@ -112,7 +118,8 @@ put {at} {width} {text} {terms} tree t params source row old new count does on s
 
 -- ---- the tables whose rows have their key for a number
 
-pub code_step : (old new : State) (code : ℕ) (at : CodeRow) (count : ℕ) → ExecutesInside 0 insert_code (int code ∷ int at.room ∷ int at.place ∷ []) old new (Ok count)
+pub code_step : (old new : State) (code : ℕ) (at : CodeRow) (count : ℕ)
+    → ExecutesInside 0 insert_code (int code ∷ int at.room ∷ int at.place ∷ []) old new (Ok count)
     → IsMidWith AnyRows old → MovesRows old new (code_added code at)
 code_step old new code at count h mid =
     let was = (mid h.1.was_open).0 in
@@ -120,10 +127,12 @@ code_step old new code at count h mid =
     let did : Put code_tree row old new =
     put code_tree code_table _ row row old new count changes.insert_code (λ _ does. does) refl
     (rw (cast_null, cast_int (pos code), cast_int (pos at.room), cast_int (pos at.place)) refl) was.schema h.0 in
-    steps old new (code_added code at) h.1 did.changes (codes_set was.tables (insert_makes code_columns code_of code_written code_numbered row code at _ was.tables.code refl refl refl did.fresh))
+    steps old new (code_added code at) h.1 did.changes (codes_set was.tables (insert_makes code_columns code_of
+    code_written code_numbered row code at _ was.tables.code refl refl refl did.fresh))
 
 pub room_step : (old new : State) (row : RoomRow) (count : ℕ)
-    → ExecutesInside 0 insert_room (int row.room ∷ Text row.kind ∷ int row.lock_place ∷ int row.codes ∷ int (bit_of row.secured) ∷ maybe_int row.party ∷ int row.notes ∷ []) old new (Ok count)
+    → ExecutesInside 0 insert_room (int row.room ∷ Text row.kind ∷ int row.lock_place ∷ int row.codes
+    ∷ int (bit_of row.secured) ∷ maybe_int row.party ∷ int row.notes ∷ []) old new (Ok count)
     → IsMidWith (IsWithoutFit row.room) old → MovesRows old new (room_added row)
 room_step old new r count h mid =
     let both = mid h.1.was_open in
@@ -132,7 +141,15 @@ room_step old new r count h mid =
     let row = room_stored r in
     let did : Put room_tree row old new =
     put room_tree room_table _ row row old new count changes.insert_room (λ _ does. does) refl
-    (rw (cast_null, cast_int (pos r.room), cast_int (pos r.lock_place), cast_int (pos r.codes), cast_int (pos (bit_of r.secured)), cast_maybe r.party, cast_int (pos r.notes)) refl) was.schema h.0 in
+    (rw (
+      cast_null,
+      cast_int (pos r.room),
+      cast_int (pos r.lock_place),
+      cast_int (pos r.codes),
+      cast_int (pos (bit_of r.secured)),
+      cast_maybe r.party,
+      cast_int (pos r.notes),
+    ) refl) was.schema h.0 in
     let set = rooms_set was.tables (insert_makes room_columns room_of room_written room_numbered row r.room
     (bare_room r) _ was.tables.room (room_good r) (room_reads r) refl did.fresh) in
     let joined : map (with_fit (fits_in db)) (insert_entry nat_cmp (bare_rooms_in db) r.room (bare_room r))
@@ -147,33 +164,53 @@ room_step old new r count h mid =
     )
 
 pub stay_step : (old new : State) (stay : Stay) (count : ℕ)
-    → ExecutesInside 0 insert_stay (int stay.party ∷ Text stay.guest ∷ Text stay.kind ∷ int stay.arrive ∷ int stay.depart ∷ int (state_number stay.state) ∷ maybe_int (room_of_state stay.state) ∷ []) old new (Ok count)
+    → ExecutesInside 0 insert_stay (int stay.party ∷ Text stay.guest ∷ Text stay.kind ∷ int stay.arrive
+    ∷ int stay.depart ∷ int (state_number stay.state) ∷ maybe_int (room_of_state stay.state) ∷ []) old new (Ok count)
     → IsMidWith AnyRows old → MovesRows old new (stay_added stay)
 stay_step old new s count h mid =
     let was = (mid h.1.was_open).0 in
     let row = stay_stored s in
     let did : Put stay_tree row old new =
     put stay_tree stay_table _ row row old new count changes.insert_stay (λ _ does. does) refl
-    (rw (cast_null, cast_int (pos s.party), cast_int (pos s.arrive), cast_int (pos s.depart), cast_int (pos (state_number s.state)), cast_maybe (room_of_state s.state)) refl) was.schema h.0 in
-    steps old new (stay_added s) h.1 did.changes (stays_set was.tables (insert_makes stay_columns stay_of stay_written stay_numbered row s.party s _ was.tables.stay (stay_good s) (stay_reads s) refl did.fresh))
+    (rw (
+      cast_null,
+      cast_int (pos s.party),
+      cast_int (pos s.arrive),
+      cast_int (pos s.depart),
+      cast_int (pos (state_number s.state)),
+      cast_maybe (room_of_state s.state),
+    ) refl) was.schema h.0 in
+    steps old new (stay_added s) h.1 did.changes (stays_set was.tables (insert_makes stay_columns stay_of stay_written
+    stay_numbered row s.party s _ was.tables.stay (stay_good s) (stay_reads s) refl did.fresh))
 
-pub card_step : (old new : State) (card : Card) (count : ℕ) → ExecutesInside 0 insert_card (int card.number ∷ int card.party ∷ int card.link.old_code ∷ int card.link.new_code ∷ []) old new (Ok count)
+pub card_step : (old new : State) (card : Card) (count : ℕ) → ExecutesInside 0 insert_card (int card.number
+    ∷ int card.party ∷ int card.link.old_code ∷ int card.link.new_code ∷ []) old new (Ok count)
     → IsMidWith AnyRows old → MovesRows old new (card_added card)
 card_step old new c count h mid =
     let was = (mid h.1.was_open).0 in
     let row = card_stored c in
     let did : Put card_tree row old new =
     put card_tree card_table _ row row old new count changes.insert_card (λ _ does. does) refl
-    (rw (cast_null, cast_int (pos c.number), cast_int (pos c.party), cast_int (pos c.link.old_code), cast_int (pos c.link.new_code)) refl) was.schema h.0 in
-    steps old new (card_added c) h.1 did.changes (cards_set was.tables (insert_makes card_columns card_of card_written card_numbered row c.number c _ was.tables.card refl refl refl did.fresh))
+    (rw (
+      cast_null,
+      cast_int (pos c.number),
+      cast_int (pos c.party),
+      cast_int (pos c.link.old_code),
+      cast_int (pos c.link.new_code),
+    ) refl) was.schema h.0 in
+    steps old new (card_added c) h.1 did.changes (cards_set was.tables (insert_makes card_columns card_of card_written
+    card_numbered row c.number c _ was.tables.card refl refl refl did.fresh))
 
 -- ---- the tables whose rows have a number of their own
 
-kind_apart : (kind : List ℕ) (kinds : List (List ℕ)) → AllByRecursion (λ k. bytes_eq k kind ≡ false) kinds → AllByRecursion (λ k. is_eq (slice_cmp nat_cmp kind k) ≡ false) kinds
-kind_apart kind kinds apart = all_weaker (λ k. bytes_eq k kind ≡ false) _ (λ k other. same_tie (slice_cmp nat_cmp) nat_list_cmp_total kind k ∙ is_eq-slice_cmp k kind ∙ other) kinds apart
+kind_apart : (kind : List ℕ) (kinds : List (List ℕ)) → AllByRecursion (λ k. bytes_eq k kind ≡ false) kinds
+    → AllByRecursion (λ k. is_eq (slice_cmp nat_cmp kind k) ≡ false) kinds
+kind_apart kind kinds apart = all_weaker (λ k. bytes_eq k kind ≡ false) _
+    (λ k other. same_tie (slice_cmp nat_cmp) nat_list_cmp_total kind k ∙ is_eq-slice_cmp k kind ∙ other) kinds apart
 
 -- the kind isn't there yet
-pub kind_step : (old new : State) (kind : List ℕ) (count : ℕ) → ExecutesInside 0 insert_kind (Text kind ∷ []) old new (Ok count)
+pub kind_step : (old new : State) (kind : List ℕ) (count : ℕ)
+    → ExecutesInside 0 insert_kind (Text kind ∷ []) old new (Ok count)
     → IsMidWith (λ rows. has_kind rows kind ≡ false) old → MovesRows old new (kind_added kind)
 kind_step old new kind count h mid =
     let both = mid h.1.was_open in
@@ -184,13 +221,16 @@ kind_step old new kind count h mid =
     put kind_tree kind_table _ (Null ∷ Text kind ∷ []) row old new count changes.insert_kind (λ _ does. does) refl
     (rw (cast_null, cast_text kind) refl) was.schema h.0 in
     let apart = kind_apart kind kinds (none_from_any (λ k. bytes_eq k kind) kinds both.1) in
-    let made = put_keyed (slice_cmp nat_cmp) nat_list_cmp_total (IsWrittenAs kind_columns kind_of kind_written) (λ r. kind_of (kind_columns r)) row kind _ was.tables.kind refl refl did.fresh apart in
-    steps old new (kind_added kind) h.1 did.changes (kinds_set was.tables (made.0, made.1 ∙ key_put (slice_cmp nat_cmp) kind kinds apart))
+    let made = put_keyed (slice_cmp nat_cmp) nat_list_cmp_total (IsWrittenAs kind_columns kind_of kind_written)
+    (λ r. kind_of (kind_columns r)) row kind _ was.tables.kind refl refl did.fresh apart in
+    steps old new (kind_added kind) h.1 did.changes
+    (kinds_set was.tables (made.0, made.1 ∙ key_put (slice_cmp nat_cmp) kind kinds apart))
 
 pub pair_total : IsTotalOrder pair_cmp
 pair_total = then_total (on_total (λ e. e.0) nat_cmp_total) (on_total (λ e. e.1) nat_cmp_total)
 
-not_at : {V : Type 0} (k : ℕ × ℕ) (es : List ((ℕ × ℕ) × V)) → lookup (is_at (pair_cmp k)) es ≡ None → AllByRecursion (λ e. is_eq (pair_cmp k e.0) ≡ false) es
+not_at : {V : Type 0} (k : ℕ × ℕ) (es : List ((ℕ × ℕ) × V))
+    → lookup (is_at (pair_cmp k)) es ≡ None → AllByRecursion (λ e. is_eq (pair_cmp k e.0) ≡ false) es
 not_at k [] none = tt
 not_at k (e ∷ es) none = elim (cases_Bool (is_eq (pair_cmp k e.0))) [
   | inl at ↦ absurd (let z = rw at at none in cc)

@@ -30,10 +30,14 @@ use Rattle.hotel_statements.proofs.Made.Reads.{inside_stored}
 
 put_ids : (new : Row) (rows : List Row) → is_taken rows new ≡ false → AreApartIds rows → AreApartIds (put_row new rows)
 put_ids new rows fresh apart =
-    let flipped = all_weaker _ (λ r. is_eq (value_cmp (rowid new) (rowid r)) ≡ false) (λ r h. same_tie value_cmp value_cmp_total (rowid new) (rowid r) ∙ h) rows (none_from_any (λ r. is_eq (value_cmp (rowid r) (rowid new))) rows fresh) in
-    apart_permuted (λ a b. value_cmp (rowid a) (rowid b)) (on_total rowid value_cmp_total) (new ∷ rows) (put_row new rows) (IsPermutation-sym _ _ (put_fresh new rows fresh)) (flipped, apart)
+    let flipped = all_weaker _ (λ r. is_eq (value_cmp (rowid new) (rowid r)) ≡ false)
+    (λ r h. same_tie value_cmp value_cmp_total (rowid new) (rowid r) ∙ h) rows
+    (none_from_any (λ r. is_eq (value_cmp (rowid r) (rowid new))) rows fresh) in
+    apart_permuted (λ a b. value_cmp (rowid a) (rowid b)) (on_total rowid value_cmp_total) (new ∷ rows)
+    (put_row new rows) (IsPermutation-sym _ _ (put_fresh new rows fresh)) (flipped, apart)
 
-pub inside_step : (old new : State) (room number count : ℕ) → ExecutesInside 0 insert_inside (int room ∷ int number ∷ []) old new (Ok count)
+pub inside_step : (old new : State) (room number count : ℕ)
+    → ExecutesInside 0 insert_inside (int room ∷ int number ∷ []) old new (Ok count)
     → IsMidWith AnyRows old → MovesRows old new (inside_added room number)
 inside_step old new room number count h mid =
     let was = (mid h.1.was_open).0 in
@@ -44,8 +48,12 @@ inside_step old new room number count h mid =
     put inside_tree inside_table _ (Null ∷ int room ∷ int number ∷ []) row old new count changes.insert_inside
     (λ _ does. does) refl
     (rw (cast_null, cast_int (pos room), cast_int (pos number)) refl) was.schema h.0 in
-    let out = alone did.next room number (next_rowid rows) rows was.tables.inside.good was.tables.inside_numbered did.fits did.next_is did.fresh in
-    let made = put_keyed pair_cmp pair_total (IsWrittenAs inside_columns inside_of inside_written) (λ r. inside_of (inside_columns r)) row e rows was.tables.inside refl refl did.fresh out in
-    let ids = every_shuffled HasId (row ∷ rows) (put_row row rows) (IsPermutation-sym _ _ (put_fresh row rows did.fresh)) (refl, was.tables.inside_numbered) in
+    let out = alone did.next room number
+    (next_rowid rows) rows was.tables.inside.good was.tables.inside_numbered did.fits did.next_is did.fresh in
+    let made = put_keyed pair_cmp pair_total (IsWrittenAs inside_columns inside_of inside_written)
+    (λ r. inside_of (inside_columns r)) row e rows was.tables.inside refl refl did.fresh out in
+    let ids = every_shuffled HasId (row ∷ rows) (put_row row rows)
+    (IsPermutation-sym _ _ (put_fresh row rows did.fresh)) (refl, was.tables.inside_numbered) in
     steps old new (inside_added room number) h.1 did.changes
-    (insides_set was.tables (made.0, made.1 ∙ key_put pair_cmp e (rows_in old.now.trees).inside out) ids (put_ids row rows did.fresh was.tables.inside_ids))
+    (insides_set was.tables (made.0, made.1 ∙ key_put pair_cmp e (rows_in old.now.trees).inside out) ids
+    (put_ids row rows did.fresh was.tables.inside_ids))

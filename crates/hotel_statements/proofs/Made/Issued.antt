@@ -18,7 +18,9 @@ abbrev set_codes : ℕ → ℕ → RoomRow → RoomRow
 set_codes party codes row = record row { codes = codes; secured = false; party = Some party }
 
 -- one more code than the room has
-one_more : (room party codes : ℕ) (es : List (ℕ × RoomRow)) → codes_at room es ≡ codes → room_changed room (set_codes party (codes + 1)) es ≡ room_changed room (λ row. set_codes party (row.codes + 1) row) es
+one_more : (room party codes : ℕ) (es : List (ℕ × RoomRow))
+    → codes_at room es ≡ codes → room_changed room (set_codes party (codes + 1)) es
+    ≡ room_changed room (λ row. set_codes party (row.codes + 1) row) es
 one_more room party codes [] is = refl
 one_more room party codes (e ∷ es) is = elim (cases_Bool (eqb e.0 room)) [
   | inl at ↦
@@ -45,13 +47,19 @@ codes_stay room left (e ∷ es) = elim (cases_Bool (eqb e.0 left)) [
   ]
 ]
 
-codes_kept : (room : ℕ) (leaves : Option ℕ) (es : List (ℕ × RoomRow)) → codes_at room (freed_by leaves es) ≡ codes_at room es
+codes_kept : (room : ℕ) (leaves : Option ℕ) (es : List (ℕ × RoomRow))
+    → codes_at room (freed_by leaves es) ≡ codes_at room es
 codes_kept room None es = refl
 codes_kept room (Some left) es = codes_stay room left es
 
 pub issue_is : (card : Card) (room : ℕ) (leaves : Option ℕ) (codes : ℕ) (rows : Rows) → codes_of rows room ≡ codes
-    → card_given card room (codes + 1) (code_given leaves card.link.new_code (record { room = room; place = codes }) rows) ≡ made (change.Issue card room leaves) rows
+    → card_given card room (codes + 1) (code_given leaves card.link.new_code
+    (record { room = room; place = codes }) rows) ≡ made (change.Issue card room leaves) rows
 issue_is card room leaves codes rows is =
     let at = made (change.Issue card room leaves) rows in
-    ap₂ (λ rooms place. record at { rooms = rooms; codes = Rattle.std.specs.BTreeMap.insert_entry nat_cmp rows.codes card.link.new_code (record { room = room; place = place }) })
+    ap₂ (λ rooms place. record at {
+      rooms = rooms;
+      codes = Rattle.std.specs.BTreeMap.insert_entry nat_cmp rows.codes card.link.new_code
+          (record { room = room; place = place });
+    })
     (one_more room card.party codes (freed_by leaves rows.rooms) (codes_kept room leaves rows.rooms ∙ is)) (sym is)

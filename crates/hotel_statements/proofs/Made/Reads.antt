@@ -50,7 +50,8 @@ act_reads (Left card link) = refl
 act_reads (Recoded from to) = refl
 
 -- a row whose columns are written, read back
-good_from : {X : Type 0} (columns : Row → Row) (of : Row → X) (written : X → Row) (r : Row) (e : X) → columns r ≡ written e → of (written e) ≡ e → IsWrittenAs columns of written r
+good_from : {X : Type 0} (columns : Row → Row) (of : Row → X) (written : X → Row) (r : Row) (e : X)
+    → columns r ≡ written e → of (written e) ≡ e → IsWrittenAs columns of written r
 good_from columns of written r e is reads = is ∙ ap written (sym (ap of is ∙ reads))
 
 -- ---- how the rows of the tables with a number for a key are stored
@@ -59,10 +60,12 @@ abbrev pub meta_stored : ℕ × (ℕ × Option ℕ) → Row
 meta_stored e = int e.0 ∷ Null ∷ int e.1.0 ∷ maybe_int e.1.1 ∷ []
 
 abbrev pub room_stored : RoomRow → Row
-room_stored r = int r.room ∷ Null ∷ Text r.kind ∷ int r.lock_place ∷ int r.codes ∷ int (bit_of r.secured) ∷ maybe_int r.party ∷ int r.notes ∷ []
+room_stored r = int r.room ∷ Null ∷ Text r.kind ∷ int r.lock_place ∷ int r.codes ∷ int (bit_of r.secured)
+    ∷ maybe_int r.party ∷ int r.notes ∷ []
 
 abbrev pub stay_stored : Stay → Row
-stay_stored s = int s.party ∷ Null ∷ Text s.guest ∷ Text s.kind ∷ int s.arrive ∷ int s.depart ∷ int (state_number s.state) ∷ maybe_int (room_of_state s.state) ∷ []
+stay_stored s = int s.party ∷ Null ∷ Text s.guest ∷ Text s.kind ∷ int s.arrive ∷ int s.depart
+    ∷ int (state_number s.state) ∷ maybe_int (room_of_state s.state) ∷ []
 
 abbrev pub code_stored : ℕ → CodeRow → Row
 code_stored code c = int code ∷ Null ∷ int c.room ∷ int c.place ∷ []
@@ -91,19 +94,24 @@ stay_good s = good_from stay_columns stay_of stay_written (stay_stored s) (s.par
 
 -- ---- the number of a row is its key
 
-pub meta_numbered : (r : Row) → IsWrittenAs meta_columns meta_of meta_written r → column r 0 ≡ int (meta_of (meta_columns r)).0
+pub meta_numbered : (r : Row) → IsWrittenAs meta_columns meta_of meta_written r
+    → column r 0 ≡ int (meta_of (meta_columns r)).0
 meta_numbered r good = ap (λ v. column v 0) good
 
-pub room_numbered : (r : Row) → IsWrittenAs room_columns room_of room_written r → column r 0 ≡ int (room_of (room_columns r)).0
+pub room_numbered : (r : Row) → IsWrittenAs room_columns room_of room_written r
+    → column r 0 ≡ int (room_of (room_columns r)).0
 room_numbered r good = ap (λ v. column v 0) good
 
-pub stay_numbered : (r : Row) → IsWrittenAs stay_columns stay_of stay_written r → column r 0 ≡ int (stay_of (stay_columns r)).0
+pub stay_numbered : (r : Row) → IsWrittenAs stay_columns stay_of stay_written r
+    → column r 0 ≡ int (stay_of (stay_columns r)).0
 stay_numbered r good = ap (λ v. column v 0) good
 
-pub code_numbered : (r : Row) → IsWrittenAs code_columns code_of code_written r → column r 0 ≡ int (code_of (code_columns r)).0
+pub code_numbered : (r : Row) → IsWrittenAs code_columns code_of code_written r
+    → column r 0 ≡ int (code_of (code_columns r)).0
 code_numbered r good = ap (λ v. column v 0) good
 
-pub card_numbered : (r : Row) → IsWrittenAs card_columns card_of card_written r → column r 0 ≡ int (card_of (card_columns r)).0
+pub card_numbered : (r : Row) → IsWrittenAs card_columns card_of card_written r
+    → column r 0 ≡ int (card_of (card_columns r)).0
 card_numbered r good = ap (λ v. column v 0) good
 
 -- ---- the tables whose rows have a number of their own

@@ -22,11 +22,15 @@ use Rattle.hotel_statements.proofs.Perm.{found_of}
 use Rattle.hotel_statements.proofs.Statements.Terms.{by_rowid}
 use Rattle.hotel_statements.proofs.Made.Entries.{few}
 
-module _ {X : Type 0} (columns : Row → Row) (of : Row → ℕ × X) (written : ℕ × X → Row) (numbered : (r : Row) → IsWrittenAs columns of written r → column r 0 ≡ int (of (columns r)).0) where
-  tested : (k : ℕ) (more r : Row) → IsWrittenAs columns of written r → passes by_rowid (int k ∷ more) r ≡ eqb (of (columns r)).0 k
-  tested k more r good = and_true _ ∙ ap (λ v. is_true (binary (Compare Eq Binary) v (int k))) (numbered r good) ∙ equals (of (columns r)).0 k
+module _ {X : Type 0} (columns : Row → Row) (of : Row → ℕ × X) (written : ℕ × X → Row)
+    (numbered : (r : Row) → IsWrittenAs columns of written r → column r 0 ≡ int (of (columns r)).0) where
+  tested : (k : ℕ) (more r : Row)
+      → IsWrittenAs columns of written r → passes by_rowid (int k ∷ more) r ≡ eqb (of (columns r)).0 k
+  tested k more r good = and_true _
+      ∙ ap (λ v. is_true (binary (Compare Eq Binary) v (int k))) (numbered r good) ∙ equals (of (columns r)).0 k
 
-  same_filter : (k : ℕ) (more : Row) (rows : List Row) → AllByRecursion (IsWrittenAs columns of written) rows → filter (passes by_rowid (int k ∷ more)) rows ≡ filter (λ r. eqb (of (columns r)).0 k) rows
+  same_filter : (k : ℕ) (more : Row) (rows : List Row) → AllByRecursion (IsWrittenAs columns of written) rows
+      → filter (passes by_rowid (int k ∷ more)) rows ≡ filter (λ r. eqb (of (columns r)).0 k) rows
   same_filter k more [] good = refl
   same_filter k more (r ∷ rows) good = rw (tested k more r good.0, same_filter k more rows good.1) refl
 
@@ -43,17 +47,31 @@ module _ {X : Type 0} (columns : Row → Row) (of : Row → ℕ × X) (written :
   empty [] same = refl
   empty (o ∷ os) same = absurd (omega (arith, length_permutation _ _ same))
 
-  pub sourced : (tree : ℕ) (terms : List Term) (k : ℕ) (more : Row) (db : Trees) (given : List Row) → overlay db [] tree ≡ db tree → IsTable (by_key nat_cmp) columns of written (db tree) → IsAnswer (single tree by_rowid terms []) (overlay db []) (int k ∷ more) given
-      → ((filter (λ r. eqb (of (columns r)).0 k) (db tree) ≡ []) × (given ≡ [])) ⊎ ((r : Row) × Sourced terms k more (db tree) given r)
+  pub sourced : (tree : ℕ) (terms : List Term) (k : ℕ) (more : Row) (db : Trees) (given : List Row)
+      → overlay db [] tree ≡ db tree → IsTable (by_key nat_cmp) columns of written (db tree)
+      → IsAnswer (single tree by_rowid terms []) (overlay db []) (int k ∷ more) given
+      → ((filter (λ r. eqb (of (columns r)).0 k) (db tree) ≡ []) × (given ≡ []))
+      ⊎ ((r : Row) × Sourced terms k more (db tree) given r)
   sourced tree terms k more db given bare was a =
       let it = answered tree by_rowid terms [] (overlay db []) (int k ∷ more) given a in
-      let answers = subst (λ rs. IsPermutation (map (outs tree terms (int k ∷ more)) (filter (passes by_rowid (int k ∷ more)) rs)) it.ordered) bare it.same in
+      let answers = subst (λ rs. IsPermutation
+      (map (outs tree terms (int k ∷ more)) (filter (passes by_rowid (int k ∷ more)) rs)) it.ordered) bare it.same in
       let same = same_filter k more (db tree) was.good in
       elim (few columns of written numbered k (db tree) was.apart) [
         | inl none ↦
-            let ordered : it.ordered ≡ [] = empty it.ordered (subst (λ rs. IsPermutation (map (outs tree terms (int k ∷ more)) rs) it.ordered) (same ∙ none) answers) in
+            let ordered : it.ordered ≡ [] = empty it.ordered
+            (subst (λ rs. IsPermutation (map (outs tree terms (int k ∷ more)) rs) it.ordered) (same ∙ none) answers) in
             inl (none, it.shown ∙ ap (map (λ o. o.1)) ordered)
         | inr one ↦
-            let ordered : it.ordered ≡ outs tree terms (int k ∷ more) one.0 ∷ [] = one_permutation _ it.ordered (subst (λ rs. IsPermutation (map (outs tree terms (int k ∷ more)) rs) it.ordered) (same ∙ one.1) answers) in
-            inr (one.0, record { found = one.1; good = found_of (IsWrittenAs columns of written) (λ r. eqb (of (columns r)).0 k) (db tree) one.0 was.good one.1; given_is = it.shown ∙ ap (map (λ o. o.1)) ordered })
+            let ordered : it.ordered ≡ outs tree terms (int k ∷ more) one.0 ∷ [] = one_permutation _ it.ordered
+            (subst (λ rs. IsPermutation (map (outs tree terms (int k ∷ more)) rs) it.ordered) (same ∙ one.1) answers) in
+            inr (
+              one.0,
+              record {
+                found = one.1;
+                good = found_of (IsWrittenAs columns of written) (λ r. eqb (of (columns r)).0 k)
+                    (db tree) one.0 was.good one.1;
+                given_is = it.shown ∙ ap (map (λ o. o.1)) ordered;
+              },
+            )
       ]

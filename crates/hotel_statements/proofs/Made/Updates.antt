@@ -56,7 +56,8 @@ use Rattle.hotel_statements.proofs.Made.Writes.{at_place, IsOn, wrote}
 abbrev update : ℕ → ℕ → List Term → Command
 update at tree terms = Update at (record { lets = []; body = single tree by_rowid terms [] })
 
-module _ {X : Type 0} (columns : Row → Row) (of : Row → ℕ × X) (written : ℕ × X → Row) (numbered : (r : Row) → IsWrittenAs columns of written r → column r 0 ≡ int (of (columns r)).0) where
+module _ {X : Type 0} (columns : Row → Row) (of : Row → ℕ × X) (written : ℕ × X → Row)
+    (numbered : (r : Row) → IsWrittenAs columns of written r → column r 0 ≡ int (of (columns r)).0) where
   abbrev read : Row → ℕ × X
   read r = of (columns r)
 
@@ -73,11 +74,16 @@ module _ {X : Type 0} (columns : Row → Row) (of : Row → ℕ × X) (written :
   pub record Sets (tree k : ℕ) (f : X → X) (old new : State) : Type 0 where
     pub rows : List Row
     pub changes : Changed tree rows old new
-    pub made : IsTable (by_key nat_cmp) columns of written rows × (listed (by_key nat_cmp) read rows ≡ changed_at k f (listed (by_key nat_cmp) read (old.now.trees tree)))
+    pub made : IsTable (by_key nat_cmp) columns of written rows
+        × (listed (by_key nat_cmp) read rows ≡ changed_at k f (listed (by_key nat_cmp) read (old.now.trees tree)))
 
-  pub sets : {at : ℕ} {text : List ℕ} {terms : List Term} (tree : ℕ) (t : Table) (k : ℕ) (more : Row) (f : X → X) (source stored : Row → Row) (old new : State) (count : ℕ) → overlay old.now.trees [] tree ≡ old.now.trees tree → Does text (update at tree terms)
-      → IsOn tree t (statement_of text (understood desk_schema text)) (update at tree terms) old (int k ∷ more) → Gives (at_place tree t) terms (int k ∷ more) f source stored
-      → old.now.schema ≡ desk_schema → IsTable (by_key nat_cmp) columns of written (old.now.trees tree) → ExecutesIn false text (int k ∷ more) old new (Ok count) → Sets tree k f old new
+  pub sets : {at : ℕ} {text : List ℕ} {terms : List Term} (tree : ℕ) (t : Table) (k : ℕ)
+      (more : Row) (f : X → X) (source stored : Row → Row) (old new : State) (count : ℕ)
+      → overlay old.now.trees [] tree ≡ old.now.trees tree → Does text (update at tree terms)
+      → IsOn tree t (statement_of text (understood desk_schema text)) (update at tree terms) old (int k ∷ more)
+      → Gives (at_place tree t) terms (int k ∷ more) f source stored
+      → old.now.schema ≡ desk_schema → IsTable (by_key nat_cmp) columns of written (old.now.trees tree)
+      → ExecutesIn false text (int k ∷ more) old new (Ok count) → Sets tree k f old new
   sets {at} {text} {terms} tree t k more f source stored old new count bare does on gives has was h =
       let db = old.now.trees in
       let keys = (mode_of old).keys in
@@ -85,24 +91,46 @@ module _ {X : Type 0} (columns : Row → Row) (of : Row → ℕ × X) (written :
       let done = wrote old new tree t text (int k ∷ more) (update at tree terms) count does (λ w. w) on has h in
       let given = went done.1 in
       let put = went given.2 in
-      let after = done.2 ∙ ap (λ (it : Written). record { schema = desk_schema; trees = it.trees }) (same_value put.2) in
+      let after =
+      done.2 ∙ ap (λ (it : Written). record { schema = desk_schema; trees = it.trees }) (same_value put.2) in
       elim (sourced columns of written numbered tree terms k more db given.0 bare was (given.1.answer Null)) [
         | inl none ↦
-            let went_in = subst (λ all. Edited desk_schema keys db (edit_of db table (ids_of all) Given 1 all) (Ok put.0)) none.1 put.1 in
+            let went_in = subst
+            (λ all. Edited desk_schema keys db (edit_of db table (ids_of all) Given 1 all) (Ok put.0)) none.1 put.1 in
             let applied = one_step desk_schema keys db put.0 (edit_of db table [] Given 1 []) refl went_in in
-            record { rows = db tree; changes = changed old new put.0 tree (db tree) after applied.rows applied.tables; made = update_makes columns of written numbered k f (db tree) (db tree) was (inl (none.0, refl)) }
+            record {
+              rows = db tree;
+              changes = changed old new put.0 tree (db tree) after applied.rows applied.tables;
+              made = update_makes columns of written numbered k f (db tree) (db tree) was (inl (none.0, refl));
+            }
         | inr one ↦
             let r = one.0 in
             let e = read r in
-            let number : e.0 ≡ k = (let t = filter_passes (λ r. eqb (read r).0 k) (db tree) r one.1.found in grind (arith, nat_tests, t)) in
-            let went_in = subst (λ all. Edited desk_schema keys db (edit_of db table (ids_of all) Given 1 all) (Ok put.0)) (one.1.given_is ∙ ap (λ s. s ∷ []) (gives.given r one.1.good)) put.1 in
+            let number : e.0 ≡ k =
+            (let t = filter_passes (λ r. eqb (read r).0 k) (db tree) r one.1.found in grind (arith, nat_tests, t)) in
+            let went_in =
+            subst (λ all. Edited desk_schema keys db (edit_of db table (ids_of all) Given 1 all) (Ok put.0))
+            (one.1.given_is ∙ ap (λ s. s ∷ []) (gives.given r one.1.good)) put.1 in
             let edit = edit_of db table (ids_of (source r ∷ [])) Given 1 (source r ∷ []) in
             let applied = one_step desk_schema keys db put.0 edit refl went_in in
             let rows = put_row (stored r) (without_rowid (pos k) (db tree)) in
-            let out : edited db edit ≡ rows = ap₂ (λ new id. put_row new (without_rowid (id_in id) (db tree))) (gives.cast r) (gives.number r) ∙ ap (λ n. put_row (stored r) (without_rowid (pos n) (db tree))) number in
+            let out : edited db edit ≡ rows =
+            ap₂ (λ new id. put_row new (without_rowid (id_in id) (db tree))) (gives.cast r) (gives.number r)
+            ∙ ap (λ n. put_row (stored r) (without_rowid (pos n) (db tree))) number in
             let updated : Updated columns of written numbered k f (db tree) rows r =
-            record { found = one.1.found; new = stored r; after_is = refl; good = gives.good r; reads = gives.reads r ∙ ap (λ n. (n, f e.1)) number; id = gives.id r ∙ ap int number } in
-            record { rows = rows; changes = changed old new put.0 tree rows after (applied.rows ∙ out) applied.tables; made = update_makes columns of written numbered k f (db tree) rows was (inr (r, updated)) }
+            record {
+              found = one.1.found;
+              new = stored r;
+              after_is = refl;
+              good = gives.good r;
+              reads = gives.reads r ∙ ap (λ n. (n, f e.1)) number;
+              id = gives.id r ∙ ap int number;
+            } in
+            record {
+              rows = rows;
+              changes = changed old new put.0 tree rows after (applied.rows ∙ out) applied.tables;
+              made = update_makes columns of written numbered k f (db tree) rows was (inr (r, updated));
+            }
       ]
 
 -- ---- the day of meta
@@ -125,7 +153,8 @@ day_step old new day count h mid =
       reads = λ r. meta_reads ((e r).0, ((e r).1.0, Some day));
       id = λ r. refl;
     }) was.schema was.tables.meta h.0 in
-    steps old new (day_set day) h.1 did.changes (desk.day_set was.tables (did.made.0, did.made.1 ∙ ap (changed_at 1 (λ x. (x.0, Some day))) was.tables.meta_row.1))
+    steps old new (day_set day) h.1 did.changes
+    (desk.day_set was.tables (did.made.0, did.made.1 ∙ ap (changed_at 1 (λ x. (x.0, Some day))) was.tables.meta_row.1))
 
 -- ---- a room
 
@@ -137,12 +166,15 @@ rooms_same k f (e ∷ es) = ap (λ rest. if e.0 == k then (e.0, f e.1) ∷ es el
 abbrev no_fit : FitRow
 no_fit = record { room = 0; fit = 0; place = 0; before = 0 }
 
-rooms_step : {text : List ℕ} {terms : List Term} (room : ℕ) (more : Row) (f : RoomRow → RoomRow) (source : RoomRow → Row) (old new : State) (count : ℕ) → ((x : RoomRow) → (f x).room ≡ x.room)
+rooms_step : {text : List ℕ} {terms : List Term} (room : ℕ) (more : Row) (f : RoomRow → RoomRow)
+    (source : RoomRow → Row) (old new : State) (count : ℕ) → ((x : RoomRow) → (f x).room ≡ x.room)
     → ((last : Option FitRow) (x : RoomRow) → with_last last (f x) ≡ f (with_last last x))
     → Does text (update 2 room_tree terms)
     → IsOn room_tree room_table (statement_of text (understood desk_schema text)) (update 2 room_tree terms) old
     (int room ∷ more)
-    → ((r : Row) → IsWrittenAs room_columns room_of room_written r → eval_all terms (env (int room ∷ more) r) ≡ source (room_of (room_columns r)).1) → ((x : RoomRow) → rowid (source x) ≡ int x.room)
+    → ((r : Row) → IsWrittenAs room_columns room_of room_written r
+    → eval_all terms (env (int room ∷ more) r) ≡ source (room_of (room_columns r)).1)
+    → ((x : RoomRow) → rowid (source x) ≡ int x.room)
     → ((x : RoomRow) → cast_row (at_place room_tree room_table) (drop 1 (source x)) ≡ room_stored (f x))
     → ExecutesInside 0 text (int room ∷ more) old new (Ok count) → IsMidWith AnyRows old
     → MovesRows old new (λ rows. record rows { rooms = room_changed room f rows.rooms })
@@ -167,14 +199,24 @@ rooms_step room more f source old new count same apart does on given number cast
           (room_moved (fits_in db) room f apart (bare_rooms_in db)),
     )
 
-pub issued_step : (old new : State) (room codes party : ℕ) (count : ℕ) → ExecutesInside 0 update_issued (int room ∷ int codes ∷ int party ∷ []) old new (Ok count)
+pub issued_step : (old new : State) (room codes party : ℕ) (count : ℕ)
+    → ExecutesInside 0 update_issued (int room ∷ int codes ∷ int party ∷ []) old new (Ok count)
     → IsMidWith AnyRows old → MovesRows old new (room_issued room codes party)
 issued_step old new room codes party count =
     rooms_step room _ (λ x. record x { codes = codes; secured = false; party = Some party })
     (λ x. int x.room ∷ int x.room ∷ Null ∷ Text x.kind ∷ int x.lock_place ∷ int codes ∷ int 0 ∷ int party ∷ int x.notes
     ∷ []) old new count (λ x. refl) (λ last x. refl) changes.update_issued (λ _ does. does)
-    (λ r good. ap (λ (v : Row). column v 0 ∷ column v 0 ∷ Null ∷ column v 1 ∷ column v 2 ∷ int codes ∷ int 0 ∷ int party ∷ column v 6 ∷ []) good) (λ x. refl)
-    (λ x. rw (cast_null, cast_int (pos x.room), cast_int (pos x.lock_place), cast_int (pos codes), cast_int (pos 0), cast_int (pos party), cast_int (pos x.notes)) refl)
+    (λ r good. ap (λ (v : Row). column v 0 ∷ column v 0 ∷ Null ∷ column v 1 ∷ column v 2 ∷ int codes ∷ int 0 ∷ int party
+    ∷ column v 6 ∷ []) good) (λ x. refl)
+    (λ x. rw (
+      cast_null,
+      cast_int (pos x.room),
+      cast_int (pos x.lock_place),
+      cast_int (pos codes),
+      cast_int (pos 0),
+      cast_int (pos party),
+      cast_int (pos x.notes),
+    ) refl)
 
 pub freed_step : (old new : State) (room : ℕ) (count : ℕ)
     → ExecutesInside 0 update_party (int room ∷ []) old new (Ok count) → IsMidWith AnyRows old
@@ -183,18 +225,36 @@ freed_step old new room count =
     rooms_step room _ (λ x. record x { party = None })
     (λ x. int x.room ∷ int x.room ∷ Null ∷ Text x.kind ∷ int x.lock_place ∷ int x.codes ∷ int (bit_of x.secured) ∷ Null
     ∷ int x.notes ∷ []) old new count (λ x. refl) (λ last x. refl) changes.update_party (λ _ does. does)
-    (λ r good. ap (λ (v : Row). column v 0 ∷ column v 0 ∷ Null ∷ column v 1 ∷ column v 2 ∷ column v 3 ∷ column v 4 ∷ Null ∷ column v 6 ∷ []) good) (λ x. refl)
-    (λ x. rw (cast_null, cast_int (pos x.room), cast_int (pos x.lock_place), cast_int (pos x.codes), cast_int (pos (bit_of x.secured)), cast_int (pos x.notes)) refl)
+    (λ r good. ap (λ (v : Row). column v 0 ∷ column v 0 ∷ Null ∷ column v 1 ∷ column v 2 ∷ column v 3 ∷ column v 4
+    ∷ Null ∷ column v 6 ∷ []) good) (λ x. refl)
+    (λ x. rw (
+      cast_null,
+      cast_int (pos x.room),
+      cast_int (pos x.lock_place),
+      cast_int (pos x.codes),
+      cast_int (pos (bit_of x.secured)),
+      cast_int (pos x.notes),
+    ) refl)
 
-pub noted_step : (old new : State) (room lock_place : ℕ) (secured : Bool) (notes : ℕ) (count : ℕ) → ExecutesInside 0 update_noted (int room ∷ int lock_place ∷ int (bit_of secured) ∷ int notes ∷ []) old new (Ok count)
+pub noted_step : (old new : State) (room lock_place : ℕ) (secured : Bool) (notes : ℕ) (count : ℕ) → ExecutesInside 0
+    update_noted (int room ∷ int lock_place ∷ int (bit_of secured) ∷ int notes ∷ []) old new (Ok count)
     → IsMidWith AnyRows old → MovesRows old new (room_noted room lock_place secured notes)
 noted_step old new room lock_place secured notes count =
     rooms_step room _ (λ x. record x { lock_place = lock_place; secured = secured; notes = notes })
     (λ x. int x.room ∷ int x.room ∷ Null ∷ Text x.kind ∷ int lock_place ∷ int x.codes ∷ int (bit_of secured)
     ∷ maybe_int x.party ∷ int notes ∷ []) old new count (λ x. refl) (λ last x. refl) changes.update_noted
     (λ _ does. does)
-    (λ r good. ap (λ (v : Row). column v 0 ∷ column v 0 ∷ Null ∷ column v 1 ∷ int lock_place ∷ column v 3 ∷ int (bit_of secured) ∷ column v 5 ∷ int notes ∷ []) good) (λ x. refl)
-    (λ x. rw (cast_null, cast_int (pos x.room), cast_int (pos lock_place), cast_int (pos x.codes), cast_int (pos (bit_of secured)), cast_maybe x.party, cast_int (pos notes)) refl)
+    (λ r good. ap (λ (v : Row). column v 0 ∷ column v 0 ∷ Null ∷ column v 1 ∷ int lock_place ∷ column v 3
+    ∷ int (bit_of secured) ∷ column v 5 ∷ int notes ∷ []) good) (λ x. refl)
+    (λ x. rw (
+      cast_null,
+      cast_int (pos x.room),
+      cast_int (pos lock_place),
+      cast_int (pos x.codes),
+      cast_int (pos (bit_of secured)),
+      cast_maybe x.party,
+      cast_int (pos notes),
+    ) refl)
 
 pub refitted_step : (old new : State) (room lock_place codes : ℕ) (count : ℕ)
     → ExecutesInside 0 update_refitted (int room ∷ int lock_place ∷ int codes ∷ []) old new (Ok count)
@@ -219,23 +279,35 @@ refitted_step old new room lock_place codes count =
 
 stays_same : (k : ℕ) (state : StayState) (es : List (ℕ × Stay)) → changed_at k (now_is state) es ≡ in_state k state es
 stays_same k state [] = refl
-stays_same k state (e ∷ es) = ap (λ rest. if e.0 == k then (e.0, now_is state e.1) ∷ es else e ∷ rest) (stays_same k state es)
+stays_same k state (e ∷ es) =
+    ap (λ rest. if e.0 == k then (e.0, now_is state e.1) ∷ es else e ∷ rest) (stays_same k state es)
 
-pub state_step : (old new : State) (party : ℕ) (state : StayState) (count : ℕ) → ExecutesInside 0 update_state (int party ∷ int (state_number state) ∷ maybe_int (room_of_state state) ∷ []) old new (Ok count)
+pub state_step : (old new : State) (party : ℕ) (state : StayState) (count : ℕ) → ExecutesInside 0 update_state
+    (int party ∷ int (state_number state) ∷ maybe_int (room_of_state state) ∷ []) old new (Ok count)
     → IsMidWith AnyRows old → MovesRows old new (stay_set party state)
 state_step old new party state count h mid =
     let was = (mid h.1.was_open).0 in
     let x = λ (r : Row). (stay_of (stay_columns r)).1 in
     let now = int (state_number state) ∷ maybe_int (room_of_state state) ∷ [] in
     let did = sets stay_columns stay_of stay_written stay_numbered stay_tree stay_table party now (now_is state)
-    (λ r. int (x r).party ∷ int (x r).party ∷ Null ∷ Text (x r).guest ∷ Text (x r).kind ∷ int (x r).arrive ∷ int (x r).depart ∷ now) (λ r. stay_stored (now_is state (x r))) old new count refl
+    (λ r. int (x r).party ∷ int (x r).party ∷ Null ∷ Text (x r).guest ∷ Text (x r).kind ∷ int (x r).arrive
+    ∷ int (x r).depart ∷ now) (λ r. stay_stored (now_is state (x r))) old new count refl
     changes.update_state (λ _ does. does)
     (record {
-      given = λ r good. ap (λ (v : Row). column v 0 ∷ column v 0 ∷ Null ∷ column v 1 ∷ column v 2 ∷ column v 3 ∷ column v 4 ∷ now) good;
+      given = λ r good. ap
+          (λ (v : Row). column v 0 ∷ column v 0 ∷ Null ∷ column v 1 ∷ column v 2 ∷ column v 3 ∷ column v 4 ∷ now) good;
       number = λ r. refl;
-      cast = λ r. rw (cast_null, cast_int (pos (x r).party), cast_int (pos (x r).arrive), cast_int (pos (x r).depart), cast_int (pos (state_number state)), cast_maybe (room_of_state state)) refl;
+      cast = λ r. rw (
+        cast_null,
+        cast_int (pos (x r).party),
+        cast_int (pos (x r).arrive),
+        cast_int (pos (x r).depart),
+        cast_int (pos (state_number state)),
+        cast_maybe (room_of_state state),
+      ) refl;
       good = λ r. stay_good (now_is state (x r));
       reads = λ r. stay_reads (now_is state (x r));
       id = λ r. refl;
     }) was.schema was.tables.stay h.0 in
-    steps old new (stay_set party state) h.1 did.changes (stays_set was.tables (did.made.0, did.made.1 ∙ stays_same party state (rows_in old.now.trees).stays))
+    steps old new (stay_set party state) h.1 did.changes
+    (stays_set was.tables (did.made.0, did.made.1 ∙ stays_same party state (rows_in old.now.trees).stays))

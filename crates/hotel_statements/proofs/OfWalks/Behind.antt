@@ -66,23 +66,27 @@ use Rattle.hotel_statements.proofs.OfWalks.Joined.{made_of_each, rise_alike, sai
 -- ---- sums of numbers in statements, where 64 bits hold them
 
 fitting : (n : ℕ) → n < 2 ^ 63 → if_fits (pos n) ≡ Some (pos n)
-fitting n low = let fits : nat_lt n (2 ^ 63) ≡ true = grind (arith, nat_tests) in ap (λ b. if b then Some (pos n) else None) fits
+fitting n low =
+    let fits : nat_lt n (2 ^ 63) ≡ true = grind (arith, nat_tests) in ap (λ b. if b then Some (pos n) else None) fits
 
 plus : (a b : ℕ) → a + b < 2 ^ 63 → binary (Arith Add) (int a) (int b) ≡ int (a + b)
 unfolding binary
 plus a b low =
-    ap (λ z. int_or (if_fits z) (real_arith Add (from_int (pos a)) (from_int (pos b)))) (pos-+ℤ-pos a b) ∙ ap (λ o. int_or o (real_arith Add (from_int (pos a)) (from_int (pos b)))) (fitting (a + b) low)
+    ap (λ z. int_or (if_fits z) (real_arith Add (from_int (pos a)) (from_int (pos b)))) (pos-+ℤ-pos a b)
+    ∙ ap (λ o. int_or o (real_arith Add (from_int (pos a)) (from_int (pos b)))) (fitting (a + b) low)
 
 minus_one : (n last : ℕ) → n ≡ suc last → last < 2 ^ 63 → binary (Arith Sub) (int n) (int 1) ≡ int last
 unfolding binary
 minus_one n last is low =
     ap (λ m. int_or (if_fits (pos m -ℤ pos 1)) (real_arith Sub (from_int (pos m)) (from_int (pos 1)))) is
-    ∙ ap (λ z. int_or (if_fits z) (real_arith Sub (from_int (pos (suc last))) (from_int (pos 1)))) (-ℤ_one (pos (suc last)))
+    ∙ ap (λ z. int_or (if_fits z) (real_arith Sub (from_int (pos (suc last))) (from_int (pos 1))))
+    (-ℤ_one (pos (suc last)))
     ∙ ap (λ o. int_or o (real_arith Sub (from_int (pos (suc last))) (from_int (pos 1)))) (fitting last low)
 
 abbrev test : List Term
 test =
-    compare Eq (col 2 2) (col 1 0) ∷ compare Eq (col 2 3) (col 1 3) ∷ compare Eq (col 3 2) (col 1 0) ∷ compare Eq (col 3 3) (op2 (Arith Sub) (col 1 4) (lit (Int (pos 1))))
+    compare Eq (col 2 2) (col 1 0) ∷ compare Eq (col 2 3) (col 1 3) ∷ compare Eq (col 3 2) (col 1 0)
+    ∷ compare Eq (col 3 3) (op2 (Arith Sub) (col 1 4) (lit (Int (pos 1))))
     ∷ compare Lt (op2 (Arith Add) (col 1 3) (lit (Int (pos 2)))) (col 1 4) ∷ []
 
 abbrev project : List Term
@@ -194,8 +198,10 @@ module _ (db : Trees) (t : AreTables db) (sound : IsSound (rows_in db)) where
       (every_shuffled Known rooms (map (λ r. room_of (room_columns r)) (db room_tree))
       (IsPermutation-sort_by (by_key nat_cmp) (key_total nat_cmp_total) _) (finds_itself rooms rooms_rise)))
 
-  tests_there : (r c d : Row) → GoodRoom r → IsWrittenAs code_columns code_of code_written c → IsWrittenAs code_columns code_of code_written d
-      → list_all (holds ([] ∷ r ∷ c ∷ d ∷ [])) test ≡ are_there (room_of (room_columns r)) (code_of (code_columns c)) (code_of (code_columns d))
+  tests_there : (r c d : Row) → GoodRoom r → IsWrittenAs code_columns code_of code_written c
+      → IsWrittenAs code_columns code_of code_written d
+      → list_all (holds ([] ∷ r ∷ c ∷ d ∷ [])) test
+      ≡ are_there (room_of (room_columns r)) (code_of (code_columns c)) (code_of (code_columns d))
   tests_there r c d room held last =
       let e = room_of (room_columns r) in
       let x = code_of (code_columns c) in
@@ -206,22 +212,34 @@ module _ (db : Trees) (t : AreTables db) (sound : IsSound (rows_in db)) where
       let number = ap (λ v. column v 0) room.0 in
       let place = ap (λ v. column v 2) room.0 in
       let codes = ap (λ v. column v 3) room.0 in
-      let at_room : eq (column c 2) (column r 0) ≡ eqb x.1.room e.0 = ap₂ eq (ap (λ v. column v 1) held) number ∙ equals x.1.room e.0 in
-      let at_lock : eq (column c 3) (column r 3) ≡ eqb x.1.place e.1.lock_place = ap₂ eq (ap (λ v. column v 2) held) place ∙ equals x.1.place e.1.lock_place in
-      let in_room : eq (column d 2) (column r 0) ≡ eqb y.1.room e.0 = ap₂ eq (ap (λ v. column v 1) last) number ∙ equals y.1.room e.0 in
-      let less_one : binary (Arith Sub) (column r 4) (int 1) ≡ int (e.1.codes - 1) = ap (λ v. binary (Arith Sub) v (int 1)) codes ∙ minus_one e.1.codes (e.1.codes - 1) (omega (arith, lock)) (omega (arith, few)) in
+      let at_room : eq (column c 2) (column r 0) ≡ eqb x.1.room e.0 =
+      ap₂ eq (ap (λ v. column v 1) held) number ∙ equals x.1.room e.0 in
+      let at_lock : eq (column c 3) (column r 3) ≡ eqb x.1.place e.1.lock_place =
+      ap₂ eq (ap (λ v. column v 2) held) place ∙ equals x.1.place e.1.lock_place in
+      let in_room : eq (column d 2) (column r 0) ≡ eqb y.1.room e.0 =
+      ap₂ eq (ap (λ v. column v 1) last) number ∙ equals y.1.room e.0 in
+      let less_one : binary (Arith Sub) (column r 4) (int 1) ≡ int (e.1.codes - 1) =
+      ap (λ v. binary (Arith Sub) v (int 1)) codes
+      ∙ minus_one e.1.codes (e.1.codes - 1) (omega (arith, lock)) (omega (arith, few)) in
       let at_last : eq (column d 3) (binary (Arith Sub) (column r 4) (int 1)) ≡ eqb y.1.place (e.1.codes - 1) =
       ap₂ eq (ap (λ v. column v 2) last) less_one ∙ equals y.1.place (e.1.codes - 1) in
-      let two_more : binary (Arith Add) (column r 3) (int 2) ≡ int (e.1.lock_place + 2) = ap (λ v. binary (Arith Add) v (int 2)) place ∙ plus e.1.lock_place 2 (omega (arith, lock, few)) in
-      let is_late : is_true (binary (Compare Lt Binary) (binary (Arith Add) (column r 3) (int 2)) (column r 4)) ≡ late e =
+      let two_more : binary (Arith Add) (column r 3) (int 2) ≡ int (e.1.lock_place + 2) =
+      ap (λ v. binary (Arith Add) v (int 2)) place ∙ plus e.1.lock_place 2 (omega (arith, lock, few)) in
+      let is_late : is_true (binary (Compare Lt Binary) (binary (Arith Add) (column r 3) (int 2)) (column r 4))
+      ≡ late e =
       ap₂ (λ v w. is_true (binary (Compare Lt Binary) v w)) two_more codes ∙ less_than (e.1.lock_place + 2) e.1.codes in
-      ap₂ (λ a b. a && b) at_room (ap₂ (λ a b. a && b) at_lock (ap₂ (λ a b. a && b) in_room (ap₂ (λ a b. a && b) at_last (ap (λ a. a && true) is_late))))
-      ∙ grouped (eqb x.1.room e.0) (eqb x.1.place e.1.lock_place) (eqb y.1.room e.0) (eqb y.1.place (e.1.codes - 1)) (late e)
+      ap₂ (λ a b. a && b) at_room (ap₂ (λ a b. a && b) at_lock
+      (ap₂ (λ a b. a && b) in_room (ap₂ (λ a b. a && b) at_last (ap (λ a. a && true) is_late))))
+      ∙ grouped (eqb x.1.room e.0) (eqb x.1.place e.1.lock_place) (eqb y.1.room e.0)
+      (eqb y.1.place (e.1.codes - 1)) (late e)
 
-  shows : (r c d : Row) → GoodRoom r → IsWrittenAs code_columns code_of code_written c → IsWrittenAs code_columns code_of code_written d
-      → output behind_query ([] ∷ r ∷ c ∷ d ∷ []) ≡ shown (room_of (room_columns r), ((code_of (code_columns c)).0, (code_of (code_columns d)).0))
+  shows : (r c d : Row) → GoodRoom r → IsWrittenAs code_columns code_of code_written c
+      → IsWrittenAs code_columns code_of code_written d
+      → output behind_query ([] ∷ r ∷ c ∷ d ∷ [])
+      ≡ shown (room_of (room_columns r), ((code_of (code_columns c)).0, (code_of (code_columns d)).0))
   shows r c d room held last =
-      ap₂ (λ rc xc. from_columns rc xc (code_columns d)) room.0 held ∙ ap (from_columns (room_written (room_of (room_columns r))) (code_written (code_of (code_columns c)))) last
+      ap₂ (λ rc xc. from_columns rc xc (code_columns d)) room.0 held
+      ∙ ap (from_columns (room_written (room_of (room_columns r))) (code_written (code_of (code_columns c)))) last
 
   abbrev with_held : Room → Placed → List Output
   with_held e x = flat_map (λ y. if are_there e x y then shown (e, (x.0, y.0)) ∷ [] else []) rows.codes
@@ -241,12 +259,15 @@ module _ (db : Trees) (t : AreTables db) (sound : IsSound (rows_in db)) where
       (with_held (room_of (room_columns r))) t.code.good (λ c held.
       one_more_table db test behind_query (by_key nat_cmp) (key_total nat_cmp_total)
       (IsWrittenAs code_columns code_of code_written) (λ d. code_of (code_columns d)) code_tree end ([] ∷ r ∷ c ∷ [])
-      (λ y. if are_there (room_of (room_columns r)) (code_of (code_columns c)) y then shown (room_of (room_columns r), ((code_of (code_columns c)).0, y.0)) ∷ [] else []) t.code.good
-      (λ d last. last_table db test behind_query ([] ∷ r ∷ c ∷ d ∷ []) _ _ (tests_there r c d room held last) (shows r c d room held last))))
+      (λ y. if are_there (room_of (room_columns r)) (code_of (code_columns c)) y
+      then shown (room_of (room_columns r), ((code_of (code_columns c)).0, y.0)) ∷ [] else []) t.code.good
+      (λ d last. last_table db test behind_query ([] ∷ r ∷ c ∷ d ∷ []) _ _ (tests_there r c d room held last)
+      (shows r c d room held last))))
 
   -- each room has one code that its lock holds, and one last
   abbrev left : Room → Bool → Option ℕ → Option ℕ → Option Left
-  left e is_late held last = if is_late then said_of held None (λ code. option_map (λ current. (e, (code, current))) last) else None
+  left e is_late held last =
+      if is_late then said_of held None (λ code. option_map (λ current. (e, (code, current))) last) else None
 
   abbrev pair : Room → Option Left
   pair e = left e (late e) (code_at rows e.0 e.1.lock_place) (code_at rows e.0 (e.1.codes - 1))
@@ -258,24 +279,33 @@ module _ (db : Trees) (t : AreTables db) (sound : IsSound (rows_in db)) where
     abbrev with_code : Option ℕ → ℕ → List Output
     with_code last code = flat_map (λ current. shown (e, (code, current)) ∷ []) (option_to_list last)
 
-    with_last : (x : Placed) → flat_map (λ y. if stands e.0 (e.1.codes - 1) y then shown (e, (x.0, y.0)) ∷ [] else []) rows.codes ≡ with_code (code_at rows e.0 (e.1.codes - 1)) x.0
+    with_last : (x : Placed) → flat_map (λ y. if stands e.0 (e.1.codes - 1) y then shown (e, (x.0, y.0)) ∷ []
+        else []) rows.codes ≡ with_code (code_at rows e.0 (e.1.codes - 1)) x.0
     with_last x =
         where_it_passes (stands e.0 (e.1.codes - 1)) (λ (y : Placed). shown (e, (x.0, y.0)) ∷ []) rows.codes
         ∙ sym (flat_map-map (λ current. shown (e, (x.0, current)) ∷ []) (λ (y : Placed). y.0) lasts)
         ∙ ap (flat_map (λ current. shown (e, (x.0, current)) ∷ []))
         (standing rows sound codes_rise e.0 (row_at e) (there e known) (e.1.codes - 1))
 
-    one_held : (is_late : Bool) (x : Placed) → flat_map (λ y. if stands e.0 e.1.lock_place x && (stands e.0 (e.1.codes - 1) y && is_late) then shown (e, (x.0, y.0)) ∷ [] else []) rows.codes
-        ≡ (if stands e.0 e.1.lock_place x then (if is_late then with_code (code_at rows e.0 (e.1.codes - 1)) x.0 else []) else [])
+    one_held : (is_late : Bool) (x : Placed)
+        → flat_map (λ y. if stands e.0 e.1.lock_place x && (stands e.0 (e.1.codes - 1) y && is_late)
+        then shown (e, (x.0, y.0)) ∷ [] else []) rows.codes
+        ≡ (if stands e.0 e.1.lock_place x
+        then (if is_late then with_code (code_at rows e.0 (e.1.codes - 1)) x.0 else []) else [])
     one_held is_late x = by (stands e.0 e.1.lock_place x) is_late
       where
-        by : (s l : Bool) → flat_map (λ y. if s && (stands e.0 (e.1.codes - 1) y && l) then shown (e, (x.0, y.0)) ∷ [] else []) rows.codes
+        by : (s l : Bool) → flat_map (λ y. if s && (stands e.0 (e.1.codes - 1) y && l)
+            then shown (e, (x.0, y.0)) ∷ [] else []) rows.codes
             ≡ (if s then (if l then with_code (code_at rows e.0 (e.1.codes - 1)) x.0 else []) else [])
-        by true true = flat_map_same_on _ _ (λ y. ap (λ b. if b then shown (e, (x.0, y.0)) ∷ [] else []) (and_true _)) rows.codes ∙ with_last x
-        by true false = flat_map_none _ (λ y. ap (λ b. if b then shown (e, (x.0, y.0)) ∷ [] else []) (never true (stands e.0 (e.1.codes - 1) y))) rows.codes
+        by true true =
+            flat_map_same_on _ _ (λ y. ap (λ b. if b then shown (e, (x.0, y.0)) ∷ [] else []) (and_true _)) rows.codes
+            ∙ with_last x
+        by true false = flat_map_none _ (λ y. ap (λ b. if b then shown (e, (x.0, y.0)) ∷ [] else [])
+            (never true (stands e.0 (e.1.codes - 1) y))) rows.codes
         by false l = flat_map_none _ (λ y. refl) rows.codes
 
-    some_of : (is_late : Bool) (held last : Option ℕ) → flat_map (λ code. if is_late then with_code last code else []) (option_to_list held) ≡ map shown (option_to_list (left e is_late held last))
+    some_of : (is_late : Bool) (held last : Option ℕ) → flat_map (λ code. if is_late then with_code last code
+        else []) (option_to_list held) ≡ map shown (option_to_list (left e is_late held last))
     some_of true None last = refl
     some_of true (Some code) None = refl
     some_of true (Some code) (Some current) = refl
@@ -285,7 +315,8 @@ module _ (db : Trees) (t : AreTables db) (sound : IsSound (rows_in db)) where
     pub one_left : lefts_of e ≡ map shown (option_to_list (pair e))
     one_left =
         let made = λ (code : ℕ). if late e then with_code (code_at rows e.0 (e.1.codes - 1)) code else [] in
-        flat_map_same_on _ _ (one_held (late e)) rows.codes ∙ where_it_passes (stands e.0 e.1.lock_place) (λ (x : Placed). made x.0) rows.codes
+        flat_map_same_on _ _ (one_held (late e)) rows.codes
+        ∙ where_it_passes (stands e.0 e.1.lock_place) (λ (x : Placed). made x.0) rows.codes
         ∙ sym (flat_map-map made (λ (x : Placed). x.0) (filter (stands e.0 e.1.lock_place) rows.codes))
         ∙ ap (flat_map made) (standing rows sound codes_rise e.0 (row_at e) (there e known) e.1.lock_place)
         ∙ some_of (late e) (code_at rows e.0 e.1.lock_place) (code_at rows e.0 (e.1.codes - 1))
@@ -294,7 +325,8 @@ module _ (db : Trees) (t : AreTables db) (sound : IsSound (rows_in db)) where
     abbrev row_of : ℕ → ℕ → ℕ → BehindRow
     row_of room code current = record { room = room; held = code; current = current; awaited = awaited_on e.1 }
 
-    said : (is_late : Bool) (held last : Option ℕ) → option_map (λ y. behind_row_of (shown y).1) (left e is_late held last)
+    said : (is_late : Bool) (held last : Option ℕ)
+        → option_map (λ y. behind_row_of (shown y).1) (left e is_late held last)
         ≡ (if is_late then said_of held None (λ code. option_map (row_of e.0 code) last) else None)
     said true None last = refl
     said true (Some code) None = refl
@@ -306,14 +338,17 @@ module _ (db : Trees) (t : AreTables db) (sound : IsSound (rows_in db)) where
         let lock = lock_low e known in
         let as_late : late e ≡ nat_le 2 (awaited_on e.1) = grind (arith, nat_tests, lock) in
         said (late e) (code_at rows e.0 e.1.lock_place) (code_at rows e.0 (e.1.codes - 1))
-        ∙ ap (λ b. if b then said_of (code_at rows e.0 e.1.lock_place) None (λ code. option_map (row_of e.0 code) (code_at rows e.0 (e.1.codes - 1))) else None) as_late
-        ∙ ap (λ room. if nat_le 2 (awaited_on e.1) then said_of (code_at rows room e.1.lock_place) None (λ code. option_map (row_of room code) (code_at rows room (e.1.codes - 1))) else None)
+        ∙ ap (λ b. if b then said_of (code_at rows e.0 e.1.lock_place) None
+        (λ code. option_map (row_of e.0 code) (code_at rows e.0 (e.1.codes - 1))) else None) as_late
+        ∙ ap (λ room. if nat_le 2 (awaited_on e.1) then said_of (code_at rows room e.1.lock_place) None
+        (λ code. option_map (row_of room code) (code_at rows room (e.1.codes - 1))) else None)
         (sym (room_is rows sound e.0 (row_at e) (there e known)))
 
   all_left : (es : List Room) → AllByRecursion Known es → flat_map lefts_of es ≡ map shown (filter_map pair es)
   all_left es known = each es known ∙ made_of_each pair shown es
     where
-      each : (es : List Room) → AllByRecursion Known es → flat_map lefts_of es ≡ flat_map (λ e. map shown (option_to_list (pair e))) es
+      each : (es : List Room)
+          → AllByRecursion Known es → flat_map lefts_of es ≡ flat_map (λ e. map shown (option_to_list (pair e))) es
       each [] known = refl
       each (e ∷ es) known = ap₂ (λ a b. a ++ b) (one_left e known.0) (each es known.1)
 
@@ -323,7 +358,8 @@ module _ (db : Trees) (t : AreTables db) (sound : IsSound (rows_in db)) where
       by : (is_late : Bool) (held last : Option ℕ) → left e is_late held last ≡ Some y → y.0 ≡ e
       by true None last is = absurd cc
       by true (Some code) None is = absurd cc
-      by true (Some code) (Some current) is = let same : (e, (code, current)) ≡ y = cc in sym (ap (λ (z : Left). z.0) same)
+      by true (Some code) (Some current) is =
+          let same : (e, (code, current)) ≡ y = cc in sym (ap (λ (z : Left). z.0) same)
       by false held last is = absurd cc
 
   pub behind_said : (all : List BehindRow) → AnswersAll behind_row_of behind_query [] db all → all ≡ left_behind_on rows
@@ -336,7 +372,8 @@ module _ (db : Trees) (t : AreTables db) (sound : IsSound (rows_in db)) where
       let same : IsPermutation (map (output behind_query) (matches (overlay db []) test tables ([] ∷ [])))
       (map shown mine) = subst (IsPermutation _) (all_left rooms known) matched in
       let shows = sorted_answer tables test project order (overlay db []) [] a.0 (map shown mine) a.1 same up in
-      a.2 ∙ ap (map behind_row_of) (shows ∙ fused (λ (o : Output). o.1) shown mine) ∙ fused behind_row_of (λ y. (shown y).1) mine
+      a.2 ∙ ap (map behind_row_of) (shows ∙ fused (λ (o : Output). o.1) shown mine)
+      ∙ fused behind_row_of (λ y. (shown y).1) mine
       ∙ said_of_each pair (λ y. behind_row_of (shown y).1) (behind_row_on rows) rooms
       (all_weaker Known _ says rooms known)
       ∙ sym (values_kept rows.fits (behind_row_on rows) (λ last row. refl) rooms)

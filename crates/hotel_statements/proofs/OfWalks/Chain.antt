@@ -50,30 +50,35 @@ use Rattle.hotel_statements.proofs.OfWalks.SoundCodes.{all_both, Found, each_fou
 
 -- ---- numbers that rise, as many as there are in a range
 
-below_all : (x b : ℕ) (ps : List ℕ) → AllByRecursion (λ p. nat_cmp x p ≡ Less) ps → IsAscending (λ p q. nat_cmp p q ≡ Less) ps → AllByRecursion (λ p. p < b) ps → x < b → x + length ps < b
+below_all : (x b : ℕ) (ps : List ℕ) → AllByRecursion (λ p. nat_cmp x p ≡ Less) ps
+    → IsAscending (λ p q. nat_cmp p q ≡ Less) ps → AllByRecursion (λ p. p < b) ps → x < b → x + length ps < b
 below_all x b [] above up low first = omega (arith, first)
 below_all x b (p ∷ ps) above up low first =
     let more = below_all p b ps up.0 up.1 low.1 low.0 in
     let next : x < p = grind (arith, nat_tests, above.0) in
     omega (arith, more, next)
 
-full_range : (m n : ℕ) (ps : List ℕ) → IsAscending (λ p q. nat_cmp p q ≡ Less) ps → AllByRecursion (λ p. m ≤ p) ps → AllByRecursion (λ p. p < m + n) ps → length ps ≡ n → ps ≡ range_with_len m n
+full_range : (m n : ℕ) (ps : List ℕ) → IsAscending (λ p q. nat_cmp p q ≡ Less) ps → AllByRecursion (λ p. m ≤ p) ps
+    → AllByRecursion (λ p. p < m + n) ps → length ps ≡ n → ps ≡ range_with_len m n
 full_range m zero [] up low high long = refl
 full_range m (suc n) [] up low high long = absurd (omega (arith, long))
 full_range m zero (p ∷ ps) up low high long = absurd (omega (arith, long))
 full_range m (suc n) (p ∷ ps) up low high long =
     let far = below_all p (m + suc n) ps up.0 up.1 high.1 high.0 in
     let first : p ≡ m = omega (arith, far, long, low.0) in
-    let later = full_range (m + 1) n ps up.1 (all_weaker _ (λ q. m + 1 ≤ q) (λ q less. grind (arith, nat_tests, less, first)) ps up.0)
+    let later = full_range (m + 1) n ps up.1
+    (all_weaker _ (λ q. m + 1 ≤ q) (λ q less. grind (arith, nat_tests, less, first)) ps up.0)
     (all_weaker _ (λ q. q < m + 1 + n) (λ q less. omega (arith, less)) ps high.1) (omega (arith, long)) in
     ap₂ (λ q qs. q ∷ qs) first later
 
 -- rows that are made of numbers, where each is made of one
-all_made : {X R : Type 0} (f : ℕ → Option R) (at : X → ℕ) (said : X → R) (xs : List X) → AllByRecursion (λ x. f (at x) ≡ Some (said x)) xs → filter_map f (map at xs) ≡ map said xs
+all_made : {X R : Type 0} (f : ℕ → Option R) (at : X → ℕ) (said : X → R) (xs : List X)
+    → AllByRecursion (λ x. f (at x) ≡ Some (said x)) xs → filter_map f (map at xs) ≡ map said xs
 all_made f at said [] all = refl
 all_made f at said (x ∷ xs) all = ap₂ cons_option all.0 (all_made f at said xs all.1)
 
-mapped_all : {X Y : Type 0} (P : Y → Type 0) (f : X → Y) (xs : List X) → AllByRecursion (λ x. P (f x)) xs → AllByRecursion P (map f xs)
+mapped_all : {X Y : Type 0} (P : Y → Type 0) (f : X → Y) (xs : List X)
+    → AllByRecursion (λ x. P (f x)) xs → AllByRecursion P (map f xs)
 mapped_all P f [] all = tt
 mapped_all P f (x ∷ xs) all = (all.0, mapped_all P f xs all.1)
 
@@ -98,14 +103,16 @@ chain_query = single code_tree (column_is 2 0 ∷ []) (columns (3 ∷ 0 ∷ []))
 abbrev shown : Placed → Output
 shown e = (int e.1.place ∷ [], int e.1.place ∷ int e.0 ∷ [])
 
-module _ (db : Trees) (t : AreTables db) (sound : IsSound (rows_in db)) (room : ℕ) (row : RoomRow) (there : room_at (rows_in db) room ≡ Some row) where
+module _ (db : Trees) (t : AreTables db) (sound : IsSound (rows_in db)) (room : ℕ) (row : RoomRow)
+    (there : room_at (rows_in db) room ≡ Some row) where
   abbrev rows : Rows
   rows = rows_in db
 
   rises : IsAscending (λ a b. by_key nat_cmp a b ≡ Less) rows.codes
   rises = sort_rises (by_key nat_cmp) (key_total nat_cmp_total) _ t.code.apart
 
-  room_tests : (r : Row) → IsWrittenAs code_columns code_of code_written r → passes (column_is 2 0 ∷ []) (int room ∷ []) r ≡ of_room room (code_of (code_columns r))
+  room_tests : (r : Row) → IsWrittenAs code_columns code_of code_written r
+      → passes (column_is 2 0 ∷ []) (int room ∷ []) r ≡ of_room room (code_of (code_columns r))
   room_tests r good = and_true _ ∙ column_equals (column r 2) _ room (ap (λ v. column v 1) good)
 
   abbrev fs : List Placed
@@ -116,7 +123,8 @@ module _ (db : Trees) (t : AreTables db) (sound : IsSound (rows_in db)) (room : 
   Here e = Found rows sound rises e × (e.1.room ≡ room)
 
   here : AllByRecursion Here fs
-  here = all_both _ _ Here (λ e found is. (found, eq_from e.1.room room is)) fs (all-filter _ (of_room room) rows.codes (each_found rows sound rises)) (filter_passing (of_room room) rows.codes)
+  here = all_both _ _ Here (λ e found is. (found, eq_from e.1.room room is)) fs
+      (all-filter _ (of_room room) rows.codes (each_found rows sound rises)) (filter_passing (of_room room) rows.codes)
 
   code_there : (e : Placed) → Here e → code_at rows room e.1.place ≡ Some e.0
   code_there e is = code_found rows sound rises room row there e is.0 is.1
@@ -131,9 +139,11 @@ module _ (db : Trees) (t : AreTables db) (sound : IsSound (rows_in db)) (room : 
     | inr other ↦ other
   ]
 
-  all_apart : (es : List Placed) → AllByRecursion Here es → IsAscending (λ a b. by_key nat_cmp a b ≡ Less) es → HasNoTies place_cmp place_total es
+  all_apart : (es : List Placed) → AllByRecursion Here es → IsAscending (λ a b. by_key nat_cmp a b ≡ Less) es
+      → HasNoTies place_cmp place_total es
   all_apart [] all up = tt
-  all_apart (e ∷ es) all up = (all_both Here _ _ (λ x is less. apart e x all.0 is less) es all.1 up.0, all_apart es all.1 up.1)
+  all_apart (e ∷ es) all up =
+      (all_both Here _ _ (λ x is less. apart e x all.0 is less) es all.1 up.0, all_apart es all.1 up.1)
 
   no_ties : HasNoTies place_cmp place_total fs
   no_ties = all_apart fs here (Rattle.sqlite_keyed.proofs.ListLemmas.ascending-filter _ (of_room room) rows.codes rises)
@@ -151,19 +161,26 @@ module _ (db : Trees) (t : AreTables db) (sound : IsSound (rows_in db)) (room : 
   within : (e : Placed) → Here e → e.1.place < row.codes
   within e is =
       let at = splits rows sound rises room row there e is.0 is.1 in
-      let many : length (at.0 ++ e.0 ∷ at.1) ≡ row.codes = ap length (sym at.2) ∙ (counted rows sound room row there).many in
+      let many : length (at.0 ++ e.0 ∷ at.1) ≡ row.codes =
+      ap length (sym at.2) ∙ (counted rows sound room row there).many in
       omega (arith, many, length-append at.0 (e.0 ∷ at.1), at.3)
 
   as_many : length mine ≡ row.codes
   as_many =
-      sym (length_permutation _ _ (IsPermutation-sort_by place_cmp place_total fs)) ∙ sym (length-map fs (λ (e : Placed). e.1)) ∙ ap length (values_passing (λ (at : CodeRow). eqb at.room room) rows.codes)
-      ∙ length-filter (λ (at : CodeRow). eqb at.room room) (values_of rows.codes) ∙ (counted rows sound room row there).listed
+      sym (length_permutation _ _ (IsPermutation-sort_by place_cmp place_total fs))
+      ∙ sym (length-map fs (λ (e : Placed). e.1))
+      ∙ ap length (values_passing (λ (at : CodeRow). eqb at.room room) rows.codes)
+      ∙ length-filter (λ (at : CodeRow). eqb at.room room) (values_of rows.codes)
+      ∙ (counted rows sound room row there).listed
 
   places : map (λ (e : Placed). e.1.place) mine ≡ range_with_len 0 row.codes
   places =
-      full_range 0 row.codes (map (λ (e : Placed). e.1.place) mine) (map_rises (λ (e : Placed). e.1.place) (λ p q. nat_cmp p q ≡ Less) mine in_order)
-      (mapped_all (λ p. 0 ≤ p) (λ (e : Placed). e.1.place) mine (all_weaker Here (λ (e : Placed). 0 ≤ e.1.place) (λ e _. omega arith) mine mine_here))
-      (mapped_all (λ p. p < 0 + row.codes) (λ (e : Placed). e.1.place) mine (all_weaker Here (λ (e : Placed). e.1.place < 0 + row.codes) (λ e is. omega (arith, within e is)) mine mine_here))
+      full_range 0 row.codes (map (λ (e : Placed). e.1.place) mine)
+      (map_rises (λ (e : Placed). e.1.place) (λ p q. nat_cmp p q ≡ Less) mine in_order)
+      (mapped_all (λ p. 0 ≤ p) (λ (e : Placed). e.1.place) mine
+      (all_weaker Here (λ (e : Placed). 0 ≤ e.1.place) (λ e _. omega arith) mine mine_here))
+      (mapped_all (λ p. p < 0 + row.codes) (λ (e : Placed). e.1.place) mine
+      (all_weaker Here (λ (e : Placed). e.1.place < 0 + row.codes) (λ e is. omega (arith, within e is)) mine mine_here))
       (length-map mine (λ (e : Placed). e.1.place) ∙ as_many)
 
   abbrev said : Placed → ChainRow
@@ -171,19 +188,25 @@ module _ (db : Trees) (t : AreTables db) (sound : IsSound (rows_in db)) (room : 
 
   makes : (e : Placed) → Here e → chain_row_on rows row e.1.place ≡ Some (said e)
   makes e is =
-      let at : code_at rows row.room e.1.place ≡ Some e.0 = ap (λ r. code_at rows r e.1.place) (room_is rows sound room row there) ∙ code_there e is in
-      ap (option_map (λ code. let r : ChainRow = record { place = e.1.place; code = code; state = state_at row.lock_place e.1.place } in r)) at
+      let at : code_at rows row.room e.1.place ≡ Some e.0 =
+      ap (λ r. code_at rows r e.1.place) (room_is rows sound room row there) ∙ code_there e is in
+      ap (option_map (λ code. let r : ChainRow =
+      record { place = e.1.place; code = code; state = state_at row.lock_place e.1.place } in r)) at
 
-  pub codes_said : (all : List ChainRow) → AnswersAll (chain_row_of row.lock_place) chain_query (int room ∷ []) db all → all ≡ chain_on rows room
+  pub codes_said : (all : List ChainRow)
+      → AnswersAll (chain_row_of row.lock_place) chain_query (int room ∷ []) db all → all ≡ chain_on rows room
   codes_said all a =
       let up : IsAscending (λ x y. output_cmp chain_query x y ≡ Less) (map shown mine) =
-      map_rises shown _ mine (ascending_weaker _ _ (λ x y less. then_nothing _ ∙ int_order x.1.place y.1.place ∙ less) mine in_order) in
+      map_rises shown _ mine
+      (ascending_weaker _ _ (λ x y less. then_nothing _ ∙ int_order x.1.place y.1.place ∙ less) mine in_order) in
       let shows : a.0 ≡ map (λ e. (shown e).1) mine =
       ordered_rows (by_key nat_cmp) (key_total nat_cmp_total) (IsWrittenAs code_columns code_of code_written)
       (λ r. code_of (code_columns r)) code_tree
       (column_is 2 0 ∷ []) (columns (3 ∷ 0 ∷ [])) by_place (int room ∷ []) (of_room room) shown db a.0 mine
-      t.code room_tests (λ r good. ap₂ (λ v w. (v ∷ [], v ∷ w ∷ [])) (ap (λ v. column v 2) good) (ap (λ v. column v 0) good))
+      t.code room_tests
+      (λ r good. ap₂ (λ v w. (v ∷ [], v ∷ w ∷ [])) (ap (λ v. column v 2) good) (ap (λ v. column v 0) good))
       (IsPermutation-sym _ _ (IsPermutation-sort_by place_cmp place_total fs)) up a.1 in
       a.2 ∙ ap (map (chain_row_of row.lock_place)) shows ∙ fused (chain_row_of row.lock_place) (λ e. (shown e).1) mine
-      ∙ sym (all_made (chain_row_on rows row) (λ (e : Placed). e.1.place) said mine (all_weaker Here _ makes mine mine_here)) ∙ ap (filter_map (chain_row_on rows row)) places
+      ∙ sym (all_made (chain_row_on rows row) (λ (e : Placed). e.1.place) said mine
+      (all_weaker Here _ makes mine mine_here)) ∙ ap (filter_map (chain_row_on rows row)) places
       ∙ sym (ap (λ o. said_of o [] (λ row. filter_map (chain_row_on rows row) (range_with_len 0 row.codes))) there)

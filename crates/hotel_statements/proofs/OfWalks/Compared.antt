@@ -22,7 +22,8 @@ unfolding binary
 less_than a k = truly _ ∙ ap is_lt (value_cmp-Int (pos a) (pos k)) ∙ grind (arith, nat_tests)
 
 -- the values of the entries whose values pass a test
-pub values_passing : {K V : Type 0} (p : V → Bool) (es : List (K × V)) → map (λ (e : K × V). e.1) (filter (λ (e : K × V). p e.1) es) ≡ filter p (values_of es)
+pub values_passing : {K V : Type 0} (p : V → Bool) (es : List (K × V))
+    → map (λ (e : K × V). e.1) (filter (λ (e : K × V). p e.1) es) ≡ filter p (values_of es)
 values_passing p [] = refl
 values_passing p (e ∷ es) = elim (cases_Bool (p e.1)) [
   | inl is ↦ rw is (ap (λ xs. e.1 ∷ xs) (values_passing p es))

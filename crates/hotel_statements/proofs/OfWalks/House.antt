@@ -52,7 +52,8 @@ use Rattle.hotel_statements.proofs.OfWalks.SoundCodes.{finds_itself}
 use Rattle.hotel_statements.proofs.OfWalks.Joined.{over, sorted_answer, one_more_table, last_table, where_it_passes}
 use Rattle.hotel_statements.proofs.OfWalks.Joined.{made_of_each, rise_alike, said_of_each}
 
-equals_maybe : (n : ℕ) (o : Option ℕ) → is_true (binary (Compare Eq Binary) (int n) (maybe_int o)) ≡ said_of o false (λ k. eqb n k)
+equals_maybe : (n : ℕ) (o : Option ℕ)
+    → is_true (binary (Compare Eq Binary) (int n) (maybe_int o)) ≡ said_of o false (λ k. eqb n k)
 unfolding binary
 equals_maybe n None = refl
 equals_maybe n (Some k) = equals n k
@@ -84,10 +85,14 @@ abbrev Housed : Type 0
 Housed = Room × Stay
 
 abbrev from_columns : Row → Row → Output
-from_columns rc sc = (column rc 0 ∷ [], column rc 0 ∷ column rc 5 ∷ column sc 1 ∷ column sc 2 ∷ column sc 4 ∷ column rc 4 ∷ [])
+from_columns rc sc =
+    (column rc 0 ∷ [], column rc 0 ∷ column rc 5 ∷ column sc 1 ∷ column sc 2 ∷ column sc 4 ∷ column rc 4 ∷ [])
 
 abbrev shown : Housed → Output
-shown y = (int y.0.0 ∷ [], int y.0.0 ∷ maybe_int y.0.1.party ∷ Text y.1.guest ∷ Text y.1.kind ∷ int y.1.depart ∷ int (bit_of y.0.1.secured) ∷ [])
+shown y = (
+  int y.0.0 ∷ [],
+  int y.0.0 ∷ maybe_int y.0.1.party ∷ Text y.1.guest ∷ Text y.1.kind ∷ int y.1.depart ∷ int (bit_of y.0.1.secured) ∷ [],
+)
 
 bit_back : (b : Bool) → (bit_of b == 1) ≡ b
 bit_back true = refl
@@ -110,13 +115,16 @@ module _ (db : Trees) (t : AreTables db) (sound : IsSound (rows_in db)) where
   abbrev pairs_of : Room → List Output
   pairs_of e = flat_map (λ x. if is_there e x then shown (e, x.1) ∷ [] else []) rows.stays
 
-  tests_there : (r s : Row) → IsWrittenAs room_columns room_of room_written r → IsWrittenAs stay_columns stay_of stay_written s
+  tests_there : (r s : Row) → IsWrittenAs room_columns room_of room_written r
+      → IsWrittenAs stay_columns stay_of stay_written s
       → list_all (holds ([] ∷ r ∷ s ∷ [])) test ≡ is_there (room_of (room_columns r)) (stay_of (stay_columns s))
   tests_there r s room stay =
-      and_true _ ∙ ap₂ (λ v w. is_true (binary (Compare Eq Binary) v w)) (ap (λ v. column v 0) stay) (ap (λ v. column v 5) room)
+      and_true _
+      ∙ ap₂ (λ v w. is_true (binary (Compare Eq Binary) v w)) (ap (λ v. column v 0) stay) (ap (λ v. column v 5) room)
       ∙ equals_maybe (stay_of (stay_columns s)).0 (room_of (room_columns r)).1.party
 
-  shows : (r s : Row) → IsWrittenAs room_columns room_of room_written r → IsWrittenAs stay_columns stay_of stay_written s
+  shows : (r s : Row) → IsWrittenAs room_columns room_of room_written r
+      → IsWrittenAs stay_columns stay_of stay_written s
       → output house_query ([] ∷ r ∷ s ∷ []) ≡ shown (room_of (room_columns r), (stay_of (stay_columns s)).1)
   shows r s room stay = ap₂ from_columns room stay
 
@@ -129,32 +137,42 @@ module _ (db : Trees) (t : AreTables db) (sound : IsSound (rows_in db)) where
       pairs_of t.room.good (λ r room.
       one_more_table db test house_query (by_key nat_cmp) (key_total nat_cmp_total)
       (IsWrittenAs stay_columns stay_of stay_written) (λ s. stay_of (stay_columns s)) stay_tree end ([] ∷ r ∷ [])
-      (λ x. if is_there (room_of (room_columns r)) x then shown (room_of (room_columns r), x.1) ∷ [] else []) t.stay.good (λ s stay.
+      (λ x. if is_there (room_of (room_columns r)) x then shown (room_of (room_columns r), x.1) ∷ [] else [])
+      t.stay.good (λ s stay.
       last_table db test house_query ([] ∷ r ∷ s ∷ []) _ _ (tests_there r s room stay) (shows r s room stay)))
 
   -- each room has one stay at most
   abbrev pair : Room → Option Housed
   pair e = said_of e.1.party None (λ party. option_map (λ stay. (e, stay)) (stay_at rows party))
 
-  of_party : (e : Room) (k : ℕ) → flat_map (λ (x : ℕ × Stay). if eqb x.0 k then shown (e, x.1) ∷ [] else []) rows.stays ≡ map shown (option_to_list (option_map (λ stay. (e, stay)) (stay_at rows k)))
+  of_party : (e : Room) (k : ℕ) → flat_map (λ (x : ℕ × Stay). if eqb x.0 k then shown (e, x.1) ∷ [] else []) rows.stays
+      ≡ map shown (option_to_list (option_map (λ stay. (e, stay)) (stay_at rows k)))
   of_party e k =
-      same_tests rows.stays ∙ where_it_passes (λ (x : ℕ × Stay). is_at (nat_cmp k) x.0) (λ x. shown (e, x.1) ∷ []) rows.stays ∙ singles _ ∙ sym (fused (λ stay. shown (e, stay)) (λ (x : ℕ × Stay). x.1) _)
-      ∙ ap (map (λ stay. shown (e, stay))) (one_entry nat_cmp nat_cmp_total k rows.stays stays_rise) ∙ mapped (stay_at rows k)
+      same_tests rows.stays
+      ∙ where_it_passes (λ (x : ℕ × Stay). is_at (nat_cmp k) x.0) (λ x. shown (e, x.1) ∷ []) rows.stays ∙ singles _
+      ∙ sym (fused (λ stay. shown (e, stay)) (λ (x : ℕ × Stay). x.1) _)
+      ∙ ap (map (λ stay. shown (e, stay))) (one_entry nat_cmp nat_cmp_total k rows.stays stays_rise)
+      ∙ mapped (stay_at rows k)
     where
-      same_tests : (xs : List (ℕ × Stay)) → flat_map (λ (x : ℕ × Stay). if eqb x.0 k then shown (e, x.1) ∷ [] else []) xs
+      same_tests : (xs : List (ℕ × Stay))
+          → flat_map (λ (x : ℕ × Stay). if eqb x.0 k then shown (e, x.1) ∷ [] else []) xs
           ≡ flat_map (λ (x : ℕ × Stay). if is_at (nat_cmp k) x.0 then shown (e, x.1) ∷ [] else []) xs
       same_tests [] = refl
-      same_tests (x ∷ xs) = ap₂ (λ b os. (if b then shown (e, x.1) ∷ [] else []) ++ os) (sym (is_key k x.0)) (same_tests xs)
+      same_tests (x ∷ xs) =
+          ap₂ (λ b os. (if b then shown (e, x.1) ∷ [] else []) ++ os) (sym (is_key k x.0)) (same_tests xs)
 
-      singles : (xs : List (ℕ × Stay)) → flat_map (λ (x : ℕ × Stay). shown (e, x.1) ∷ []) xs ≡ map (λ (x : ℕ × Stay). shown (e, x.1)) xs
+      singles : (xs : List (ℕ × Stay))
+          → flat_map (λ (x : ℕ × Stay). shown (e, x.1) ∷ []) xs ≡ map (λ (x : ℕ × Stay). shown (e, x.1)) xs
       singles [] = refl
       singles (x ∷ xs) = ap (λ os. shown (e, x.1) ∷ os) (singles xs)
 
-      mapped : (o : Option Stay) → map (λ stay. shown (e, stay)) (option_to_list o) ≡ map shown (option_to_list (option_map (λ stay. (e, stay)) o))
+      mapped : (o : Option Stay) → map (λ stay. shown (e, stay)) (option_to_list o)
+          ≡ map shown (option_to_list (option_map (λ stay. (e, stay)) o))
       mapped None = refl
       mapped (Some stay) = refl
 
-  paired_by : (e : Room) (o : Option ℕ) → flat_map (λ (x : ℕ × Stay). if said_of o false (λ party. eqb x.0 party) then shown (e, x.1) ∷ [] else []) rows.stays
+  paired_by : (e : Room) (o : Option ℕ) → flat_map (λ (x : ℕ × Stay). if said_of o false (λ party. eqb x.0 party)
+      then shown (e, x.1) ∷ [] else []) rows.stays
       ≡ map shown (option_to_list (said_of o None (λ party. option_map (λ stay. (e, stay)) (stay_at rows party))))
   paired_by e None = flat_map_none _ (λ x. refl) rows.stays
   paired_by e (Some k) = of_party e k
@@ -173,7 +191,8 @@ module _ (db : Trees) (t : AreTables db) (sound : IsSound (rows_in db)) where
       at None is = absurd cc
       at (Some stay) is = let same : (e, stay) ≡ y = cc in sym (ap (λ (z : Housed). z.0) same)
 
-      by : (o : Option ℕ) → said_of o None (λ party. option_map (λ stay. (e, stay)) (stay_at rows party)) ≡ Some y → y.0 ≡ e
+      by : (o : Option ℕ)
+          → said_of o None (λ party. option_map (λ stay. (e, stay)) (stay_at rows party)) ≡ Some y → y.0 ≡ e
       by None is = absurd cc
       by (Some k) is = at (stay_at rows k) is
 
@@ -197,7 +216,8 @@ module _ (db : Trees) (t : AreTables db) (sound : IsSound (rows_in db)) where
           let secured = bit_back e.1.secured in
           ap Some (rw (at, room, party, secured) refl)
 
-      by : (o : Option ℕ) → e.1.party ≡ o → option_map (λ y. house_row_of (shown y).1) (said_of o None (λ party. option_map (λ stay. (e, stay)) (stay_at rows party)))
+      by : (o : Option ℕ) → e.1.party ≡ o → option_map (λ y. house_row_of (shown y).1) (said_of o None
+          (λ party. option_map (λ stay. (e, stay)) (stay_at rows party)))
           ≡ said_of o None (λ party. option_map (housed e.1) (stay_at rows party))
       by None at = refl
       by (Some k) at = made k at (stay_at rows k) refl
@@ -208,10 +228,12 @@ module _ (db : Trees) (t : AreTables db) (sound : IsSound (rows_in db)) where
       let up : IsAscending (λ x y. output_cmp house_query x y ≡ Less) (map shown mine) =
       map_rises shown _ mine (ascending_weaker _ _ (λ x y less. then_nothing _ ∙ int_order x.0.0 y.0.0 ∙ less) mine
       (rise_alike pair (λ (a b : Room). by_key nat_cmp a b ≡ Less) (λ (y : Housed). y.0) of_room rooms rooms_rise)) in
-      let same : IsPermutation (map (output house_query) (matches (overlay db []) test tables ([] ∷ []))) (map shown mine) =
+      let same : IsPermutation (map (output house_query) (matches (overlay db []) test tables ([] ∷ [])))
+      (map shown mine) =
       subst (IsPermutation _) (all_pairs rooms) matched in
       let shows = sorted_answer tables test project order (overlay db []) [] a.0 (map shown mine) a.1 same up in
-      a.2 ∙ ap (map house_row_of) (shows ∙ fused (λ (o : Output). o.1) shown mine) ∙ fused house_row_of (λ y. (shown y).1) mine
+      a.2 ∙ ap (map house_row_of) (shows ∙ fused (λ (o : Output). o.1) shown mine)
+      ∙ fused house_row_of (λ y. (shown y).1) mine
       ∙ said_of_each pair (λ y. house_row_of (shown y).1) (house_row_on rows) rooms
       (all_weaker _ _ says rooms (finds_itself rooms rooms_rise))
       ∙ sym (values_kept rows.fits (house_row_on rows) (λ last row. refl) rooms)

@@ -40,7 +40,8 @@ module _ (db : Trees) (t : AreTables db) where
   -- ---- the arrivals of a day
 
   abbrev arrival_test : List Term
-  arrival_test = compare Eq (col 1 6) (lit (Int (pos 0))) ∷ compare Le (col 1 4) (col 0 0) ∷ compare Lt (col 0 0) (col 1 5) ∷ []
+  arrival_test =
+      compare Eq (col 1 6) (lit (Int (pos 0))) ∷ compare Le (col 1 4) (col 0 0) ∷ compare Lt (col 0 0) (col 1 5) ∷ []
 
   abbrev by_party : List (Term × Key)
   by_party = (col 1 0, ascending Binary) ∷ []
@@ -61,30 +62,41 @@ module _ (db : Trees) (t : AreTables db) where
   abbrev arrives : ℕ → ℕ × Stay → Bool
   arrives day e = arrives_on day e.1
 
-  arrival_tests : (day : ℕ) (r : Row) → IsWrittenAs stay_columns stay_of stay_written r → passes arrival_test (int day ∷ []) r ≡ arrives day (stay_of (stay_columns r))
+  arrival_tests : (day : ℕ) (r : Row) → IsWrittenAs stay_columns stay_of stay_written r
+      → passes arrival_test (int day ∷ []) r ≡ arrives day (stay_of (stay_columns r))
   arrival_tests day r good =
       let stay = (stay_of (stay_columns r)).1 in
-      let state = column_equals (column r 6) (state_number stay.state) 0 (ap (λ v. column v 5) good) ∙ booked stay.state in
-      let arrive = ap (λ v. is_true (binary (Compare Le Binary) v (int day))) (ap (λ v. column v 3) good) ∙ at_most stay.arrive day in
-      let depart = ap (λ v. is_true (binary (Compare Lt Binary) (int day) v)) (ap (λ v. column v 4) good) ∙ less_than day stay.depart in
-      ap₂ (λ x y. x && y) state (ap₂ (λ x y. x && y) arrive (and_true _ ∙ depart)) ∙ together (is_booked_state stay.state) _ _
+      let state =
+      column_equals (column r 6) (state_number stay.state) 0 (ap (λ v. column v 5) good) ∙ booked stay.state in
+      let arrive = ap (λ v. is_true (binary (Compare Le Binary) v (int day))) (ap (λ v. column v 3) good)
+      ∙ at_most stay.arrive day in
+      let depart = ap (λ v. is_true (binary (Compare Lt Binary) (int day) v)) (ap (λ v. column v 4) good)
+      ∙ less_than day stay.depart in
+      ap₂ (λ x y. x && y) state (ap₂ (λ x y. x && y) arrive (and_true _ ∙ depart))
+      ∙ together (is_booked_state stay.state) _ _
 
   abbrev shown_stay : ℕ × Stay → Output
   shown_stay e = (int e.0 ∷ [], stay_written e)
 
-  pub arrivals_said : (day : ℕ) (all : List Stay) → AnswersAll stay_row_of arrival_query (int day ∷ []) db all → all ≡ arrivals_on (rows_in db) day
+  pub arrivals_said : (day : ℕ) (all : List Stay)
+      → AnswersAll stay_row_of arrival_query (int day ∷ []) db all → all ≡ arrivals_on (rows_in db) day
   arrivals_said day all a =
       let es = (rows_in db).stays in
-      let rises : IsAscending (λ x y. by_key nat_cmp x y ≡ Less) es = sort_rises (by_key nat_cmp) (key_total nat_cmp_total) _ t.stay.apart in
+      let rises : IsAscending (λ x y. by_key nat_cmp x y ≡ Less) es =
+      sort_rises (by_key nat_cmp) (key_total nat_cmp_total) _ t.stay.apart in
       let fs = filter (arrives day) es in
       let up : IsAscending (λ x y. output_cmp arrival_query x y ≡ Less) (map shown_stay fs) =
-      map_rises shown_stay _ fs (ascending_weaker _ _ (λ x y less. then_nothing _ ∙ int_order x.0 y.0 ∙ less) fs (ascending-filter _ (arrives day) es rises)) in
+      map_rises shown_stay _ fs (ascending_weaker _ _ (λ x y less. then_nothing _ ∙ int_order x.0 y.0 ∙ less) fs
+      (ascending-filter _ (arrives day) es rises)) in
       let rows : a.0 ≡ map stay_written fs =
       ordered_rows (by_key nat_cmp) (key_total nat_cmp_total) (IsWrittenAs stay_columns stay_of stay_written)
       (λ r. stay_of (stay_columns r)) stay_tree
       arrival_test all_seven by_party (int day ∷ []) (arrives day) shown_stay db a.0 fs
-      t.stay (arrival_tests day) (λ r good. ap₂ (λ v w. (v ∷ [], w)) (ap (λ v. column v 0) good) good) (IsPermutation-refl fs) up a.1 in
-      let reads = all-filter _ (arrives day) es (all_listed (by_key nat_cmp) (key_total nat_cmp_total) (IsWrittenAs stay_columns stay_of stay_written)
+      t.stay (arrival_tests day) (λ r good. ap₂ (λ v w. (v ∷ [], w)) (ap (λ v. column v 0) good) good)
+      (IsPermutation-refl fs) up a.1 in
+      let reads = all-filter _ (arrives day) es
+      (all_listed (by_key nat_cmp) (key_total nat_cmp_total) (IsWrittenAs stay_columns stay_of stay_written)
       (λ r. stay_of (stay_columns r)) (λ e. stay_row_of (stay_written e) ≡ e.1) (db stay_tree)
       (read_back stay_columns stay_of stay_written stay_row_of (λ v. refl) (db stay_tree) t.stay.good)) in
-      a.2 ∙ ap (map stay_row_of) rows ∙ fused stay_row_of stay_written fs ∙ map_all (λ e. stay_row_of (stay_written e)) (λ e. e.1) fs reads ∙ values_passing (arrives_on day) es
+      a.2 ∙ ap (map stay_row_of) rows ∙ fused stay_row_of stay_written fs
+      ∙ map_all (λ e. stay_row_of (stay_written e)) (λ e. e.1) fs reads ∙ values_passing (arrives_on day) es

@@ -20,11 +20,13 @@ pub insert_kind : Does text.insert_kind (Insert 1 (Values (lit Null ∷ col 0 0 
 unfolding understood everything
 insert_kind = record { is = refl; plain = (refl, refl) }
 
-pub insert_room : Does text.insert_room (Insert 2 (Values (col 0 0 ∷ lit Null ∷ col 0 1 ∷ col 0 2 ∷ col 0 3 ∷ col 0 4 ∷ col 0 5 ∷ col 0 6 ∷ []) 8))
+pub insert_room : Does text.insert_room
+    (Insert 2 (Values (col 0 0 ∷ lit Null ∷ col 0 1 ∷ col 0 2 ∷ col 0 3 ∷ col 0 4 ∷ col 0 5 ∷ col 0 6 ∷ []) 8))
 unfolding understood everything
 insert_room = record { is = refl; plain = (refl, refl) }
 
-pub insert_stay : Does text.insert_stay (Insert 3 (Values (col 0 0 ∷ lit Null ∷ col 0 1 ∷ col 0 2 ∷ col 0 3 ∷ col 0 4 ∷ col 0 5 ∷ col 0 6 ∷ []) 8))
+pub insert_stay : Does text.insert_stay
+    (Insert 3 (Values (col 0 0 ∷ lit Null ∷ col 0 1 ∷ col 0 2 ∷ col 0 3 ∷ col 0 4 ∷ col 0 5 ∷ col 0 6 ∷ []) 8))
 unfolding understood everything
 insert_stay = record { is = refl; plain = (refl, refl) }
 
@@ -40,7 +42,8 @@ pub insert_inside : Does text.insert_inside (Insert 6 (Values (lit Null ∷ col 
 unfolding understood everything
 insert_inside = record { is = refl; plain = (refl, refl) }
 
-pub insert_note : Does text.insert_note (Insert 7 (Values (lit Null ∷ col 0 0 ∷ col 0 1 ∷ col 0 2 ∷ col 0 3 ∷ col 0 4 ∷ col 0 5 ∷ col 0 6 ∷ col 0 7 ∷ []) 9))
+pub insert_note : Does text.insert_note (Insert 7
+    (Values (lit Null ∷ col 0 0 ∷ col 0 1 ∷ col 0 2 ∷ col 0 3 ∷ col 0 4 ∷ col 0 5 ∷ col 0 6 ∷ col 0 7 ∷ []) 9))
 unfolding understood everything
 insert_note = record { is = refl; plain = (refl, refl) }
 

@@ -42,8 +42,10 @@ unfolding understood everything
 walk_in_house = record { query = (_, refl); plain = (refl, refl); listing = refl }
 
 pub walk_left_behind : Asks text.walk_left_behind (record (single room_tree
-    (compare Eq (col 2 2) (col 1 0) ∷ compare Eq (col 2 3) (col 1 3) ∷ compare Eq (col 3 2) (col 1 0) ∷ compare Eq (col 3 3)
-    (op2 (Arith Sub) (col 1 4) (lit (Int (pos 1)))) ∷ compare Lt (op2 (Arith Add) (col 1 3) (lit (Int (pos 2)))) (col 1 4) ∷ [])
+    (compare Eq (col 2 2) (col 1 0) ∷ compare Eq (col 2 3) (col 1 3)
+    ∷ compare Eq (col 3 2) (col 1 0) ∷ compare Eq (col 3 3)
+    (op2 (Arith Sub) (col 1 4) (lit (Int (pos 1))))
+    ∷ compare Lt (op2 (Arith Add) (col 1 3) (lit (Int (pos 2)))) (col 1 4) ∷ [])
     (col 1 0 ∷ col 2 0 ∷ col 3 0 ∷ col 1 3 ∷ col 1 4 ∷ []) ((col 1 0, ascending Binary) ∷ []))
     { from = inner room_tree (inner code_tree (inner code_tree end)) })
 unfolding understood everything

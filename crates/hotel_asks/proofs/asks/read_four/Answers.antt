@@ -27,7 +27,8 @@ unread kind arrive nights guest Memory held = copied kind arrive nights guest he
 
 guest_unread : (verb : Verb) (kind arrive nights guest : List ℕ) (k : List ℕ) (a n : ℕ) (fault : AskFault)
     → verb ≡ Reserve → kind_in kind ≡ Ok k → day_in Arrive arrive ≡ Ok a → nights_in nights ≡ Ok n
-    → IsReading (λ g. true) (guest_in guest) (Err fault) → IsReading ask_copies (of_four verb kind arrive nights guest) (Err fault)
+    → IsReading (λ g. true) (guest_in guest) (Err fault)
+    → IsReading ask_copies (of_four verb kind arrive nights guest) (Err fault)
 guest_unread verb kind arrive nights guest k a n fault is kind_is arrive_is nights_is held =
     let Refused : Result Ask ValueFault → Type 0 = λ wanted. IsReading ask_copies wanted (Err fault) in
     let of_nights : List ℕ → ℕ → ℕ → Result Ask ValueFault = λ k a n. guest_in guest >>= booked k a n in
@@ -48,4 +49,5 @@ returns-in_err-guest-in-Reserve c =
     let held : IsReading (λ g. true) (guest_in c.args.guest.now) (Err fault) = search rules in
     let made : c.from_residual-in_err-guest-in-Reserve.result ≡ Err fault = search rules in
     let wanted = of_four c.args.verb c.args.kind.now c.args.arrive.now c.args.nights.now c.args.guest.now in
-    subst (IsReading ask_copies wanted) (sym made) (guest_unread _ _ _ _ _ _ _ _ fault is kind_is arrive_is nights_is held)
+    subst (IsReading ask_copies wanted) (sym made)
+    (guest_unread _ _ _ _ _ _ _ _ fault is kind_is arrive_is nights_is held)

@@ -23,7 +23,8 @@ not_text text h = elim (cases_Bool (is_utf8 text)) [
 taken : (text : List ℕ) → IsUtf8 text → (is_guest text ≡ false → ⊥) → Ok text ≡ guest_in text
 taken text u h = elim (cases_Bool (is_guest text)) [
   | inl is ↦
-      let both : (is_utf8 text && is_guest text) ≡ true = ap₂ (λ (a b : Bool). a && b) (is_utf8-from_IsUtf8 text u) is in
+      let both : (is_utf8 text && is_guest text) ≡ true =
+      ap₂ (λ (a b : Bool). a && b) (is_utf8-from_IsUtf8 text u) is in
       let pick : Bool → Result (List ℕ) ValueFault = λ b. if b then Ok text else Err (Value Guest) in
       ap pick (sym both)
   | inr not ↦ absurd (h not)
@@ -44,14 +45,18 @@ returns-in_default c = not_text c.args.text.now c.in_default.ensures.cases.0
 pub returns-in-Ok-read : goal.returns-in-Ok-read
 returns-in-Ok-read c =
     let same = c.in-Ok.ensures.cases.0 in
-    let reads : is_guest c.in-Ok.text.now ≡ false → ⊥ = λ no_guest. (let e = c.in-Ok-read.ensures.unread.1 no_guest in cc) in
+    let reads : is_guest c.in-Ok.text.now ≡ false → ⊥ =
+    λ no_guest. (let e = c.in-Ok-read.ensures.unread.1 no_guest in cc) in
     let P : List ℕ → Type 0 = λ t. Ok t ≡ guest_in c.args.text.now in
     subst P (sym (c.in-Ok-read.ensures.same ∙ same))
-    (taken c.args.text.now c.in-Ok.ensures.cases.1 (λ no_guest. reads (let Q : List ℕ → Type 0 = λ t. is_guest t ≡ false in subst Q (sym same) no_guest)))
+    (taken c.args.text.now c.in-Ok.ensures.cases.1
+    (λ no_guest. reads (let Q : List ℕ → Type 0 = λ t. is_guest t ≡ false in subst Q (sym same) no_guest)))
 
 pub returns-in-Err-Memory : goal.returns-in-Err-Memory
 returns-in-Err-Memory c =
     let same = c.in-Ok.ensures.cases.0 in
-    let reads : is_guest c.in-Ok.text.now ≡ false → ⊥ = λ no_guest. apart c.in-Err-Memory.field-0 c.in-Err-Memory.field-0-is (c.in-Err-Memory.ensures.unread.1 no_guest) in
+    let reads : is_guest c.in-Ok.text.now ≡ false → ⊥ =
+    λ no_guest. apart c.in-Err-Memory.field-0 c.in-Err-Memory.field-0-is (c.in-Err-Memory.ensures.unread.1 no_guest) in
     is_copy c.args.text.now
-    (taken c.args.text.now c.in-Ok.ensures.cases.1 (λ no_guest. reads (let Q : List ℕ → Type 0 = λ t. is_guest t ≡ false in subst Q (sym same) no_guest)))
+    (taken c.args.text.now c.in-Ok.ensures.cases.1
+    (λ no_guest. reads (let Q : List ℕ → Type 0 = λ t. is_guest t ≡ false in subst Q (sym same) no_guest)))

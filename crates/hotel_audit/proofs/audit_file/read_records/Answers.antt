@@ -32,8 +32,17 @@ loop-row-preserved c =
     let s = rw (c.in-Some.is, c.in_ok-row.was) at ((c.next.ensures.steps inv.2 inv.0).0 inv.1) in
     let good : is_ok c.push.result ≡ true = search rules in
     let items = rw good at c.push.ensures.items in
-    let m = rows-more (λ (s : Bor (List ℕ)). Some s.now) c.loop-row.row-iterator.rdr c.next.new.self.rdr (fields_of c.in_ok-row.field-0) default_config st.StartRecord (strip_bom c.args.bytes.now) inv.4 (map fields_of c.loop-row.rows.items) inv.3 inv.5 inv.6 s.0 in
-    (s.0.3 ∙ inv.0, inl s.1, s.2, s.0.2 ∙ inv.3, m.0, m.1, rw (items, map-append fields_of c.loop-row.rows.items (c.in_ok-row.field-0 ∷ [])) m.2)
+    let m = rows-more (λ (s : Bor (List ℕ)). Some s.now) c.loop-row.row-iterator.rdr c.next.new.self.rdr
+    (fields_of c.in_ok-row.field-0) default_config st.StartRecord (strip_bom c.args.bytes.now) inv.4
+    (map fields_of c.loop-row.rows.items) inv.3 inv.5 inv.6 s.0 in (
+      s.0.3 ∙ inv.0,
+      inl s.1,
+      s.2,
+      s.0.2 ∙ inv.3,
+      m.0,
+      m.1,
+      rw (items, map-append fields_of c.loop-row.rows.items (c.in_ok-row.field-0 ∷ [])) m.2,
+    )
 
 pub returns : goal.returns
 returns c =
@@ -43,5 +52,6 @@ returns c =
       c.loop-row.row-iterator.rdr.state,
       inv.4,
       inv.6,
-      rows-end (λ (s : Bor (List ℕ)). Some s.now) c.loop-row.row-iterator.rdr c.next.new.self.rdr [] default_config inv.4 inv.3 inv.5 s,
+      rows-end (λ (s : Bor (List ℕ)). Some s.now) c.loop-row.row-iterator.rdr
+          c.next.new.self.rdr [] default_config inv.4 inv.3 inv.5 s,
     )

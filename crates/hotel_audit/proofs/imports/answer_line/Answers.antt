@@ -24,13 +24,15 @@ pub returns-in-Unread-clause-went : goal.returns-in-Unread-clause-went
 returns-in-Unread-clause-went g c = rw c.in-Unread.is (refl, refl)
 
 pub returns-in-Unread-clause-happened : goal.returns-in-Unread-clause-happened
-returns-in-Unread-clause-happened g c = λ honest. rw c.in-Unread.is (lead-unread (g.B.Issued.is_clean c.args.books.now) (g.B.Books.rows c.args.books.now) c.in-Unread.cause)
+returns-in-Unread-clause-happened g c = λ honest. rw c.in-Unread.is
+    (lead-unread (g.B.Issued.is_clean c.args.books.now) (g.B.Books.rows c.args.books.now) c.in-Unread.cause)
 
 pub returns-in-Unread-clause-vouched : goal.returns-in-Unread-clause-vouched
 returns-in-Unread-clause-vouched g c = λ honest some. absurd (some refl)
 
 pub returns-in-Note-clause-answer : goal.returns-in-Note-clause-answer
-returns-in-Note-clause-answer g c = rw c.in-Note.is (if_ok c.answer_of.result _ (λ a e. (answered_reply c.in-Note.note c.report.result a (e ∙ c.answer_of.ensures)).0))
+returns-in-Note-clause-answer g c = rw c.in-Note.is
+    (if_ok c.answer_of.result _ (λ a e. (answered_reply c.in-Note.note c.report.result a (e ∙ c.answer_of.ensures)).0))
 
 pub returns-in-Note-clause-went : goal.returns-in-Note-clause-went
 returns-in-Note-clause-went g c =
@@ -38,7 +40,8 @@ returns-in-Note-clause-went g c =
     rw c.in-Note.is (
       c.report.result,
       c.answer_of.ensures,
-      (λ source. step_happens source source (command.Reported c.in-Note.note) c.report.result g.met.B.Issued.clean_honest f.since (λ honest. f.happened honest source) f.failed f.vouched),
+      (λ source. step_happens source source (command.Reported c.in-Note.note) c.report.result
+          g.met.B.Issued.clean_honest f.since (λ honest. f.happened honest source) f.failed f.vouched),
     )
 
 pub returns-in-Note-clause-happened : goal.returns-in-Note-clause-happened
@@ -46,22 +49,27 @@ returns-in-Note-clause-happened g c =
     let is_clean = g.B.Issued.is_clean in
     let rows = g.B.Books.rows in
     rw c.in-Note.is
-    (if_ok c.answer_of.result _ (λ a e honest. lead-note (is_clean c.args.books.now) (is_clean c.report.new.books) (rows c.args.books.now) (rows c.report.new.books) c.in-Note.note c.report.result a (e ∙ c.answer_of.ensures)
+    (if_ok c.answer_of.result _ (λ a e honest. lead-note (is_clean c.args.books.now) (is_clean c.report.new.books)
+    (rows c.args.books.now) (rows c.report.new.books) c.in-Note.note c.report.result a (e ∙ c.answer_of.ensures)
     (c.report.ensures.happened honest)))
 
 pub returns-in-Note-clause-vouched : goal.returns-in-Note-clause-vouched
-returns-in-Note-clause-vouched g c = if_ok c.answer_of.result _ (λ a e honest some. c.report.ensures.vouched honest (answered_sure c.report.result a (e ∙ c.answer_of.ensures)))
+returns-in-Note-clause-vouched g c = if_ok c.answer_of.result _
+    (λ a e honest some. c.report.ensures.vouched honest (answered_sure c.report.result a (e ∙ c.answer_of.ensures)))
 
 pub returns-in-Note-clause-unasked : goal.returns-in-Note-clause-unasked
-returns-in-Note-clause-unasked g c = if_ok c.answer_of.result _ (λ a e none. let said = sym (answered_reply c.in-Note.note c.report.result a (e ∙ c.answer_of.ensures)).1 ∙ none in cc said)
+returns-in-Note-clause-unasked g c = if_ok c.answer_of.result _ (λ a e none.
+    let said = sym (answered_reply c.in-Note.note c.report.result a (e ∙ c.answer_of.ensures)).1 ∙ none in cc said)
 
 pub returns-in-Note-clause-unchanged : goal.returns-in-Note-clause-unchanged
 returns-in-Note-clause-unchanged g c =
-    on_err c.answer_of.result _ (λ why e clean. c.report.ensures.unchanged clean (failed_reply c.report.result why (e ∙ c.answer_of.ensures) (c.report.ensures.note clean)))
+    on_err c.answer_of.result _ (λ why e clean. c.report.ensures.unchanged clean
+    (failed_reply c.report.result why (e ∙ c.answer_of.ensures) (c.report.ensures.note clean)))
 
 pub returns-in-Note-clause-failed : goal.returns-in-Note-clause-failed
 returns-in-Note-clause-failed g c =
     if_err c.answer_of.result _ (λ why e clean.
     let told = e ∙ c.answer_of.ensures in
     subst (λ fs. AreCounted (g.B.Issued.failures c.args.books.now) (g.B.Issued.failures c.report.new.books) fs)
-    (failure_told c.report.result why told (failed_reply c.report.result why told (c.report.ensures.note clean))) (c.report.ensures.failed clean))
+    (failure_told c.report.result why told (failed_reply c.report.result why told (c.report.ensures.note clean)))
+    (c.report.ensures.failed clean))

@@ -15,8 +15,10 @@ invariant-loop-line g l =
       room : length l.lines ≤ vec_capacity l.answers;
       number : vec_len l.answers ≡ l.line-index;
       each : AreAnswered (take l.line-index l.lines) l.answers.items;
-      through : Passes (LineHappens g.B.Issued rows) l.fn.books (zip (take l.line-index l.lines) l.answers.items) l.books;
-      happened : is_honest l.books → LinesLeadOn (is_clean l.fn.books) (rows l.fn.books) (take l.line-index l.lines) l.answers.items (is_clean l.books) (rows l.books);
+      through : Passes (LineHappens g.B.Issued rows) l.fn.books
+          (zip (take l.line-index l.lines) l.answers.items) l.books;
+      happened : is_honest l.books → LinesLeadOn (is_clean l.fn.books) (rows l.fn.books) (take l.line-index
+          l.lines) l.answers.items (is_clean l.books) (rows l.books);
       vouched : is_honest l.books → replies_in l.answers.items ≢ [] → is_clean l.books;
       unasked : replies_in l.answers.items ≡ [] → is_clean l.fn.books → is_clean l.books;
     }

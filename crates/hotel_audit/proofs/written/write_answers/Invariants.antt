@@ -6,4 +6,5 @@ use Rattle.hotel_audit.specs.Answers.{answers_text}
 use Rattle.hotel_audit.proofs.written.write_answers.Given as goal
 
 abbrev pub invariant-loop-index : goal.invariant-loop-index
-invariant-loop-index g l = Appends (g.W.Write.contents l.initial.writer) (g.W.Write.contents l.writer) (answers_text 1 (take l.index l.answers)) × NoneForgotten l.initial.calls l.calls
+invariant-loop-index g l = Appends (g.W.Write.contents l.initial.writer) (g.W.Write.contents l.writer)
+    (answers_text 1 (take l.index l.answers)) × NoneForgotten l.initial.calls l.calls

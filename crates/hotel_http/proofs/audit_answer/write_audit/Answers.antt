@@ -9,14 +9,19 @@ use Rattle.hotel_http.proofs.audit_answer.write_audit.Goals as goal
 pub returns-in_err-write_bytes : goal.returns-in_err-write_bytes
 unfolding answer_text
 returns-in_err-write_bytes g c =
-    let head = c.as_bytes.ensures.same ∙ c.head_text-head.ensures.same ∙ ap (head_text Success Plain None) c.answers_size.ensures in
-    let err = on_err c.from_residual.result (front_of_head _ _ _ (answers_text 1 c.args.answers.now) head c.in_err-write_bytes.ensures.writes.err) in
+    let head = c.as_bytes.ensures.same ∙ c.head_text-head.ensures.same
+    ∙ ap (head_text Success Plain None) c.answers_size.ensures in
+    let err = on_err c.from_residual.result
+    (front_of_head _ _ _ (answers_text 1 c.args.answers.now) head c.in_err-write_bytes.ensures.writes.err) in
     search rules
 
 pub returns : goal.returns
 unfolding answer_text
 returns g c =
-    let head = c.as_bytes.ensures.same ∙ c.head_text-head.ensures.same ∙ ap (head_text Success Plain None) c.answers_size.ensures in
-    let ok = then_ok c.write_answers.result _ _ _ _ _ _ head c.in_ok-write_bytes.ensures.writes.ok c.write_answers.ensures.writes.ok in
-    let err = then_err c.write_answers.result _ _ _ _ _ _ head c.in_ok-write_bytes.ensures.writes.ok c.write_answers.ensures.writes.err in
+    let head = c.as_bytes.ensures.same ∙ c.head_text-head.ensures.same
+    ∙ ap (head_text Success Plain None) c.answers_size.ensures in
+    let ok = then_ok c.write_answers.result _ _ _ _ _ _ head c.in_ok-write_bytes.ensures.writes.ok
+    c.write_answers.ensures.writes.ok in
+    let err = then_err c.write_answers.result _ _ _ _ _ _ head c.in_ok-write_bytes.ensures.writes.ok
+    c.write_answers.ensures.writes.err in
     search rules

@@ -7,7 +7,8 @@ use Rattle.hotel_http.proofs.body.fill_body.Given as goal
 
 abbrev pub invariant-loop-reader : goal.invariant-loop-reader
 invariant-loop-reader g l =
-    ((taken : List ℕ) × Consumes (g.R.Read.remaining l.initial.reader) (g.R.Read.remaining l.reader) taken × (l.body.items ≡ l.initial.body.items ++ taken))
+    ((taken : List ℕ) × Consumes (g.R.Read.remaining l.initial.reader) (g.R.Read.remaining l.reader) taken
+    × (l.body.items ≡ l.initial.body.items ++ taken))
     × ReadsBody l.initial.body.items l.size (g.R.Read.remaining l.initial.reader) (g.R.Read.remaining l.reader)
     × NoneForgotten l.initial.calls l.calls
 

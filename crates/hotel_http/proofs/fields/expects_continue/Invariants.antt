@@ -6,4 +6,5 @@ use Rattle.hotel_http.specs.Fields.{is_expectation}
 use Rattle.hotel_http.proofs.fields.expects_continue.Given as goal
 
 abbrev pub invariant-loop-header : goal.invariant-loop-header
-invariant-loop-header l = list_any (λ header. is_expectation (header_bytes l.bytes header)) (take l.header-index l.headers) ≡ false
+invariant-loop-header l =
+    list_any (λ header. is_expectation (header_bytes l.bytes header)) (take l.header-index l.headers) ≡ false

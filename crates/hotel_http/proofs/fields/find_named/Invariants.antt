@@ -5,4 +5,5 @@ use Rattle.hotel_http.specs.Fields.{Tells, values_named}
 use Rattle.hotel_http.proofs.fields.find_named.Given as goal
 
 abbrev pub invariant-loop-header : goal.invariant-loop-header
-invariant-loop-header l = Tells (values_named l.name (map (header_bytes l.bytes) (take l.header-index l.headers))) l.found
+invariant-loop-header l =
+    Tells (values_named l.name (map (header_bytes l.bytes) (take l.header-index l.headers))) l.found

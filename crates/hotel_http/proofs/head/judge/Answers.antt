@@ -30,4 +30,5 @@ returns-in-TooMany-clause-judged c more end =
     inr (too_many_fields HEAD_BYTES c.args.bytes.now more over exceeds)
 
 pub returns-in-Bad-clause-judged : goal.returns-in-Bad-clause-judged
-returns-in-Bad-clause-judged c more end = inl (malformed HEAD_BYTES c.args.bytes.now more (rw c.head_part.ensures at c.in-Bad.ensures))
+returns-in-Bad-clause-judged c more end =
+    inl (malformed HEAD_BYTES c.args.bytes.now more (rw c.head_part.ensures at c.in-Bad.ensures))

@@ -5,7 +5,8 @@ use Rattle.hotel_http.specs.declared.head.TheConstants.{HEAD_BYTES}
 use Rattle.hotel_http.proofs.head.judge_part.Goals as goal
 
 pub returns-then-bytes-gt-HEAD_BYTES-clause-judged : goal.returns-then-bytes-gt-HEAD_BYTES-clause-judged
-returns-then-bytes-gt-HEAD_BYTES-clause-judged c more headers end none = inl (too_long HEAD_BYTES c.args.bytes.now more refl c.if-bytes-gt-HEAD_BYTES.true none)
+returns-then-bytes-gt-HEAD_BYTES-clause-judged c more headers end none =
+    inl (too_long HEAD_BYTES c.args.bytes.now more refl c.if-bytes-gt-HEAD_BYTES.true none)
 
 pub returns-else-is_empty-clause-judged : goal.returns-else-is_empty-clause-judged
 returns-else-is_empty-clause-judged c more headers end none =

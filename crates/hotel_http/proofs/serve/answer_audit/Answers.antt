@@ -14,11 +14,14 @@ returns-in-Ok-clause-went g c =
     let it = c.in-Ok.ensures in
     let slice = c.as_slice-answers.result.now in
     let written = c.write_audit-written.result in
-    let ends = ends_as (lines_answer slice) Success (has_taken slice) (map (λ reply. true) (replies_in slice)) written old new c.ended.result
+    let ends = ends_as (lines_answer slice) Success (has_taken slice)
+    (map (λ reply. true) (replies_in slice)) written old new c.ended.result
     (subst (λ (b : Bool). c.ended.result ≡ ended written Success b) c.has_taken.ensures c.ended.ensures)
     c.write_audit-written.ensures.writes.ok c.write_audit-written.ensures.writes.err in
-    file_came c.args.file.now (Ok c.in-Ok.answers.items) old new c.ended.result g.met.B.Issued.clean_honest it.since it.imported (λ why e. cc e) (λ clean. none_counted _ _ it.since.counted)
-    (subst (λ (l : List LineAnswer). EndsAs (imported (Ok l)) [] old new c.ended.result) c.as_slice-answers.ensures.value ends)
+    file_came c.args.file.now (Ok c.in-Ok.answers.items) old new c.ended.result g.met.B.Issued.clean_honest it.since
+    it.imported (λ why e. cc e) (λ clean. none_counted _ _ it.since.counted)
+    (subst (λ (l : List LineAnswer). EndsAs (imported (Ok l)) [] old new c.ended.result)
+    c.as_slice-answers.ensures.value ends)
 
 pub returns-in-Err-clause-went : goal.returns-in-Err-clause-went
 returns-in-Err-clause-went g c =
@@ -27,8 +30,11 @@ returns-in-Err-clause-went g c =
     let it = c.in-Err.ensures in
     let why = c.in-Err.why in
     let written = c.write_fault-written.result in
-    let ends = ends_as (fault_answer why) (fault_status why) (taken_by why) (stopped_by why) written old new c.ended-in-Err.result
+    let ends =
+    ends_as (fault_answer why) (fault_status why) (taken_by why) (stopped_by why) written old new c.ended-in-Err.result
     (subst (λ (b : Bool). c.ended-in-Err.result ≡ ended written (fault_status why) b) c.taken_by.ensures
-    (subst (λ (s : Status). c.ended-in-Err.result ≡ ended written s c.taken_by.result) c.fault_status.ensures c.ended-in-Err.ensures))
+    (subst (λ (s : Status). c.ended-in-Err.result ≡ ended written s c.taken_by.result)
+    c.fault_status.ensures c.ended-in-Err.ensures))
     c.write_fault-written.ensures.writes.ok c.write_fault-written.ensures.writes.err in
-    file_came c.args.file.now (Err why) old new c.ended-in-Err.result g.met.B.Issued.clean_honest it.since it.imported (λ fault e. it.no_file fault (cc e)) it.failed ends
+    file_came c.args.file.now (Err why) old new c.ended-in-Err.result g.met.B.Issued.clean_honest it.since it.imported
+    (λ fault e. it.no_file fault (cc e)) it.failed ends

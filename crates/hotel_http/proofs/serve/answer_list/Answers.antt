@@ -13,17 +13,25 @@ returns-in-Ok-clause-went g c =
     let old = g.W.Write.contents c.args.writer.now in
     let new = g.W.Write.contents c.write_csv-written.new.writer in
     let out = outcome (list_answer c.in-Ok.text.items) Success false (true ∷ []) in
-    let ends = ends_as (list_answer c.deref.result.now) Success false (true ∷ []) c.write_csv-written.result old new c.ended.result c.ended.ensures c.write_csv-written.ensures.writes.ok
+    let ends = ends_as (list_answer c.deref.result.now) Success false
+    (true ∷ []) c.write_csv-written.result old new c.ended.result c.ended.ensures c.write_csv-written.ensures.writes.ok
     c.write_csv-written.ensures.writes.err in
-    list_came c.args.list.now out true [] old new c.ended.result g.met.B.Issued.clean_honest made.since (λ clean. g.met.B.Books.kept_rows _ _ (made.kept clean)) made.vouched refl
-    (λ listing same honest. list_comes (listing_on (g.B.Books.rows c.args.books.now) c.args.list.now) listing (Ok c.in-Ok.text.items) out made.text made.vouched same honest (λ l is. list_there l c.in-Ok.text.items is) (λ k. cc k))
-    (subst (λ (t : List ℕ). EndsAs (outcome (list_answer t) Success false (true ∷ [])) [] old new c.ended.result) c.deref.ensures.value ends) made.failures
+    list_came c.args.list.now out true [] old new c.ended.result g.met.B.Issued.clean_honest made.since
+    (λ clean. g.met.B.Books.kept_rows _ _ (made.kept clean)) made.vouched refl
+    (λ listing same honest. list_comes (listing_on (g.B.Books.rows c.args.books.now) c.args.list.now) listing
+    (Ok c.in-Ok.text.items) out made.text made.vouched same honest
+    (λ l is. list_there l c.in-Ok.text.items is) (λ k. cc k))
+    (subst (λ (t : List ℕ). EndsAs (outcome (list_answer t) Success false (true ∷ [])) [] old new c.ended.result)
+    c.deref.ensures.value ends) made.failures
 
 pub returns-in-Err-clause-went : goal.returns-in-Err-clause-went
 returns-in-Err-clause-went g c =
     let made = c.in-Err.ensures in
     let why = c.in-Err.refusal in
-    list_came c.args.list.now (replied (Refused why)) (not (is_failed (Refused why))) _ _ _ _ g.met.B.Issued.clean_honest made.since (λ clean. g.met.B.Books.kept_rows _ _ (made.kept clean))
+    list_came c.args.list.now (replied (Refused why)) (not (is_failed (Refused why))) _ _ _ _
+    g.met.B.Issued.clean_honest made.since (λ clean. g.met.B.Books.kept_rows _ _ (made.kept clean))
     made.vouched refl
-    (λ listing same honest. list_comes (listing_on (g.B.Books.rows c.args.books.now) c.args.list.now) listing (Err why) (replied (Refused why)) made.text made.vouched same honest (λ l is. list_refused l why is) (λ k. list_failed listing why k))
+    (λ listing same honest. list_comes (listing_on (g.B.Books.rows c.args.books.now) c.args.list.now) listing
+    (Err why) (replied (Refused why)) made.text made.vouched same honest (λ l is. list_refused l why is)
+    (λ k. list_failed listing why k))
     c.answer_reply.ensures.ends made.failures

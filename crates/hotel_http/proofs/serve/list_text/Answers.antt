@@ -8,5 +8,7 @@ use Rattle.hotel_http.proofs.serve.list_text.Goals as goal
 pub returns-in-Err-clause-vouched : goal.returns-in-Err-clause-vouched
 returns-in-Err-clause-vouched g c = λ honest answered.
     let clean = g.B.Issued.is_clean c.write_list.new.books in
-    let vouched = subst (λ (r : Result (Unit {0}) ListFault). Vouches clean r) c.in-Err.is (c.write_list.ensures.books.vouched honest) in
-    text_vouched c.in-Err.fault clean vouched (sym (ap (λ (why : Refusal). is_answered (Err why)) c.list_refusal.ensures) ∙ answered)
+    let vouched = subst (λ (r : Result (Unit {0}) ListFault). Vouches clean r) c.in-Err.is
+    (c.write_list.ensures.books.vouched honest) in
+    text_vouched c.in-Err.fault clean vouched
+    (sym (ap (λ (why : Refusal). is_answered (Err why)) c.list_refusal.ensures) ∙ answered)

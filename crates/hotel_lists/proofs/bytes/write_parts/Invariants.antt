@@ -5,4 +5,6 @@ use Rattle.hotel_lists.specs.{Bytes.joined, Calls.NoneForgotten}
 use Rattle.hotel_lists.proofs.bytes.write_parts.Given as goal
 
 abbrev pub invariant-loop-part : goal.invariant-loop-part
-invariant-loop-part g l = Appends (g.W.Write.contents l.initial.writer) (g.W.Write.contents l.writer) (joined (take l.part-index l.parts)) × NoneForgotten l.initial.calls l.calls
+invariant-loop-part g l =
+    Appends (g.W.Write.contents l.initial.writer) (g.W.Write.contents l.writer) (joined (take l.part-index l.parts))
+    × NoneForgotten l.initial.calls l.calls

@@ -5,7 +5,8 @@ use Rattle.hotel_lists.specs.{Calls.NoneForgotten, declared.calls.TheConstants.L
 use Rattle.hotel_lists.proofs.calls.write_some.Given as goal
 
 abbrev pub invariant-loop-calls : goal.invariant-loop-calls
-invariant-loop-calls g l = Keeps (g.W.Write.contents l.initial.writer) (g.W.Write.contents l.writer) × NoneForgotten l.initial.calls l.calls
+invariant-loop-calls g l =
+    Keeps (g.W.Write.contents l.initial.writer) (g.W.Write.contents l.writer) × NoneForgotten l.initial.calls l.calls
 
 abbrev pub decreases-loop-calls : goal.decreases-loop-calls
 decreases-loop-calls g l = LAST_INTERRUPTION - l.calls.interrupted

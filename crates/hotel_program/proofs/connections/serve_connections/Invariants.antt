@@ -8,7 +8,10 @@ use Rattle.hotel_program.proofs.connections.serve_connections.Given as goal
 
 abbrev pub invariant-loop : goal.invariant-loop
 invariant-loop g l = record {
-  ends : (ends : List ConnectionEnd) × (length ends ≡ l.counter) × TellsAll g.F.FaultSink.told l.initial.faults (faults_of ends) l.faults
-      × Happens g.B.Issued g.B.Books.rows l.initial.books (ServesAll ends (g.R.Rng.stream l.initial.source) (g.R.Rng.stream l.source)) l.books
-      × Passes (ConnectionHappens g.B.Issued g.B.Books.rows g.R.Rng.stream) (l.initial.books, l.initial.source) ends (l.books, l.source);
+  ends : (ends : List ConnectionEnd) × (length ends ≡ l.counter)
+      × TellsAll g.F.FaultSink.told l.initial.faults (faults_of ends) l.faults
+      × Happens g.B.Issued g.B.Books.rows l.initial.books
+      (ServesAll ends (g.R.Rng.stream l.initial.source) (g.R.Rng.stream l.source)) l.books
+      × Passes (ConnectionHappens g.B.Issued g.B.Books.rows g.R.Rng.stream)
+      (l.initial.books, l.initial.source) ends (l.books, l.source);
 }

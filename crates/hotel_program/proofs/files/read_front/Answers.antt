@@ -12,9 +12,11 @@ loop-calls-preserved g c =
     let before = c.loop-calls.bytes.items in
     let (bs, long, next, grown) = c.in_ok-got.ensures.ok in
     let short : length before ≤ c.args.most = omega arith in
-    let longer : length c.read_more.new.bytes.items ≡ length before + length bs = ap length grown ∙ length-append before bs in
+    let longer : length c.read_more.new.bytes.items ≡ length before + length bs =
+    ap length grown ∙ length-append before bs in
     record {
       taken = subst (Consumes old new) (sym grown) (Consumes-trans old _ new before bs i.taken next);
       few = omega (arith, longer, long, c.in_ok-got.ensures.most, short);
-      wanted = then_read (λ came. length came ≤ c.args.most) old _ new before _ _ _ i.taken short c.in_ok-got.ensures.ok c.in_ok-got.ensures.most;
+      wanted = then_read (λ came. length came ≤ c.args.most) old _ new before _ _ _ i.taken short
+          c.in_ok-got.ensures.ok c.in_ok-got.ensures.most;
     }

@@ -9,7 +9,8 @@ abbrev pub invariant-loop-calls : goal.invariant-loop-calls
 invariant-loop-calls g l = record {
   taken : Consumes (g.R.Read.remaining l.initial.reader) (g.R.Read.remaining l.reader) l.bytes.items;
   few : vec_len l.bytes ≤ l.most + READ_BYTES;
-  wanted : ReadsWhile (λ came. length came ≤ l.most) (g.R.Read.remaining l.initial.reader) (g.R.Read.remaining l.reader);
+  wanted : ReadsWhile (λ came. length came ≤ l.most) (g.R.Read.remaining l.initial.reader)
+      (g.R.Read.remaining l.reader);
 }
 
 abbrev pub decreases-loop-calls : goal.decreases-loop-calls

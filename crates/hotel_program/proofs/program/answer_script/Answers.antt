@@ -13,9 +13,11 @@ returns g c =
     let e = c.run_script-end.ensures in
     let rows : c.empty-books.result.rows ≡ no_rows = rw c.empty-books.ensures refl in
     let zero : c.empty-books.result.failures ≡ 0 = rw c.empty-books.ensures refl in
-    let source : stream_of (steps_u32 (next_word 10)) c.from_seed-source.result ≡ zero_seeded = rw c.from_seed-source.ensures refl in (
+    let source : stream_of (steps_u32 (next_word 10)) c.from_seed-source.result ≡ zero_seeded =
+    rw c.from_seed-source.ensures refl in (
       c.run_script-end.result,
       c.end_of_script.ensures.end,
-      script_ends _ _ (stream_of (steps_u32 (next_word 10))) g.W.Write.contents (g.I.Read.remaining c.args.reader.now) c.args.writer.now c.run_script-end.new.writer _ _ _ _ _ _ c.run_script-end.result tt
+      script_ends _ _ (stream_of (steps_u32 (next_word 10))) g.W.Write.contents (g.I.Read.remaining c.args.reader.now)
+          c.args.writer.now c.run_script-end.new.writer _ _ _ _ _ _ c.run_script-end.result tt
           rows zero refl refl source (subst IsSound rows (c.known_sound.ensures tt)) e.ok e.cut e.unbegun e.large,
     )

@@ -16,6 +16,16 @@ loop-i-preserved c =
     let low : c.loop-i.i < length stays = omega (arith, c.loop-i-test.true, c.len-i-end.ensures, all.ok.0) in
     let at : c.index.result.now ≡ get_or stays c.loop-i.i c.index.result.now = search rules in
     let es = map stay_entry (take c.loop-i.i stays) in
-    let few : length es < 2 ^ 63 = omega (arith, length-map (take c.loop-i.i stays) stay_entry, length-take c.loop-i.i stays, all.ok.0, all.ok.1, all.small, c.loop-i-test.true, c.len-i-end.ensures) in
-    more_stays c.loop-i.nights c.add.new.self stays c.loop-i.i c.index.result.now c.in_ok-stay.stay low c.loop-i.invariant (c.in_ok-stay.ensures.ok ∙ ap stay_row at)
+    let few : length es < 2 ^ 63 = omega (
+      arith,
+      length-map (take c.loop-i.i stays) stay_entry,
+      length-take c.loop-i.i stays,
+      all.ok.0,
+      all.ok.1,
+      all.small,
+      c.loop-i-test.true,
+      c.len-i-end.ensures,
+    ) in
+    more_stays c.loop-i.nights c.add.new.self stays c.loop-i.i c.index.result.now c.in_ok-stay.stay low
+    c.loop-i.invariant (c.in_ok-stay.ensures.ok ∙ ap stay_row at)
     (λ kind n. c.in-Ok.ensures.ok kind n (counts_fit c.loop-i.nights es kind n c.loop-i.invariant few))

@@ -9,5 +9,7 @@ returns-in_err-add_room-clause-err c =
     let rooms = c.args.rooms.now in
     let low : c.loop-i.i < length rooms = search rules in
     let is : c.index-rooms-i.result ≡ get_or rooms c.loop-i.i c.index-rooms-i.result = search rules in
-    passed_on _ (λ why. why ≡ Store → are_rooms_of c.args.kinds.now rooms ≡ false) c.from_residual-in_err-add_room.ensures.1
-    (λ store. not_rooms_of c.args.kinds.now rooms c.loop-i.counts c.loop-i.i c.index-rooms-i.result low is c.loop-i.invariant.0 c.loop-i.invariant.1 c.in_err-add_room.ensures.err.1)
+    passed_on _ (λ why. why ≡ Store → are_rooms_of c.args.kinds.now rooms ≡ false)
+    c.from_residual-in_err-add_room.ensures.1
+    (λ store. not_rooms_of c.args.kinds.now rooms c.loop-i.counts c.loop-i.i c.index-rooms-i.result low is
+    c.loop-i.invariant.0 c.loop-i.invariant.1 c.in_err-add_room.ensures.err.1)

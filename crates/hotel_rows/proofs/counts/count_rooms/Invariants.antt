@@ -6,4 +6,5 @@ use Rattle.hotel_rows.specs.Counts.{KnowsKinds}
 use Rattle.hotel_rows.proofs.counts.count_rooms.Given as goal
 
 abbrev pub invariant-loop-i : goal.invariant-loop-i
-invariant-loop-i l = ((kind : List ℕ) → rooms_in l.counts kind ≡ count_by (is_room_of_kind kind) (take l.i l.rooms)) × KnowsKinds l.counts l.kinds
+invariant-loop-i l = ((kind : List ℕ) → rooms_in l.counts kind ≡ count_by (is_room_of_kind kind) (take l.i l.rooms))
+    × KnowsKinds l.counts l.kinds

@@ -9,7 +9,9 @@ loop-i-preserved c =
     let plain_rows = c.args.kinds.now in
     let it = c.index-kinds-i.result in
     let low : c.loop-i.i < length plain_rows = search rules in
-    let named : c.in_ok-kind.kind ≡ kind_text (get_or plain_rows c.loop-i.i it) = c.in_ok-kind.ensures.ok ∙ c.as_str.ensures.value in (
+    let named : c.in_ok-kind.kind ≡ kind_text (get_or plain_rows c.loop-i.i it) =
+    c.in_ok-kind.ensures.ok ∙ c.as_str.ensures.value in (
       (λ kind. c.in-Ok.ensures.rooms kind ∙ c.loop-i.invariant.0 kind),
-      one_more_known c.loop-i.counts c.know_kind.new.self plain_rows c.loop-i.i it low c.loop-i.invariant.1 (subst (λ k. is_there c.know_kind.new.self k ≡ true) named c.in-Ok.ensures.there) c.in-Ok.ensures.others,
+      one_more_known c.loop-i.counts c.know_kind.new.self plain_rows c.loop-i.i it low c.loop-i.invariant.1
+          (subst (λ k. is_there c.know_kind.new.self k ≡ true) named c.in-Ok.ensures.there) c.in-Ok.ensures.others,
     )

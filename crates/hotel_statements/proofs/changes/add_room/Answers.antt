@@ -7,7 +7,8 @@ use Rattle.hotel_statements.proofs.Made.Rooms.{room_is, still_next}
 use Rattle.hotel_statements.proofs.changes.add_room.Goals as goal
 
 pub returns-in_err-insert_room-clause-makes : goal.returns-in_err-insert_room-clause-makes
-returns-in_err-insert_room-clause-makes g c = writes_stopped _ c.from_residual.result c.from_residual.ensures.0 c.from_residual.ensures.1 c.in_err-insert_room.ensures.makes
+returns-in_err-insert_room-clause-makes g c = writes_stopped _ c.from_residual.result c.from_residual.ensures.0
+    c.from_residual.ensures.1 c.in_err-insert_room.ensures.makes
 
 pub returns-in_err-insert_code-clause-makes : goal.returns-in_err-insert_code-clause-makes
 returns-in_err-insert_code-clause-makes g c =

@@ -8,7 +8,8 @@ use Rattle.hotel_statements.proofs.look.look.Goals as goal
 
 pub returns-in_err-from_row-in-Ok : goal.returns-in_err-from_row-in-Ok
 returns-in_err-from_row-in-Ok g c =
-    let kept = looked c.args.text.now (bound c.args.params.now) (state g.S.Store c.args.conn.now) (state g.S.Store c.query_row.new.self) c.query_row.result c.requires.books c.requires.asks c.query_row.ensures.row
+    let kept = looked c.args.text.now (bound c.args.params.now) (state g.S.Store c.args.conn.now)
+    (state g.S.Store c.query_row.new.self) c.query_row.result c.requires.books c.requires.asks c.query_row.ensures.row
     c.query_row.ensures.mode c.query_row.ensures.survives in
     record {
       books = kept.0;
@@ -16,7 +17,8 @@ returns-in_err-from_row-in-Ok g c =
       found = search rules;
       unchanged = search rules;
       cause = λ clean. cause_passed c.from_residual.result _ c.from_residual.ensures (λ other.
-          look_unread c.args.text.now (bound c.args.params.now) (state g.S.Store c.args.conn.now) (state g.S.Store c.query_row.new.self) c.query_row.result c.requires.books c.requires.asks c.query_row.ensures.row
+          look_unread c.args.text.now (bound c.args.params.now) (state g.S.Store c.args.conn.now) (state g.S.Store
+          c.query_row.new.self) c.query_row.result c.requires.books c.requires.asks c.query_row.ensures.row
           c.query_row.ensures.mode c.query_row.ensures.survives
           g.R.FromRow.is_readable c.in-Ok.row c.in-Ok.is (c.in_err-from_row-in-Ok.ensures.unread other) clean);
       crash = kept.2;
@@ -24,16 +26,21 @@ returns-in_err-from_row-in-Ok g c =
 
 pub returns-in_ok-from_row-in-Ok : goal.returns-in_ok-from_row-in-Ok
 returns-in_ok-from_row-in-Ok g c =
-    let kept = looked c.args.text.now (bound c.args.params.now) (state g.S.Store c.args.conn.now) (state g.S.Store c.query_row.new.self) c.query_row.result c.requires.books c.requires.asks c.query_row.ensures.row
+    let kept = looked c.args.text.now (bound c.args.params.now) (state g.S.Store c.args.conn.now)
+    (state g.S.Store c.query_row.new.self) c.query_row.result c.requires.books c.requires.asks c.query_row.ensures.row
     c.query_row.ensures.mode c.query_row.ensures.survives in
     record {
       books = kept.0;
       keeps = kept.1;
-      found = λ still q asks. look_found c.args.text.now (bound c.args.params.now) (state g.S.Store c.args.conn.now) (state g.S.Store c.query_row.new.self) c.query_row.result c.requires.books c.requires.asks c.query_row.ensures.row
+      found = λ still q asks. look_found c.args.text.now (bound c.args.params.now) (state g.S.Store c.args.conn.now)
+          (state g.S.Store c.query_row.new.self) c.query_row.result c.requires.books
+          c.requires.asks c.query_row.ensures.row
           c.query_row.ensures.mode c.query_row.ensures.survives
           g.R.FromRow.of c.in-Ok.row c.in_ok-from_row-in-Ok.field-0 c.in-Ok.is (search rules) still q asks;
       cause = search rules;
-      unchanged = look_unchanged c.args.text.now (bound c.args.params.now) (state g.S.Store c.args.conn.now) (state g.S.Store c.query_row.new.self) c.query_row.result c.requires.books c.requires.asks c.query_row.ensures.row
+      unchanged = look_unchanged c.args.text.now (bound c.args.params.now) (state g.S.Store c.args.conn.now)
+          (state g.S.Store c.query_row.new.self) c.query_row.result c.requires.books
+          c.requires.asks c.query_row.ensures.row
           c.query_row.ensures.mode c.query_row.ensures.survives
           c.in-Ok.row c.in-Ok.is;
       crash = kept.2;
@@ -41,16 +48,22 @@ returns-in_ok-from_row-in-Ok g c =
 
 pub returns-in-Err-QueryReturnedNoRows : goal.returns-in-Err-QueryReturnedNoRows
 returns-in-Err-QueryReturnedNoRows g c =
-    let kept = looked c.args.text.now (bound c.args.params.now) (state g.S.Store c.args.conn.now) (state g.S.Store c.query_row.new.self) c.query_row.result c.requires.books c.requires.asks c.query_row.ensures.row
+    let kept = looked c.args.text.now (bound c.args.params.now) (state g.S.Store c.args.conn.now)
+    (state g.S.Store c.query_row.new.self) c.query_row.result c.requires.books c.requires.asks c.query_row.ensures.row
     c.query_row.ensures.mode c.query_row.ensures.survives in
     record {
       books = kept.0;
       keeps = kept.1;
-      found = λ still q asks. look_lost c.args.text.now (bound c.args.params.now) (state g.S.Store c.args.conn.now) (state g.S.Store c.query_row.new.self) c.query_row.result c.requires.books c.requires.asks c.query_row.ensures.row
+      found = λ still q asks. look_lost c.args.text.now (bound c.args.params.now) (state g.S.Store c.args.conn.now)
+          (state g.S.Store c.query_row.new.self) c.query_row.result c.requires.books
+          c.requires.asks c.query_row.ensures.row
           c.query_row.ensures.mode c.query_row.ensures.survives
-          g.R.FromRow.of (c.in-Err-QueryReturnedNoRows.is ∙ ap Err c.in-Err-QueryReturnedNoRows.field-0-is) still q asks;
+          g.R.FromRow.of (c.in-Err-QueryReturnedNoRows.is ∙ ap Err c.in-Err-QueryReturnedNoRows.field-0-is) still q
+          asks;
       cause = search rules;
-      unchanged = none_unchanged c.args.text.now (bound c.args.params.now) (state g.S.Store c.args.conn.now) (state g.S.Store c.query_row.new.self) c.query_row.result c.requires.books c.requires.asks c.query_row.ensures.row
+      unchanged = none_unchanged c.args.text.now (bound c.args.params.now) (state g.S.Store c.args.conn.now)
+          (state g.S.Store c.query_row.new.self) c.query_row.result c.requires.books
+          c.requires.asks c.query_row.ensures.row
           c.query_row.ensures.mode c.query_row.ensures.survives
           (c.in-Err-QueryReturnedNoRows.is ∙ ap Err c.in-Err-QueryReturnedNoRows.field-0-is);
       crash = kept.2;
@@ -58,14 +71,18 @@ returns-in-Err-QueryReturnedNoRows g c =
 
 pub returns-in-Err : goal.returns-in-Err
 returns-in-Err g c =
-    let kept = looked c.args.text.now (bound c.args.params.now) (state g.S.Store c.args.conn.now) (state g.S.Store c.query_row.new.self) c.query_row.result c.requires.books c.requires.asks c.query_row.ensures.row
+    let kept = looked c.args.text.now (bound c.args.params.now) (state g.S.Store c.args.conn.now)
+    (state g.S.Store c.query_row.new.self) c.query_row.result c.requires.books c.requires.asks c.query_row.ensures.row
     c.query_row.ensures.mode c.query_row.ensures.survives in
     record {
       books = kept.0;
       keeps = kept.1;
       found = λ _ _ _. tt;
       unchanged = λ _. tt;
-      cause = λ clean cause. look_failed c.args.text.now (bound c.args.params.now) (state g.S.Store c.args.conn.now) (state g.S.Store c.query_row.new.self) c.query_row.result c.requires.books c.requires.asks c.query_row.ensures.row
-          c.query_row.ensures.mode c.query_row.ensures.survives g.R.FromRow.is_readable c.in-Err.error c.in-Err.is (search rules) (λ e. cause (c.fault_of.ensures ∙ e)) clean;
+      cause = λ clean cause. look_failed c.args.text.now (bound c.args.params.now) (state g.S.Store c.args.conn.now)
+          (state g.S.Store c.query_row.new.self) c.query_row.result c.requires.books
+          c.requires.asks c.query_row.ensures.row
+          c.query_row.ensures.mode c.query_row.ensures.survives g.R.FromRow.is_readable c.in-Err.error c.in-Err.is
+          (search rules) (λ e. cause (c.fault_of.ensures ∙ e)) clean;
       crash = kept.2;
     }

@@ -15,16 +15,23 @@ returns-in-Ok g c =
     let mode = c.query_all.ensures.mode in
     let survives = c.query_all.ensures.survives in
     record {
-      books = all_books text params old new c.requires.books c.requires.asks mode survives c.in-Ok.rows.items c.in-Ok.ensures.ok;
-      keeps = all_keeps text params old new c.requires.books c.requires.asks mode survives c.in-Ok.rows.items c.in-Ok.ensures.ok;
+      books = all_books text params old new c.requires.books c.requires.asks mode survives
+          c.in-Ok.rows.items c.in-Ok.ensures.ok;
+      keeps = all_keeps text params old new c.requires.books c.requires.asks mode survives
+          c.in-Ok.rows.items c.in-Ok.ensures.ok;
       found = λ kept q asks. IfOk-weaker c.read_all.result _ _ (λ all are.
-          all_found text params old new c.requires.books c.requires.asks mode survives c.in-Ok.rows.items c.in-Ok.ensures.ok
-          g.R.FromRow.of all.items (are ∙ ap (map g.R.FromRow.of) c.deref.ensures.value) kept q asks) c.read_all.ensures.reads;
+          all_found text params old new c.requires.books c.requires.asks mode survives
+          c.in-Ok.rows.items c.in-Ok.ensures.ok
+          g.R.FromRow.of all.items (are ∙ ap (map g.R.FromRow.of) c.deref.ensures.value) kept q asks)
+          c.read_all.ensures.reads;
       unchanged = λ clean. on_ok_always c.read_all.result
-          (all_unchanged text params old new c.requires.books c.requires.asks mode survives c.in-Ok.rows.items c.in-Ok.ensures.ok clean);
+          (all_unchanged text params old new c.requires.books c.requires.asks mode survives
+          c.in-Ok.rows.items c.in-Ok.ensures.ok clean);
       cause = λ clean. IfErr-weaker c.read_all.result _ _ (λ fault unread other.
-          all_unread text params old new c.requires.books c.requires.asks mode survives c.in-Ok.rows.items c.in-Ok.ensures.ok
-          g.R.FromRow.is_readable (subst (λ rows. ¬ All g.R.FromRow.is_readable rows) c.deref.ensures.value (unread other)) clean)
+          all_unread text params old new c.requires.books c.requires.asks mode survives
+          c.in-Ok.rows.items c.in-Ok.ensures.ok
+          g.R.FromRow.is_readable (subst (λ rows. ¬ All g.R.FromRow.is_readable rows)
+          c.deref.ensures.value (unread other)) clean)
           c.read_all.ensures.unread;
       crash = all_crash text params old new c.requires.books c.requires.asks mode survives;
     }
@@ -38,11 +45,14 @@ returns-in-Err g c =
     let mode = c.query_all.ensures.mode in
     let survives = c.query_all.ensures.survives in
     record {
-      books = fault_books text params old new c.requires.books c.requires.asks mode survives c.in-Err.error c.in-Err.ensures.err;
-      keeps = fault_keeps text params old new c.requires.books c.requires.asks mode survives c.in-Err.error c.in-Err.ensures.err;
+      books = fault_books text params old new c.requires.books c.requires.asks mode survives
+          c.in-Err.error c.in-Err.ensures.err;
+      keeps = fault_keeps text params old new c.requires.books c.requires.asks mode survives
+          c.in-Err.error c.in-Err.ensures.err;
       found = λ _ _ _. tt;
       unchanged = λ _. tt;
-      cause = λ clean cause. fault_cause text params old new c.requires.books c.requires.asks mode survives c.in-Err.error c.in-Err.ensures.err
+      cause = λ clean cause. fault_cause text params old new c.requires.books c.requires.asks mode survives
+          c.in-Err.error c.in-Err.ensures.err
           g.R.FromRow.is_readable (λ e. cause (c.fault_of.ensures ∙ e)) clean;
       crash = all_crash text params old new c.requires.books c.requires.asks mode survives;
     }

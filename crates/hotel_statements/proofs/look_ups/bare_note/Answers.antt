@@ -23,7 +23,8 @@ returns g c =
     let finds : IsKept new → (p : Query) → Asks text.select_note p
     → IfOk c.look.result (AnswersFirst note_row_of p (int c.args.room ∷ int c.args.at ∷ []) old.now.trees) =
     rw (c.small.ensures, c.number.ensures, c.value.ensures.same) at c.look.ensures.found in
-    let cause : HasCause (BareNoteFails c.args.room c.args.at) old new c.look.result = rw (c.small.ensures, c.number.ensures, c.value.ensures.same) at c.look.ensures.cause in
+    let cause : HasCause (BareNoteFails c.args.room c.args.at) old new c.look.result =
+    rw (c.small.ensures, c.number.ensures, c.value.ensures.same) at c.look.ensures.cause in
     finds_to text.select_note (int c.args.room ∷ int c.args.at ∷ []) old new note_row_of _ c.look.result _
     c.requires.books c.look.ensures.books c.look.ensures.keeps finds c.look.ensures.unchanged cause c.look.ensures.crash
     selects.select_note (λ tables. IfOk-weaker c.look.result _ _

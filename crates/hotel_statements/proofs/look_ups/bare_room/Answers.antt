@@ -23,7 +23,8 @@ returns g c =
     let finds : IsKept new → (p : Query) → Asks text.select_room p
     → IfOk c.look.result (AnswersFirst room_row_of p (int c.args.room ∷ []) old.now.trees) =
     rw (c.small.ensures, c.value.ensures.same) at c.look.ensures.found in
-    let cause : HasCause (BareRoomFails c.args.room) old new c.look.result = rw (c.small.ensures, c.value.ensures.same) at c.look.ensures.cause in
+    let cause : HasCause (BareRoomFails c.args.room) old new c.look.result =
+    rw (c.small.ensures, c.value.ensures.same) at c.look.ensures.cause in
     finds_to text.select_room (int c.args.room ∷ []) old new room_row_of _ c.look.result _ c.requires
     c.look.ensures.books c.look.ensures.keeps finds c.look.ensures.unchanged cause c.look.ensures.crash
     selects.select_room (λ tables. IfOk-weaker c.look.result _ _

@@ -20,9 +20,12 @@ pub returns : goal.returns
 returns g c =
     let old = state g.S.Store c.args.conn.now in
     let new = state g.S.Store c.look.new.conn in
-    let finds : IsKept new → (p : Query) → Asks text.select_code p → IfOk c.look.result (AnswersFirst (code_row_of) p (int c.args.code ∷ []) old.now.trees) =
+    let finds : IsKept new → (p : Query)
+    → Asks text.select_code p → IfOk c.look.result (AnswersFirst (code_row_of) p (int c.args.code ∷ []) old.now.trees) =
     rw (c.number.ensures, c.value.ensures.same) at c.look.ensures.found in
-    let cause : HasCause (CodeFails c.args.code) old new c.look.result = rw (c.number.ensures, c.value.ensures.same) at c.look.ensures.cause in
+    let cause : HasCause (CodeFails c.args.code) old new c.look.result =
+    rw (c.number.ensures, c.value.ensures.same) at c.look.ensures.cause in
     looks_to text.select_code (int c.args.code ∷ []) old new (code_row_of) _ c.look.result c.look.result
-    (λ a. a) _ c.requires c.look.ensures.books c.look.ensures.keeps finds c.look.ensures.unchanged cause c.look.ensures.crash selects.select_code
+    (λ a. a) _ c.requires c.look.ensures.books c.look.ensures.keeps finds c.look.ensures.unchanged cause
+    c.look.ensures.crash selects.select_code
     (λ kept tables. IfOk-weaker c.look.result _ _ (λ o a. code_finds old.now.trees tables c.args.code o a))

@@ -21,9 +21,14 @@ returns g c =
     let old = state g.S.Store c.args.conn.now in
     let new = state g.S.Store c.look.new.conn in
     let finds : IsKept new → (p : Query) → Asks text.select_code_at p
-    → IfOk c.look.result (AnswersFirst (λ v. number_of (column v 0)) p (int c.args.room ∷ int c.args.place ∷ []) old.now.trees) =
+    → IfOk c.look.result (AnswersFirst (λ v. number_of (column v 0)) p
+    (int c.args.room ∷ int c.args.place ∷ []) old.now.trees) =
     rw (c.small.ensures, c.small-2.ensures, c.value.ensures.same) at c.look.ensures.found in
-    let cause : HasCause (CodeAtFails c.args.room c.args.place) old new c.look.result = rw (c.small.ensures, c.small-2.ensures, c.value.ensures.same) at c.look.ensures.cause in
-    looks_to text.select_code_at (int c.args.room ∷ int c.args.place ∷ []) old new (λ v. number_of (column v 0)) _ c.look.result c.look.result
-    (λ a. a) _ c.requires c.look.ensures.books c.look.ensures.keeps finds c.look.ensures.unchanged cause c.look.ensures.crash selects.select_code_at
-    (λ kept tables. IfOk-weaker c.look.result _ _ (λ o a. code_at_finds old.now.trees tables c.args.room c.args.place o a))
+    let cause : HasCause (CodeAtFails c.args.room c.args.place) old new c.look.result =
+    rw (c.small.ensures, c.small-2.ensures, c.value.ensures.same) at c.look.ensures.cause in
+    looks_to text.select_code_at (int c.args.room ∷ int c.args.place ∷ []) old new
+    (λ v. number_of (column v 0)) _ c.look.result c.look.result
+    (λ a. a) _ c.requires c.look.ensures.books c.look.ensures.keeps finds c.look.ensures.unchanged cause
+    c.look.ensures.crash selects.select_code_at
+    (λ kept tables. IfOk-weaker c.look.result _ _
+    (λ o a. code_at_finds old.now.trees tables c.args.room c.args.place o a))

@@ -20,10 +20,13 @@ pub returns : goal.returns
 returns g c =
     let old = state g.S.Store c.args.conn.now in
     let new = state g.S.Store c.look.new.conn in
-    let shown : IsKept new → (p : Query) → Asks text.select_day p → AnswersFirst (λ v. option_of (column v 0)) p (int 1 ∷ []) old.now.trees c.in_ok-day.day =
+    let shown : IsKept new → (p : Query)
+    → Asks text.select_day p → AnswersFirst (λ v. option_of (column v 0)) p (int 1 ∷ []) old.now.trees c.in_ok-day.day =
     rw (c.small.ensures) at c.in_ok-day.ensures.found in
-    answers_so (of_statement c.look.ensures.books c.look.ensures.keeps c.in_ok-day.ensures.unchanged c.look.ensures.crash)
-    (λ kept. c.unwrap_or.ensures ∙ day_finds old.now.trees (c.requires.desk (c.look.ensures.keeps kept).0).tables c.in_ok-day.day (shown kept _ selects.select_day))
+    answers_so (of_statement c.look.ensures.books c.look.ensures.keeps
+    c.in_ok-day.ensures.unchanged c.look.ensures.crash)
+    (λ kept. c.unwrap_or.ensures ∙ day_finds old.now.trees
+    (c.requires.desk (c.look.ensures.keeps kept).0).tables c.in_ok-day.day (shown kept _ selects.select_day))
 
 pub returns-in_err-day : goal.returns-in_err-day
 returns-in_err-day g c =

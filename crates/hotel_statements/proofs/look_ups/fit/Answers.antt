@@ -23,8 +23,10 @@ returns g c =
     let finds : IsKept new → (p : Query) → Asks text.select_fit p
     → IfOk c.look.result (AnswersFirst fit_row_of p (int c.args.room ∷ int c.args.number ∷ []) old.now.trees) =
     rw (c.small.ensures, c.small-2.ensures, c.value.ensures.same, c.value-2.ensures.same) at c.look.ensures.found in
-    let cause : HasCause (FitFails c.args.room c.args.number) old new c.look.result = rw (c.small.ensures, c.small-2.ensures, c.value.ensures.same, c.value-2.ensures.same) at c.look.ensures.cause in
+    let cause : HasCause (FitFails c.args.room c.args.number) old new c.look.result =
+    rw (c.small.ensures, c.small-2.ensures, c.value.ensures.same, c.value-2.ensures.same) at c.look.ensures.cause in
     looks_to text.select_fit (int c.args.room ∷ int c.args.number ∷ []) old new fit_row_of _ c.look.result c.look.result
-    (λ a. a) _ c.requires c.look.ensures.books c.look.ensures.keeps finds c.look.ensures.unchanged cause c.look.ensures.crash
+    (λ a. a) _ c.requires c.look.ensures.books c.look.ensures.keeps finds
+    c.look.ensures.unchanged cause c.look.ensures.crash
     selects.select_fit
     (λ kept tables. IfOk-weaker c.look.result _ _ (λ o a. fit_finds old.now.trees tables c.args.room c.args.number o a))

@@ -23,7 +23,8 @@ returns g c =
     let shown : IsKept new → (p : Query) → Asks text.select_fits p
     → IfOk c.look_all.result (λ all. AnswersAll fit_row_of p (int c.args.room ∷ []) old.now.trees all.items) =
     rw (c.small.ensures, c.value.ensures.same) at c.look_all.ensures.found in
-    let cause : HasCause (FitsFail c.args.room) old new c.look_all.result = rw (c.small.ensures, c.value.ensures.same) at c.look_all.ensures.cause in
+    let cause : HasCause (FitsFail c.args.room) old new c.look_all.result =
+    rw (c.small.ensures, c.value.ensures.same) at c.look_all.ensures.cause in
     record {
       books = c.look_all.ensures.books;
       keeps = c.look_all.ensures.keeps;

@@ -20,17 +20,22 @@ pub returns : goal.returns
 returns g c =
     let old = state g.S.Store c.args.conn.now in
     let new = state g.S.Store c.look.new.conn in
-    let shown : IsKept new → (p : Query) → Asks text.select_any_inside p → AnswersFirst (λ v. number_of (column v 0)) p (int c.args.room ∷ []) old.now.trees c.in_ok-card.card =
+    let shown : IsKept new → (p : Query) → Asks text.select_any_inside p
+    → AnswersFirst (λ v. number_of (column v 0)) p (int c.args.room ∷ []) old.now.trees c.in_ok-card.card =
     rw (c.small.ensures, c.value.ensures.same) at c.in_ok-card.ensures.found in
-    answers_so (of_statement c.look.ensures.books c.look.ensures.keeps c.in_ok-card.ensures.unchanged c.look.ensures.crash)
-    (λ kept. c.is_some.ensures ∙ any_inside_finds old.now.trees (c.requires.desk (c.look.ensures.keeps kept).0).tables c.args.room c.in_ok-card.card
+    answers_so (of_statement c.look.ensures.books c.look.ensures.keeps
+    c.in_ok-card.ensures.unchanged c.look.ensures.crash)
+    (λ kept. c.is_some.ensures ∙ any_inside_finds old.now.trees
+    (c.requires.desk (c.look.ensures.keeps kept).0).tables c.args.room c.in_ok-card.card
     (shown kept _ selects.select_any_inside))
 
 pub returns-in_err-card : goal.returns-in_err-card
 returns-in_err-card g c =
     let old = state g.S.Store c.args.conn.now in
     let new = state g.S.Store c.look.new.conn in
-    let cause : HasCause (HasInsideFails c.args.room) old new c.look.result = rw (c.small.ensures, c.value.ensures.same) at c.look.ensures.cause in
+    let cause : HasCause (HasInsideFails c.args.room) old new c.look.result =
+    rw (c.small.ensures, c.value.ensures.same) at c.look.ensures.cause in
     fails_so c.from_residual.result c.from_residual.ensures.0
     c.look.ensures.books c.look.ensures.keeps c.look.ensures.crash
-    (cause_of (HasInsideFails c.args.room) old new c.look.result c.from_residual.result _ c.in_err-card.was c.from_residual.ensures cause)
+    (cause_of (HasInsideFails c.args.room) old new c.look.result c.from_residual.result _ c.in_err-card.was
+    c.from_residual.ensures cause)

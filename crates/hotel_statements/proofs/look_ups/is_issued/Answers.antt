@@ -11,7 +11,8 @@ returns g c =
     record {
       books = c.in_ok-place.ensures.books;
       keeps = c.in_ok-place.ensures.keeps;
-      found = λ kept. c.is_some.ensures ∙ ap is_some (c.in_ok-place.ensures.found kept) ∙ issued_where_found c.args.number (rows_in old.now.trees);
+      found = λ kept. c.is_some.ensures ∙ ap is_some (c.in_ok-place.ensures.found kept)
+          ∙ issued_where_found c.args.number (rows_in old.now.trees);
       open_on = c.in_ok-place.ensures.open_on;
       unchanged = c.in_ok-place.ensures.unchanged;
       cause = λ _. tt;

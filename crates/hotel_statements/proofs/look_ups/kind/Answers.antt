@@ -21,17 +21,22 @@ pub returns : goal.returns
 returns g c =
     let old = state g.S.Store c.args.conn.now in
     let new = state g.S.Store c.look.new.conn in
-    let shown : IsKept new → (p : Query) → Asks text.select_kind p → AnswersFirst (λ v. text_of (column v 0)) p (Text c.args.kind.now ∷ []) old.now.trees c.in_ok-kind.kind =
+    let shown : IsKept new → (p : Query) → Asks text.select_kind p
+    → AnswersFirst (λ v. text_of (column v 0)) p (Text c.args.kind.now ∷ []) old.now.trees c.in_ok-kind.kind =
     rw (c.text.ensures, c.as_bytes.ensures.same) at c.in_ok-kind.ensures.found in
-    answers_so (of_statement c.look.ensures.books c.look.ensures.keeps c.in_ok-kind.ensures.unchanged c.look.ensures.crash)
-    (λ kept. c.is_some.ensures ∙ kind_finds old.now.trees (c.requires.desk (c.look.ensures.keeps kept).0).tables c.args.kind.now c.in_ok-kind.kind
+    answers_so (of_statement c.look.ensures.books c.look.ensures.keeps
+    c.in_ok-kind.ensures.unchanged c.look.ensures.crash)
+    (λ kept. c.is_some.ensures
+    ∙ kind_finds old.now.trees (c.requires.desk (c.look.ensures.keeps kept).0).tables c.args.kind.now c.in_ok-kind.kind
     (shown kept _ selects.select_kind))
 
 pub returns-in_err-kind : goal.returns-in_err-kind
 returns-in_err-kind g c =
     let old = state g.S.Store c.args.conn.now in
     let new = state g.S.Store c.look.new.conn in
-    let cause : HasCause (KindFails c.args.kind.now) old new c.look.result = rw (c.text.ensures, c.as_bytes.ensures.same) at c.look.ensures.cause in
+    let cause : HasCause (KindFails c.args.kind.now) old new c.look.result =
+    rw (c.text.ensures, c.as_bytes.ensures.same) at c.look.ensures.cause in
     fails_so c.from_residual.result c.from_residual.ensures.0
     c.look.ensures.books c.look.ensures.keeps c.look.ensures.crash
-    (cause_of (KindFails c.args.kind.now) old new c.look.result c.from_residual.result _ c.in_err-kind.was c.from_residual.ensures cause)
+    (cause_of (KindFails c.args.kind.now) old new c.look.result c.from_residual.result _ c.in_err-kind.was
+    c.from_residual.ensures cause)

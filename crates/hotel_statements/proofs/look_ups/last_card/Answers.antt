@@ -17,7 +17,8 @@ look-requires-clause-asks g c = (_, selects.select_last_card)
 pub returns : goal.returns
 returns g c =
     let old = state g.S.Store c.args.conn.now in
-    looks_to text.select_last_card [] old (state g.S.Store c.look.new.conn) _ _ c.look.result c.look.result (λ o. unwrap_or o 0) _
+    looks_to text.select_last_card [] old
+    (state g.S.Store c.look.new.conn) _ _ c.look.result c.look.result (λ o. unwrap_or o 0) _
     c.requires.books c.look.ensures.books c.look.ensures.keeps c.look.ensures.found c.look.ensures.unchanged
     c.look.ensures.cause c.look.ensures.crash selects.select_last_card
     (λ kept tables. IfOk-weaker c.look.result _ _ (λ o a. last_finds Card card_tree card_columns card_of card_written

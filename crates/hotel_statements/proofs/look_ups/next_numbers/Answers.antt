@@ -21,8 +21,10 @@ returns-in_err-card g c =
     then_fails c.from_residual-in_err-card.result c.from_residual-in_err-card.ensures.0
     (of_look c.in_ok-party.ensures) c.last_card.ensures.books c.last_card.ensures.keeps c.last_card.ensures.crash
     (λ clean. cause_passed c.from_residual-in_err-card.result _ c.from_residual-in_err-card.ensures (λ other.
-    inr (fails_later old mid new (clean_before mid new c.last_card.ensures.crash) (c.in_ok-party.ensures.unchanged tt) c.in_ok-party.ensures.crash
-    text.select_last_card [] _ selects.select_last_card c.in_ok-party.ensures.books clean (BeginsWith (IsNumber LAST_NUMBER)) (c.in_err-card.ensures.cause clean other))))
+    inr (fails_later old mid new (clean_before mid new c.last_card.ensures.crash)
+    (c.in_ok-party.ensures.unchanged tt) c.in_ok-party.ensures.crash
+    text.select_last_card [] _ selects.select_last_card c.in_ok-party.ensures.books clean
+    (BeginsWith (IsNumber LAST_NUMBER)) (c.in_err-card.ensures.cause clean other))))
 
 pub returns : goal.returns
 returns g c =
@@ -31,5 +33,6 @@ returns g c =
     let then = c.in_ok-card.ensures.keeps kept in
     let first = c.in_ok-party.ensures.keeps then.0 in
     let party = c.number_after.ensures ∙ ap number_after (c.in_ok-party.ensures.found then.0) in
-    let card = c.number_after-2.ensures ∙ ap number_after (c.in_ok-card.ensures.found kept ∙ ap (λ (d : Database). length (rows_in d.trees).cards) first.1) in
+    let card = c.number_after-2.ensures ∙ ap number_after (c.in_ok-card.ensures.found kept
+    ∙ ap (λ (d : Database). length (rows_in d.trees).cards) first.1) in
     ap₂ (λ p q. record { party = p; card = q }) party card)

@@ -127,7 +127,8 @@ returns-in_err-bare g c =
       number,
       low,
       inl (fails_later old mid new (clean_before mid new c.bare_note.ensures.crash)
-          (c.in_ok-fits.ensures.unchanged tt) c.in_ok-fits.ensures.crash text.select_note (int c.args.room ∷ int number ∷ []) _
+          (c.in_ok-fits.ensures.unchanged tt) c.in_ok-fits.ensures.crash text.select_note
+          (int c.args.room ∷ int number ∷ []) _
           selects.select_note c.in_ok-fits.ensures.books clean IsNote (c.in_err-bare.ensures.cause clean other)),
     )))
 
@@ -140,7 +141,8 @@ returns-in_err-note g c =
     let number = c.from.result + c.from-2.result in
     let low : c.from.result + c.from-2.result < 2 ^ 63 = omega arith in
     let bare = c.in-Some-2.bare in
-    let unread : ¬ IsUnderFits fits bare = subst (λ fs. ¬ IsUnderFits fs bare) c.deref-2.ensures.value c.in_err-note.ensures.unread in
+    let unread : ¬ IsUnderFits fits bare =
+    subst (λ fs. ¬ IsUnderFits fs bare) c.deref-2.ensures.value c.in_err-note.ensures.unread in
     then_fails c.from_residual-in_err-note.result c.from_residual-in_err-note.ensures.0
     (of_look c.in_ok-fits.ensures) c.in_ok-bare.ensures.books c.in_ok-bare.ensures.keeps c.in_ok-bare.ensures.crash
     (λ clean. cause_passed c.from_residual-in_err-note.result _ c.from_residual-in_err-note.ensures (λ other.
@@ -150,4 +152,8 @@ returns-in_err-note g c =
     let are : fits ≡ fits_at (fits_in old.now.trees) room = c.in_ok-fits.ensures.found after.0 in
     let same = c.in_ok-bare.ensures.found kept
     ∙ ap (λ (d : Database). lookup (is_at (pair_cmp (room, number))) (bare_notes_in d.trees)) first.1 in
-    inr (number, low, inr (first.0, (bare, sym same ∙ c.in-Some-2.is, subst (λ fs. ¬ IsUnderFits fs bare) are unread)))))
+    inr (
+      number,
+      low,
+      inr (first.0, (bare, sym same ∙ c.in-Some-2.is, subst (λ fs. ¬ IsUnderFits fs bare) are unread)),
+    )))

@@ -44,10 +44,12 @@ returns-in_err-fits g c =
     let mid = state g.S.Store c.bare_room.new.conn in
     let new = state g.S.Store c.fits_of_room.new.conn in
     then_fails c.from_residual-in_err-fits.result c.from_residual-in_err-fits.ensures.0
-    (of_find c.in_ok-bare.ensures) c.fits_of_room.ensures.books c.fits_of_room.ensures.keeps c.fits_of_room.ensures.crash
+    (of_find c.in_ok-bare.ensures) c.fits_of_room.ensures.books
+    c.fits_of_room.ensures.keeps c.fits_of_room.ensures.crash
     (λ clean. cause_passed c.from_residual-in_err-fits.result _ c.from_residual-in_err-fits.ensures (λ other.
     inr (inl (fails_later old mid new (clean_before mid new c.fits_of_room.ensures.crash)
-    c.in_ok-bare.ensures.unchanged c.in_ok-bare.ensures.crash text.select_fits (int c.args.room ∷ []) _ selects.select_fits
+    c.in_ok-bare.ensures.unchanged c.in_ok-bare.ensures.crash text.select_fits
+    (int c.args.room ∷ []) _ selects.select_fits
     c.in_ok-bare.ensures.books clean IsFit (c.in_err-fits.ensures.cause clean other)))))
 
 pub returns-in_err-room_with : goal.returns-in_err-room_with

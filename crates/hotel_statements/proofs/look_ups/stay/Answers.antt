@@ -20,9 +20,12 @@ pub returns : goal.returns
 returns g c =
     let old = state g.S.Store c.args.conn.now in
     let new = state g.S.Store c.look.new.conn in
-    let finds : IsKept new → (p : Query) → Asks text.select_stay p → IfOk c.look.result (AnswersFirst (stay_row_of) p (int c.args.party ∷ []) old.now.trees) =
+    let finds : IsKept new → (p : Query) → Asks text.select_stay p
+    → IfOk c.look.result (AnswersFirst (stay_row_of) p (int c.args.party ∷ []) old.now.trees) =
     rw (c.small.ensures, c.value.ensures.same) at c.look.ensures.found in
-    let cause : HasCause (StayFails c.args.party) old new c.look.result = rw (c.small.ensures, c.value.ensures.same) at c.look.ensures.cause in
+    let cause : HasCause (StayFails c.args.party) old new c.look.result =
+    rw (c.small.ensures, c.value.ensures.same) at c.look.ensures.cause in
     looks_to text.select_stay (int c.args.party ∷ []) old new (stay_row_of) _ c.look.result c.look.result
-    (λ a. a) _ c.requires c.look.ensures.books c.look.ensures.keeps finds c.look.ensures.unchanged cause c.look.ensures.crash selects.select_stay
+    (λ a. a) _ c.requires c.look.ensures.books c.look.ensures.keeps finds c.look.ensures.unchanged cause
+    c.look.ensures.crash selects.select_stay
     (λ kept tables. IfOk-weaker c.look.result _ _ (λ o a. stay_finds old.now.trees tables c.args.party o a))

@@ -23,12 +23,14 @@ returns g c =
     let shown : IsKept new → (p : Query) → Asks text.select_stays_of_kind p
     → IfOk c.look_all.result (λ all. AnswersAll (stay_row_of) p (Text c.args.kind.now ∷ []) old.now.trees all.items) =
     rw (c.text.ensures, c.as_bytes.ensures.same) at c.look_all.ensures.found in
-    let cause : HasCause (StaysFail c.args.kind.now) old new c.look_all.result = rw (c.text.ensures, c.as_bytes.ensures.same) at c.look_all.ensures.cause in
+    let cause : HasCause (StaysFail c.args.kind.now) old new c.look_all.result =
+    rw (c.text.ensures, c.as_bytes.ensures.same) at c.look_all.ensures.cause in
     record {
       books = c.look_all.ensures.books;
       keeps = c.look_all.ensures.keeps;
       found = λ kept. IfOk-weaker c.look_all.result _ _
-          (λ all a. stays_find old.now.trees (c.requires.desk (c.look_all.ensures.keeps kept).0).tables c.args.kind.now all.items a) (shown kept _ selects.select_stays_of_kind);
+          (λ all a. stays_find old.now.trees (c.requires.desk (c.look_all.ensures.keeps kept).0).tables c.args.kind.now
+          all.items a) (shown kept _ selects.select_stays_of_kind);
       open_on = λ _ clean. open_still old new c.look_all.result (c.look_all.ensures.unchanged clean);
       unchanged = λ _. c.look_all.ensures.unchanged;
       cause = cause;

@@ -8,7 +8,8 @@ use Rattle.hotel_statements.proofs.statement.run.Goals as goal
 pub returns-in_err-execute-clause-runs : goal.returns-in_err-execute-clause-runs
 returns-in_err-execute-clause-runs g c = record {
   ran = λ clean. failing _ c.from_residual.result c.from_residual.ensures.0;
-  kept = λ clean. kept_inside _ _ _ _ _ _ (c.execute.ensures.runs clean) (λ no. ap (state g.S.Store) (c.execute.ensures.ended no).1);
+  kept = λ clean. kept_inside _ _ _ _ _ _ (c.execute.ensures.runs clean)
+      (λ no. ap (state g.S.Store) (c.execute.ensures.ended no).1);
   survives = c.execute.ensures.survives;
 }
 
@@ -19,14 +20,27 @@ returns-clause-runs g c =
     let inside = ran_inside old.in_transaction _ _ _ _ is c.execute.ensures.ended in
     record {
       ran = λ clean. (c.in_ok-execute.field-0, c.in_ok-execute.ensures.runs clean inside);
-      kept = λ clean. commit_kept c.args.text.now (bound c.args.params.now) old (state g.S.Store c.execute.new.self.conn.now) (Ok c.in_ok-execute.field-0) (c.in_ok-execute.ensures.runs clean inside);
+      kept = λ clean. commit_kept c.args.text.now (bound c.args.params.now) old
+          (state g.S.Store c.execute.new.self.conn.now) (Ok c.in_ok-execute.field-0)
+          (c.in_ok-execute.ensures.runs clean inside);
       survives = c.execute.ensures.survives;
     }
 
 pub returns-in_err-execute-clause-answers : goal.returns-in_err-execute-clause-answers
 returns-in_err-execute-clause-answers g c = record {
-  in_turn = λ clean. inl (_, ran_one g.S.Store _ _ _ _ (c.in_err-execute.ensures.runs clean) c.in_err-execute.ensures.ended, answered c.from_residual.result c.from_residual.ensures.1);
+  in_turn = λ clean. inl (
+    _,
+    ran_one g.S.Store _ _ _ _ (c.in_err-execute.ensures.runs clean) c.in_err-execute.ensures.ended,
+    answered c.from_residual.result c.from_residual.ensures.1,
+  );
 }
 
 pub returns-clause-answers : goal.returns-clause-answers
-returns-clause-answers g c = record { in_turn = λ clean. inr (_, _, ran_one g.S.Store _ _ _ _ (c.in_ok-execute.ensures.runs clean) c.in_ok-execute.ensures.ended, (refl, refl)) }
+returns-clause-answers g c = record {
+  in_turn = λ clean. inr (
+    _,
+    _,
+    ran_one g.S.Store _ _ _ _ (c.in_ok-execute.ensures.runs clean) c.in_ok-execute.ensures.ended,
+    (refl, refl),
+  );
+}

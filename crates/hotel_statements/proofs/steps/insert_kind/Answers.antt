@@ -5,4 +5,5 @@ use Rattle.hotel_statements.proofs.Made.Inserts.{kind_step}
 use Rattle.hotel_statements.proofs.steps.insert_kind.Goals as goal
 
 pub returns-clause-makes : goal.returns-clause-makes
-returns-clause-makes g c = writes_row (Text c.args.kind.now ∷ []) c.run.ensures.runs c.run.ensures.answers (kind_step _ _ c.args.kind.now) (rw (c.text.ensures, c.as_bytes.ensures.same) refl)
+returns-clause-makes g c = writes_row (Text c.args.kind.now ∷ []) c.run.ensures.runs c.run.ensures.answers
+    (kind_step _ _ c.args.kind.now) (rw (c.text.ensures, c.as_bytes.ensures.same) refl)

@@ -17,5 +17,7 @@ pub returns : goal.returns
 returns g c =
     let old = state g.S.Store c.args.conn.now in
     let walked : (rows : List Stay) → SaysRows stay_row_of text.walk_arrivals (int c.args.day ∷ []) old rows
-    → WalksRows (ArrivalsFail c.args.day) g.K.Sink.after g.K.Sink.after_stop rows old (state g.S.Store c.walk.new.conn) c.args.sink.now c.walk.new.sink c.walk.result = rw c.dated.ensures at c.walk.ensures in
-    walked _ (_, walks.walk_arrivals, λ kept all. arrivals_said old.now.trees (c.requires.desk kept).tables c.args.day all)
+    → WalksRows (ArrivalsFail c.args.day) g.K.Sink.after g.K.Sink.after_stop rows old (state g.S.Store
+    c.walk.new.conn) c.args.sink.now c.walk.new.sink c.walk.result = rw c.dated.ensures at c.walk.ensures in
+    walked _
+    (_, walks.walk_arrivals, λ kept all. arrivals_said old.now.trees (c.requires.desk kept).tables c.args.day all)

@@ -32,17 +32,21 @@ returns-in-Ok g c =
     let unchanged : HasCleanDisk mid → IsUnchanged old mid = λ clean. rw c.in-Ok.is at
     (c.fits_of_room.ensures.unchanged tt clean) in
     let walked : (all : List Note) → SaysRows (note_under fits) text.walk_audit (int c.args.room ∷ []) mid all
-    → WalksRows (WalkFails (IsNoteUnder fits) text.walk_audit (int c.args.room ∷ [])) g.K.Sink.after g.K.Sink.after_stop all mid (state g.S.Store c.walk.new.conn) c.args.sink.now
+    → WalksRows (WalkFails (IsNoteUnder fits) text.walk_audit
+    (int c.args.room ∷ [])) g.K.Sink.after g.K.Sink.after_stop all mid (state g.S.Store c.walk.new.conn) c.args.sink.now
     c.walk.new.sink c.walk.result = rw c.numbered.ensures at c.walk.ensures in
     then_walks g.K.Sink.after g.K.Sink.after_stop rows old mid c.args.sink.now (state g.S.Store c.walk.new.conn)
     c.walk.new.sink c.walk.result
     c.fits_of_room.ensures.keeps (λ clean. (unchanged clean).0.is_open) c.fits_of_room.ensures.crash
     (λ was clean fails.
     let still = walk_fails_later old mid (state g.S.Store c.walk.new.conn) was unchanged c.fits_of_room.ensures.crash
-    text.walk_audit (int c.args.room ∷ []) _ walks.walk_audit c.fits_of_room.ensures.books clean (IsNoteUnder fits) fails in
-    let same : fits ≡ fits_at (rows_in old.now.trees).fits c.args.room = are (was clean, (unchanged (was clean)).0.is_open) in
+    text.walk_audit (int c.args.room ∷ []) _ walks.walk_audit c.fits_of_room.ensures.books
+    clean (IsNoteUnder fits) fails in
+    let same : fits ≡ fits_at (rows_in old.now.trees).fits c.args.room =
+    are (was clean, (unchanged (was clean)).0.is_open) in
     inr (walk_unread (IsNoteUnder fits) (IsNoteUnder (fits_at (rows_in old.now.trees).fits c.args.room)) text.walk_audit
-    (int c.args.room ∷ []) old (state g.S.Store c.walk.new.conn) (λ _ rows all. subst (λ fs. All (IsNoteUnder fs) rows) (sym same) all) still))
+    (int c.args.room ∷ []) old (state g.S.Store c.walk.new.conn)
+    (λ _ rows all. subst (λ fs. All (IsNoteUnder fs) rows) (sym same) all) still))
     (walked rows (
       _,
       walks.walk_audit,

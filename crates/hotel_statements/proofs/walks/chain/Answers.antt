@@ -44,11 +44,14 @@ returns-in-Ok-Some g c =
     ∙ sym (room_joined (fits_in db) (bare_rooms_in db) c.args.room) in
     let unchanged : HasCleanDisk mid → IsUnchanged old mid =
     λ clean. rw c.in-Ok-Some.is at (c.bare_room.ensures.unchanged clean) in
-    let walked : (all : List ChainRow) → SaysRows (chain_row_of row.lock_place) text.walk_chain (int c.args.room ∷ []) mid all
-    → WalksRows (WalkFails IsOfChain text.walk_chain (int c.args.room ∷ [])) g.K.Sink.after g.K.Sink.after_stop all mid (state g.S.Store c.walk.new.conn) c.args.sink.now
+    let walked : (all : List ChainRow)
+    → SaysRows (chain_row_of row.lock_place) text.walk_chain (int c.args.room ∷ []) mid all
+    → WalksRows (WalkFails IsOfChain text.walk_chain
+    (int c.args.room ∷ [])) g.K.Sink.after g.K.Sink.after_stop all mid (state g.S.Store c.walk.new.conn) c.args.sink.now
     c.walk.new.sink
     c.walk.result = rw (c.numbered.ensures, c.lock_place.ensures) at c.walk.ensures in
-    then_walks g.K.Sink.after g.K.Sink.after_stop rows old mid c.args.sink.now (state g.S.Store c.walk.new.conn) c.walk.new.sink c.walk.result
+    then_walks g.K.Sink.after g.K.Sink.after_stop rows old mid c.args.sink.now
+    (state g.S.Store c.walk.new.conn) c.walk.new.sink c.walk.result
     c.bare_room.ensures.keeps (λ clean. (unchanged clean).0.is_open) c.bare_room.ensures.crash
     (λ was clean fails. inr (walk_fails_later old mid (state g.S.Store c.walk.new.conn) was unchanged
     c.bare_room.ensures.crash text.walk_chain (int c.args.room ∷ []) _ walks.walk_chain c.bare_room.ensures.books clean
@@ -60,7 +63,8 @@ returns-in-Ok-Some g c =
           let was = c.bare_room.ensures.keeps kept in
           codes_said db (c.requires.books.desk was.0).tables (c.requires.sound was.0) c.args.room row
           (sym (there kept)) all
-          (subst (λ (d : Database). AnswersAll (chain_row_of row.lock_place) chain_query (int c.args.room ∷ []) d.trees all) was.1 answers),
+          (subst (λ (d : Database). AnswersAll (chain_row_of row.lock_place) chain_query
+          (int c.args.room ∷ []) d.trees all) was.1 answers),
     ))
 
 pub returns-in-Ok-None : goal.returns-in-Ok-None

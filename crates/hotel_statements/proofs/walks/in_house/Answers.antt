@@ -9,4 +9,8 @@ walk-requires-clause-asks g c = (_, walks.walk_in_house)
 pub returns : goal.returns
 returns g c =
     let old = state g.S.Store c.args.conn.now in
-    c.walk.ensures _ (_, walks.walk_in_house, λ kept all. house_said old.now.trees (c.requires.books.desk kept).tables (c.requires.sound kept) all)
+    c.walk.ensures _ (
+      _,
+      walks.walk_in_house,
+      λ kept all. house_said old.now.trees (c.requires.books.desk kept).tables (c.requires.sound kept) all,
+    )

@@ -22,7 +22,8 @@ read_two-requires-2-clause-second g c = note_whole c.args.version
 
 pub returns-in_err-first : goal.returns-in_err-first
 returns-in_err-first g c =
-    not_read c.args.version _ _ _ _ (state g.S.Store c.args.conn.now) (state g.S.Store c.read_two.new.conn) _ c.from_residual.result
+    not_read c.args.version _ _ _ _ (state g.S.Store c.args.conn.now)
+    (state g.S.Store c.read_two.new.conn) _ c.from_residual.result
     (err_is c.from_residual.result _ c.from_residual.ensures) inl c.in_err-first.ensures
 
 pub returns-in_err-second : goal.returns-in_err-second
@@ -31,7 +32,8 @@ returns-in_err-second g c =
     let one = inside_whole version in
     let two = note_whole version in
     second_failed version _ _ _ _ (state g.S.Store c.args.conn.now) (state g.S.Store c.read_two.new.conn)
-    (state g.S.Store c.read_two-2.new.conn) c.in_ok-first.first c.in_ok-first.ensures _ _ c.from_residual-in_err-second.result
+    (state g.S.Store c.read_two-2.new.conn) c.in_ok-first.first c.in_ok-first.ensures _ _
+    c.from_residual-in_err-second.result
     (err_is c.from_residual-in_err-second.result _ c.from_residual-in_err-second.ensures)
     (either_later version _ _ (table_later version text.read_inside one.query one.asks (BeginsAs numbered_shown))
     (table_later version text.read_note two.query two.asks (BeginsAs note_shown)))
@@ -40,4 +42,5 @@ returns-in_err-second g c =
 pub returns : goal.returns
 returns g c =
     pair_read c.args.version _ _ _ _ (state g.S.Store c.args.conn.now) (state g.S.Store c.read_two.new.conn)
-    (state g.S.Store c.read_two-2.new.conn) c.in_ok-first.first c.in_ok-first.ensures c.in_ok-second.second (λ _ _. tt) c.in_ok-second.ensures
+    (state g.S.Store c.read_two-2.new.conn) c.in_ok-first.first c.in_ok-first.ensures c.in_ok-second.second
+    (λ _ _. tt) c.in_ok-second.ensures

@@ -25,7 +25,8 @@ returns-in-Ok g c =
     (sym (are ∙ ap (map g.L.PlainRow.cut) c.deref.ensures.value))
     (whole.answers old.now.trees c.in-Ok.rows.items answer))
     c.plain_rows_of.ensures.reads)
-    (IfErr-weaker c.plain_rows_of.result _ _ (λ fault unread other. subst (λ rows. ¬ All (BeginsAs g.L.PlainRow.shown) rows)
+    (IfErr-weaker c.plain_rows_of.result _ _
+    (λ fault unread other. subst (λ rows. ¬ All (BeginsAs g.L.PlainRow.shown) rows)
     c.deref.ensures.value (unread other)) c.plain_rows_of.ensures.unread)
 
 pub returns-in-Err : goal.returns-in-Err

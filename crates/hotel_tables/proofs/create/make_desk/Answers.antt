@@ -34,7 +34,8 @@ returns-in_err-write_desk-clause-same g c =
     let mid = state g.S.Store c.write_desk.new.tx.conn.now in
     search (
       rules,
-      undone old start mid _ _ (ap (state g.S.Store) c.transaction-tx.ensures.begun) settled c.write_desk.ensures.makes.kept
+      undone old start mid _ _ (ap (state g.S.Store) c.transaction-tx.ensures.begun) settled
+          c.write_desk.ensures.makes.kept
           c.drop-tx.ensures.survives c.drop-tx.ensures.undone,
     )
 
@@ -79,5 +80,6 @@ pub returns-clause-failed : goal.returns-clause-failed
 returns-clause-failed g c =
     let failed : IfErr c.commit.result (FailsToMake g.S.Store c.args.conn.now c.commit.new.self.0) =
     not_committed g.S.Store c.args.conn.now c.transaction-tx.result.conn.now c.write_desk.new.tx.conn.now
-    c.commit.new.self.0 c.transaction-tx.ensures.begun tt c.commit.result c.in_ok-write_desk.ensures.makes.runs c.commit.ensures.err in
+    c.commit.new.self.0 c.transaction-tx.ensures.begun tt c.commit.result
+    c.in_ok-write_desk.ensures.makes.runs c.commit.ensures.err in
     search (rules, failed)

@@ -11,7 +11,8 @@ returns c =
     let ids = map id_inside c.args.inside.now in
     let sorted = c.sort.new.self.items in
     let rises = c.numbers_rise.ensures ∙ ap (are_in_order int_cmp) c.deref.ensures.value in
-    let same : IsPermutation ids sorted = subst (λ (ids : List ℤ). IsPermutation ids sorted) c.in_ok-ids.ensures c.in-Ok.ensures.permutation in (
+    let same : IsPermutation ids sorted =
+    subst (λ (ids : List ℤ). IsPermutation ids sorted) c.in_ok-ids.ensures c.in-Ok.ensures.permutation in (
       (λ apart. apart_ids ids sorted same (sym rises ∙ apart)),
       (λ apart. rises ∙ apart_in_order ids sorted same c.in-Ok.ensures.sorted apart),
     )

@@ -11,7 +11,8 @@ pub returns-clause-ok : goal.returns-clause-ok
 returns-clause-ok c = λ db read.
     let t = c.args.tables in
     let is = c.in_ok-meta.ensures.ok in
-    let apart = subst (λ (ls : List NumberedInside). c.in-Ok-true.field-0 ≡ true → AreApart int_cmp (map id_inside ls)) c.deref.ensures.value c.in-Ok-true.ensures.0 in
+    let apart = subst (λ (ls : List NumberedInside). c.in-Ok-true.field-0 ≡ true → AreApart int_cmp (map id_inside ls))
+    c.deref.ensures.value c.in-Ok-true.ensures.0 in
     let inside = c.in-Ok.ensures ∙ ap (map plain_inside) c.deref-2.ensures.value in (
       stored_are {of = c.args.version} t db c.in_ok-meta.meta _ c.in-Ok.inside
           (first_of (search (rules, is.2), grind (arith, to_z-of_z, is.2, small_number c.args.version))) read is inside

@@ -50,7 +50,8 @@ returns-clause-ends g c =
       Ok c.in-Ok.answers.items,
       true,
       refl,
-      subst (λ (l : List LineAnswer). AppendsFront old new (answers_text 1 l)) items c.in-Err-write_answers.ensures.writes.err,
+      subst (λ (l : List LineAnswer). AppendsFront old new (answers_text 1 l)) items
+          c.in-Err-write_answers.ensures.writes.err,
       record {
         went = e.imported;
         no_file = tt;

@@ -9,7 +9,8 @@ returns-clause-ends g c =
       e.0,
       e.1,
       c.finish.ensures.status ∙ ap end_status e.2,
-      subst (λ (r : Result ℕ Fault). Tells g.F.FaultSink.told c.args.faults.now r c.finish.new.faults) e.2 c.finish.ensures.told,
+      subst (λ (r : Result ℕ Fault). Tells g.F.FaultSink.told c.args.faults.now r c.finish.new.faults) e.2
+          c.finish.ensures.told,
       e.3,
       e.4,
     )

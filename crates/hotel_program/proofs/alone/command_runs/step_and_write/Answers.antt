@@ -11,8 +11,10 @@ returns-in-Ok-clause-ends g c =
       c.step-reply.result,
       false,
       ap Ok c.status_of.ensures.status,
-      subst (λ (t : List ℕ). Appends (g.W.Write.contents c.args.writer.now) (g.W.Write.contents c.write_bytes.new.writer) t) text c.in-Ok.ensures.writes.ok,
-      step_happens _ _ c.args.command.now c.step-reply.result g.met.B.Issued.clean_honest e.since e.happened e.failed e.vouched,
+      subst (λ (t : List ℕ). Appends (g.W.Write.contents c.args.writer.now)
+          (g.W.Write.contents c.write_bytes.new.writer) t) text c.in-Ok.ensures.writes.ok,
+      step_happens _ _ c.args.command.now c.step-reply.result g.met.B.Issued.clean_honest e.since
+          e.happened e.failed e.vouched,
     )
 
 pub returns-in-Err-clause-ends : goal.returns-in-Err-clause-ends
@@ -22,6 +24,8 @@ returns-in-Err-clause-ends g c =
       c.step-reply.result,
       true,
       refl,
-      subst (λ (t : List ℕ). AppendsFront (g.W.Write.contents c.args.writer.now) (g.W.Write.contents c.write_bytes.new.writer) t) text c.in-Err.ensures.writes.err,
-      step_happens _ _ c.args.command.now c.step-reply.result g.met.B.Issued.clean_honest e.since e.happened e.failed e.vouched,
+      subst (λ (t : List ℕ). AppendsFront (g.W.Write.contents c.args.writer.now)
+          (g.W.Write.contents c.write_bytes.new.writer) t) text c.in-Err.ensures.writes.err,
+      step_happens _ _ c.args.command.now c.step-reply.result g.met.B.Issued.clean_honest e.since
+          e.happened e.failed e.vouched,
     )

@@ -10,7 +10,8 @@ returns-clause-ends g c =
     let end = c.end_of_list.ensures.end in (
       c.write_list_or_refusal-end.result,
       c.finish.ensures.status ∙ ap end_status end,
-      subst (λ (e : Result ℕ Fault). Tells g.F.FaultSink.told c.args.faults.now e c.finish.new.faults) end c.finish.ensures.told,
+      subst (λ (e : Result ℕ Fault). Tells g.F.FaultSink.told c.args.faults.now e c.finish.new.faults) end
+          c.finish.ensures.told,
       λ honest. answer_ends _ c.args.list.now _ _ _ (ended.text honest),
       ended.books,
     )

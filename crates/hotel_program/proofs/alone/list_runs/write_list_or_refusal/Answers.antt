@@ -17,10 +17,13 @@ returns-in_err-write_bytes-in-Err-NoRoom-clause-text g c = λ honest.
     let mid = g.W.Write.contents c.write_list.new.writer in
     let new = g.W.Write.contents c.write_bytes.new.writer in
     let no_room = c.in-Err-NoRoom.is ∙ ap (λ (f : ListFault). Err f) c.in-Err-NoRoom.field-0-is in
-    let written = subst (λ (r : Result (Unit {0}) ListFault). ListEnds [] listing old mid r) no_room (c.write_list.ensures.text honest) in
-    let said : c.as_bytes.result.now ≡ refusal_text refusal.NoRoom = c.as_bytes.ensures.same ∙ c.reply_text-refused.ensures in
+    let written = subst (λ (r : Result (Unit {0}) ListFault). ListEnds [] listing old mid r) no_room
+    (c.write_list.ensures.text honest) in
+    let said : c.as_bytes.result.now ≡ refusal_text refusal.NoRoom =
+    c.as_bytes.ensures.same ∙ c.reply_text-refused.ensures in
     let front : AppendsFront mid new c.as_bytes.result.now = c.in_err-write_bytes-in-Err-NoRoom.ensures.writes.err in
-    subst (λ (r : Result (Unit {0}) ListFault). AnswerEnds listing old new r) (sym (is_write c.from_residual.result c.from_residual.ensures.1))
+    subst (λ (r : Result (Unit {0}) ListFault). AnswerEnds listing old new r)
+    (sym (is_write c.from_residual.result c.from_residual.ensures.1))
     (cut_no_room listing old mid new written (subst (λ (t : List ℕ). AppendsFront mid new t) said front))
 
 pub returns-in_ok-write_bytes-in-Err-NoRoom-clause-text : goal.returns-in_ok-write_bytes-in-Err-NoRoom-clause-text
@@ -30,7 +33,9 @@ returns-in_ok-write_bytes-in-Err-NoRoom-clause-text g c = λ honest.
     let mid = g.W.Write.contents c.write_list.new.writer in
     let new = g.W.Write.contents c.write_bytes.new.writer in
     let no_room = c.in-Err-NoRoom.is ∙ ap (λ (f : ListFault). Err f) c.in-Err-NoRoom.field-0-is in
-    let written = subst (λ (r : Result (Unit {0}) ListFault). ListEnds [] listing old mid r) no_room (c.write_list.ensures.text honest) in
-    let said : c.as_bytes.result.now ≡ refusal_text refusal.NoRoom = c.as_bytes.ensures.same ∙ c.reply_text-refused.ensures in
+    let written = subst (λ (r : Result (Unit {0}) ListFault). ListEnds [] listing old mid r) no_room
+    (c.write_list.ensures.text honest) in
+    let said : c.as_bytes.result.now ≡ refusal_text refusal.NoRoom =
+    c.as_bytes.ensures.same ∙ c.reply_text-refused.ensures in
     let whole : Appends mid new c.as_bytes.result.now = c.in_ok-write_bytes-in-Err-NoRoom.ensures.writes.ok in
     told_no_room listing old mid new written (subst (λ (t : List ℕ). Appends mid new t) said whole)

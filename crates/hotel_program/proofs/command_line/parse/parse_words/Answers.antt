@@ -28,7 +28,8 @@ pub returns-in-Ok-try_get_matches_from-clause-seed : goal.returns-in-Ok-try_get_
 returns-in-Ok-try_get_matches_from-clause-seed c =
     let m = c.in-Ok-try_get_matches_from.ensures.matches (ap is_simple c.in-Ok.ensures.shape ∙ desk_is_simple) in
     let rows = m.0 ∙ ap (λ (a : App). matches_of a (map string_bytes c.args.words.now)) c.in-Ok.ensures.shape in
-    IfOk-weaker c.plan.result _ _ (λ p h. h ∙ ap (first_of (115 ∷ 101 ∷ 101 ∷ 100 ∷ 45 ∷ 102 ∷ 105 ∷ 108 ∷ 101 ∷ [])) rows) c.plan.ensures.seed
+    IfOk-weaker c.plan.result _ _
+    (λ p h. h ∙ ap (first_of (115 ∷ 101 ∷ 101 ∷ 100 ∷ 45 ∷ 102 ∷ 105 ∷ 108 ∷ 101 ∷ [])) rows) c.plan.ensures.seed
 
 pub returns-in-Ok-try_get_matches_from-clause-value : goal.returns-in-Ok-try_get_matches_from-clause-value
 returns-in-Ok-try_get_matches_from-clause-value c =

@@ -6,5 +6,6 @@ use Rattle.hotel_program.proofs.script.asks.read_values.Goals as goal
 
 pub returns : goal.returns
 returns c =
-    let P : List (List ℕ) → Type 0 = λ values. IsLineRead ask_copies (asked (ask_of c.args.verb values)) c.line_read.result in
+    let P : List (List ℕ) → Type 0 =
+    λ values. IsLineRead ask_copies (asked (ask_of c.args.verb values)) c.line_read.result in
     subst P (c.as_slice.ensures ∙ c.in-Some.ensures.found) (c.line_read.ensures _ c.read_ask.ensures.reading)

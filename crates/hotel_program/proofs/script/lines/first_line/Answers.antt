@@ -6,15 +6,18 @@ use Rattle.hotel_program.specs.Script.Lines.{lines}
 use Rattle.hotel_program.proofs.script.lines.first_line.Goals as goal
 
 -- a text with no line feed is one line
-lines-whole : (text : List ℕ) → 0 < length text → ((k : ℕ) → k < length text → get_or text k 0 ≡ 10 → ⊥) → lines text ≡ text ∷ []
+lines-whole : (text : List ℕ)
+    → 0 < length text → ((k : ℕ) → k < length text → get_or text k 0 ≡ 10 → ⊥) → lines text ≡ text ∷ []
 unfolding lines
 lines-whole [] h n = absurd (omega arith)
 lines-whole (b ∷ []) h n = rw (ne_eqb b 10 (n 0 (omega arith))) refl
 lines-whole (b ∷ x ∷ rest) h n =
-    rw (ne_eqb b 10 (n 0 (omega arith)), lines-whole (x ∷ rest) (omega arith) (λ k lt e. n (suc k) (omega arith) e)) refl
+    rw (ne_eqb b 10 (n 0 (omega arith)), lines-whole (x ∷ rest) (omega arith) (λ k lt e. n (suc k) (omega arith) e))
+    refl
 
 -- a text with its first line feed at i
-lines-at : (text : List ℕ) (i : ℕ) → i < length text → get_or text i 0 ≡ 10 → ((k : ℕ) → k < i → get_or text k 0 ≡ 10 → ⊥) → lines text ≡ take i text ∷ lines (drop (suc i) text)
+lines-at : (text : List ℕ) (i : ℕ) → i < length text → get_or text i 0 ≡ 10
+    → ((k : ℕ) → k < i → get_or text k 0 ≡ 10 → ⊥) → lines text ≡ take i text ∷ lines (drop (suc i) text)
 unfolding lines
 lines-at [] i h e n = absurd (omega arith)
 lines-at (b ∷ rest) zero h e n = rw e refl

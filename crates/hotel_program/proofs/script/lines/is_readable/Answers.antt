@@ -11,10 +11,14 @@ both : (a b x y : Bool) → a ≡ x → b ≡ y → (x && y) ≡ (a && b)
 both a b x y e f = rw (e, f) refl
 
 yes-of : (line : List ℕ) → length line ≤ LINE_LIMIT → is_utf8 line ≡ true → true ≡ is_readable line
-yes-of line h u = let e : nat_le (length line) LINE_LIMIT ≡ true = grind (arith, nat_tests) in both (nat_le (length line) LINE_LIMIT) (is_utf8 line) true true e u
+yes-of line h u =
+    let e : nat_le (length line) LINE_LIMIT ≡ true = grind (arith, nat_tests) in
+    both (nat_le (length line) LINE_LIMIT) (is_utf8 line) true true e u
 
 no-of : (line : List ℕ) → length line ≤ LINE_LIMIT → is_utf8 line ≡ false → false ≡ is_readable line
-no-of line h u = let e : nat_le (length line) LINE_LIMIT ≡ true = grind (arith, nat_tests) in both (nat_le (length line) LINE_LIMIT) (is_utf8 line) true false e u
+no-of line h u =
+    let e : nat_le (length line) LINE_LIMIT ≡ true = grind (arith, nat_tests) in
+    both (nat_le (length line) LINE_LIMIT) (is_utf8 line) true false e u
 
 not-utf8 : (line : List ℕ) → (IsUtf8 line → ⊥) → is_utf8 line ≡ false
 not-utf8 line h = elim (cases_Bool (is_utf8 line)) [

@@ -19,15 +19,22 @@ returns-clause-went g c = λ s.
     let new = g.W.Write.contents c.write_bytes.new.writer in
     let books = c.write_list.ensures.books in
     let refused = sym c.told_refusal.ensures ∙ c.in-Some.is in
-    let looks = subst (λ (r : Result (Unit {0}) ListFault). LooksAt g.B.Issued c.args.books.now c.write_list.new.books r) c.in-Err.is books in
-    let said : c.as_bytes.result.now ≡ refusal_text c.in-Some.refusal = c.as_bytes.ensures.same ∙ c.reply_text-text.ensures in
-    list_ends c.args.list.now s old new c.write_bytes.result g.met.B.Issued.clean_honest books.since (λ clean. g.met.B.Books.kept_rows _ _ (books.kept clean))
+    let looks = subst (λ (r : Result (Unit {0}) ListFault).
+    LooksAt g.B.Issued c.args.books.now c.write_list.new.books r) c.in-Err.is books in
+    let said : c.as_bytes.result.now ≡ refusal_text c.in-Some.refusal =
+    c.as_bytes.ensures.same ∙ c.reply_text-text.ensures in
+    list_ends c.args.list.now s old new c.write_bytes.result g.met.B.Issued.clean_honest books.since
+    (λ clean. g.met.B.Books.kept_rows _ _ (books.kept clean))
     (λ honest.
-    let written = subst (λ (r : Result (Unit {0}) ListFault). ListEnds [] listing old mid r) c.in-Err.is (c.write_list.ensures.text honest) in
-    when_ok _ _ _ (λ p. refused_whole g.B.Issued listing old mid new _ _ refused written looks honest (subst (λ (t : List ℕ). Appends mid new t) said p)) c.write_bytes.ensures.writes.ok)
+    let written = subst (λ (r : Result (Unit {0}) ListFault). ListEnds [] listing old mid r) c.in-Err.is
+    (c.write_list.ensures.text honest) in
+    when_ok _ _ _ (λ p. refused_whole g.B.Issued listing old mid new _ _ refused written looks honest
+    (subst (λ (t : List ℕ). Appends mid new t) said p)) c.write_bytes.ensures.writes.ok)
     (λ honest.
-    let written = subst (λ (r : Result (Unit {0}) ListFault). ListEnds [] listing old mid r) c.in-Err.is (c.write_list.ensures.text honest) in
-    when_err _ _ _ (λ p. refused_cut g.B.Issued listing old mid new _ _ refused written looks (subst (λ (t : List ℕ). AppendsFront mid new t) said p)) c.write_bytes.ensures.writes.err)
+    let written = subst (λ (r : Result (Unit {0}) ListFault). ListEnds [] listing old mid r) c.in-Err.is
+    (c.write_list.ensures.text honest) in
+    when_err _ _ _ (λ p. refused_cut g.B.Issued listing old mid new _ _ refused written looks
+    (subst (λ (t : List ℕ). AppendsFront mid new t) said p)) c.write_bytes.ensures.writes.err)
 
 pub returns-in_default-clause-went : goal.returns-in_default-clause-went
 returns-in_default-clause-went g c = λ s.
@@ -35,10 +42,13 @@ returns-in_default-clause-went g c = λ s.
     let old = g.W.Write.contents c.args.writer.now in
     let new = g.W.Write.contents c.write_list.new.writer in
     let books = c.write_list.ensures.books in
-    list_ends c.args.list.now s old new (Ok tt) g.met.B.Issued.clean_honest books.since (λ clean. g.met.B.Books.kept_rows _ _ (books.kept clean))
+    list_ends c.args.list.now s old new (Ok tt) g.met.B.Issued.clean_honest books.since
+    (λ clean. g.met.B.Books.kept_rows _ _ (books.kept clean))
     (λ honest.
-    let written = subst (λ (r : Result (Unit {0}) ListFault). ListEnds [] listing old new r) c.in_default.is (c.write_list.ensures.text honest) in
-    let clean = subst (λ (r : Result (Unit {0}) ListFault). Vouches (g.B.Issued.is_clean c.write_list.new.books) r) c.in_default.is (books.vouched honest) in
+    let written = subst (λ (r : Result (Unit {0}) ListFault). ListEnds [] listing old new r) c.in_default.is
+    (c.write_list.ensures.text honest) in
+    let clean = subst (λ (r : Result (Unit {0}) ListFault). Vouches (g.B.Issued.is_clean c.write_list.new.books) r)
+    c.in_default.is (books.vouched honest) in
     whole_answered _ listing old new written clean books.since.counted)
     (λ honest. tt)
 
@@ -49,7 +59,9 @@ returns-in_default-told_refusal-clause-went g c = λ s.
     let new = g.W.Write.contents c.write_list.new.writer in
     let books = c.write_list.ensures.books in
     let none = sym c.told_refusal.ensures ∙ c.in_default-told_refusal.is in
-    list_cut c.args.list.now s old new g.met.B.Issued.clean_honest books.since (λ clean. g.met.B.Books.kept_rows _ _ (books.kept clean))
+    list_cut c.args.list.now s old new g.met.B.Issued.clean_honest books.since
+    (λ clean. g.met.B.Books.kept_rows _ _ (books.kept clean))
     (λ honest.
-    let written = subst (λ (r : Result (Unit {0}) ListFault). ListEnds [] listing old new r) c.in-Err.is (c.write_list.ensures.text honest) in
+    let written = subst (λ (r : Result (Unit {0}) ListFault). ListEnds [] listing old new r) c.in-Err.is
+    (c.write_list.ensures.text honest) in
     cut_answered listing old new _ none written books.since.counted)

@@ -11,7 +11,8 @@ loop-i-preserved-then-contains_key c =
     let i = c.loop-i.i in
     let places = c.loop-i.places.entries in
     subst (λ ks. Finds places ks) (sym (take_more keys i 0 c.loop-i-test.true))
-    (finds_again places (take i keys) (get_or keys i 0) c.loop-i.invariant (sym c.contains_key.ensures ∙ c.if-contains_key.true))
+    (finds_again places (take i keys) (get_or keys i 0) c.loop-i.invariant
+    (sym c.contains_key.ensures ∙ c.if-contains_key.true))
 
 pub loop-i-preserved : goal.loop-i-preserved
 loop-i-preserved c =
@@ -20,6 +21,8 @@ loop-i-preserved c =
     let places = c.loop-i.places.entries in
     let later = c.insert.new.self.entries in
     let low : i ≤ length keys = omega (arith, c.loop-i-test.true) in
-    let put = subst (λ n. later ≡ insert_entry nat_cmp places (get_or keys i 0) n) (sym (length-take-le i keys low)) c.in-Ok.ensures.entries in
+    let put = subst (λ n. later ≡ insert_entry nat_cmp places (get_or keys i 0) n)
+    (sym (length-take-le i keys low)) c.in-Ok.ensures.entries in
     subst (λ ks. Finds later ks) (sym (take_more keys i 0 c.loop-i-test.true))
-    (finds_more places later (take i keys) (get_or keys i 0) c.loop-i.invariant (sym c.contains_key.ensures ∙ c.if-contains_key.false) put)
+    (finds_more places later (take i keys) (get_or keys i 0) c.loop-i.invariant
+    (sym c.contains_key.ensures ∙ c.if-contains_key.false) put)

@@ -8,7 +8,8 @@ use Rattle.hotel_rows.proofs.damage.kinds.has_kind.Goals as goal
 pub returns-in_default : goal.returns-in_default
 returns-in_default c = λ kinds all knows.
     let text = c.args.text.now in
-    sym (none_of_kinds kinds text all (unread text (sym (c.read.ensures ∙ ap read_kind c.as_bytes.ensures.value) ∙ c.in_default.is)))
+    sym (none_of_kinds kinds text all
+    (unread text (sym (c.read.ensures ∙ ap read_kind c.as_bytes.ensures.value) ∙ c.in_default.is)))
 
 pub returns : goal.returns
 returns c = λ kinds all knows.

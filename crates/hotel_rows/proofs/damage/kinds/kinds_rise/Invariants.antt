@@ -5,4 +5,5 @@ use Rattle.hotel_rows.specs.Stored.{kind_text}
 use Rattle.hotel_rows.proofs.damage.kinds.kinds_rise.Given as goal
 
 abbrev pub invariant-loop-i : goal.invariant-loop-i
-invariant-loop-i l = are_in_order (slice_cmp nat_cmp) (map kind_text l.kinds) ≡ are_in_order (slice_cmp nat_cmp) (map kind_text (drop (l.i - 1) l.kinds))
+invariant-loop-i l = are_in_order (slice_cmp nat_cmp) (map kind_text l.kinds)
+    ≡ are_in_order (slice_cmp nat_cmp) (map kind_text (drop (l.i - 1) l.kinds))

@@ -13,8 +13,10 @@ loop-i-preserved c =
     let i = c.loop-i.i in
     let plain = get_or xs i c.index-kinds-i.result in
     let here = c.loop-i-test.true in
-    let is = read (kind_text plain) c.in-Some.kind (sym (c.read.ensures ∙ ap read_kind c.as_bytes.ensures.value) ∙ c.in-Some.is) in
-    let grown = ap (map kind_text) (take_more xs i c.index-kinds-i.result here) ∙ text_more kind_text (take i xs) _ ∙ ap (λ t. map kind_text (take i xs) ++ t ∷ []) (sym is.1) in (
+    let is = read (kind_text plain) c.in-Some.kind
+    (sym (c.read.ensures ∙ ap read_kind c.as_bytes.ensures.value) ∙ c.in-Some.is) in
+    let grown = ap (map kind_text) (take_more xs i c.index-kinds-i.result here) ∙ text_more kind_text (take i xs) _
+    ∙ ap (λ t. map kind_text (take i xs) ++ t ∷ []) (sym is.1) in (
       c.loop-i.invariant.0 ∙ ap (λ ls. list_all is_kind (map kind_text ls)) (drop_more xs i c.index-kinds-i.result here)
           ∙ ap (λ b. b && list_all is_kind (map kind_text (drop (i + 1) xs))) is.0,
       subst (HasKinds c.insert.new.self.entries) (sym grown)

@@ -10,4 +10,5 @@ loop-k-preserved c =
     let k = c.loop-k.k in
     let plain = get_or xs (length xs - 1 - k) no_card in
     subst (LastsOf c.add_last.new.lasts.entries) (at_back xs k no_card c.loop-k-test.true)
-    (lasts_more c.loop-k.lasts.entries c.add_last.new.lasts.entries plain (drop (length xs - k) xs) c.loop-k.invariant c.in_ok-add_last.ensures)
+    (lasts_more c.loop-k.lasts.entries c.add_last.new.lasts.entries plain
+    (drop (length xs - k) xs) c.loop-k.invariant c.in_ok-add_last.ensures)

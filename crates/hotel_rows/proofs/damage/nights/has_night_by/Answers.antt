@@ -25,8 +25,10 @@ returns-clause-has c = λ s h.
     let next = c.in-Ok-day-2.ensures.ok ∙ ap (λ n. n + 1) (sym c.in-Ok-day.ensures.ok) in
     let rooms = ap (λ n. n + 1) c.rooms-rooms.ensures in
     turned _ c.is_none.result c.is_none.ensures
-    ∙ night_told s c.args.counts.now c.args.stay.now c.in-Ok.kind c.in-Ok-day.first (c.rooms-rooms.result + 1) c.in-Ok-day-2.next c.full_night-full.result h
-    (c.in-Ok.ensures.ok ∙ c.as_str.ensures.value) arrive rooms next (c.full_night-full.ensures (values_of (map stay_entry s.stays.items)) h.1.0)
+    ∙ night_told s c.args.counts.now c.args.stay.now c.in-Ok.kind c.in-Ok-day.first
+    (c.rooms-rooms.result + 1) c.in-Ok-day-2.next c.full_night-full.result h
+    (c.in-Ok.ensures.ok ∙ c.as_str.ensures.value) arrive rooms next
+    (c.full_night-full.ensures (values_of (map stay_entry s.stays.items)) h.1.0)
 
 -- what the test has
 tells : (counts : Counts) (plain : PlainStay) → tells_night counts plain ≡ true
@@ -40,7 +42,8 @@ tells counts plain h =
 pub returns-in_default-clause-told : goal.returns-in_default-clause-told
 returns-in_default-clause-told c = λ h.
     absurd (false≢true
-    (sym c.in_default.ensures.err.1 ∙ ap is_kind c.as_str.ensures.value ∙ (tells c.args.counts.now c.args.stay.now h).0))
+    (sym c.in_default.ensures.err.1 ∙ ap is_kind c.as_str.ensures.value
+    ∙ (tells c.args.counts.now c.args.stay.now h).0))
 
 pub returns-then-arrive-from-clause-told : goal.returns-then-arrive-from-clause-told
 returns-then-arrive-from-clause-told c = λ h.

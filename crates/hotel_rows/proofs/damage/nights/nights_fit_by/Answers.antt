@@ -11,7 +11,8 @@ returns-then-not-has_night_of c =
     let i = c.loop-i.i in
     let here : i < length xs = omega (arith, c.loop-i-test.true, c.len-i-end.ensures) in
     let it = ap (has_night s) (sym c.index.ensures) ∙ sym c.has_night_of.ensures ∙ c.if-not-has_night_of.true in
-    sym (c.loop-i.invariant ∙ ap (list_all (has_night s)) (drop_more xs i c.index.result.now here) ∙ ap (λ b. b && list_all (has_night s) (drop (i + 1) xs)) it)
+    sym (c.loop-i.invariant ∙ ap (list_all (has_night s)) (drop_more xs i c.index.result.now here)
+    ∙ ap (λ b. b && list_all (has_night s) (drop (i + 1) xs)) it)
 
 pub loop-i-preserved : goal.loop-i-preserved
 loop-i-preserved c =
@@ -20,4 +21,5 @@ loop-i-preserved c =
     let i = c.loop-i.i in
     let here : i < length xs = omega (arith, c.loop-i-test.true, c.len-i-end.ensures) in
     let it = ap (has_night s) (sym c.index.ensures) ∙ sym c.has_night_of.ensures ∙ c.if-not-has_night_of.false in
-    c.loop-i.invariant ∙ ap (list_all (has_night s)) (drop_more xs i c.index.result.now here) ∙ ap (λ b. b && list_all (has_night s) (drop (i + 1) xs)) it
+    c.loop-i.invariant ∙ ap (list_all (has_night s)) (drop_more xs i c.index.result.now here)
+    ∙ ap (λ b. b && list_all (has_night s) (drop (i + 1) xs)) it

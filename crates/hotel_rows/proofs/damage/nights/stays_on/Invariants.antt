@@ -5,4 +5,5 @@ use Rattle.hotel_rows.specs.Stored.{stay_row}
 use Rattle.hotel_rows.proofs.damage.nights.stays_on.Given as goal
 
 abbrev pub invariant-loop-i : goal.invariant-loop-i
-invariant-loop-i l = (l.count ≡ count_by (λ stay. takes l.kind l.night (stay_row stay)) (take l.i l.stays)) × (l.count ≤ l.i)
+invariant-loop-i l =
+    (l.count ≡ count_by (λ stay. takes l.kind l.night (stay_row stay)) (take l.i l.stays)) × (l.count ≤ l.i)

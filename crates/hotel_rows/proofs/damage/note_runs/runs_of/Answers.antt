@@ -10,4 +10,5 @@ loop-k-preserved c =
     let k = c.loop-k.k in
     let plain = get_or xs (length xs - 1 - k) no_note in
     subst (NoteRunsOf c.add_note.new.runs.entries) (at_back xs k no_note c.loop-k-test.true)
-    (runs_more c.loop-k.runs.entries c.add_note.new.runs.entries plain (drop (length xs - k) xs) c.loop-k.invariant c.in_ok-add_note.ensures)
+    (runs_more c.loop-k.runs.entries c.add_note.new.runs.entries plain
+    (drop (length xs - k) xs) c.loop-k.invariant c.in_ok-add_note.ensures)

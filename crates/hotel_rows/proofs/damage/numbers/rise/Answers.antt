@@ -10,9 +10,11 @@ loop-i-preserved c =
     let keys = c.args.keys.now in
     let i = c.loop-i.i in
     let low : 0 < i = omega (arith, c.loop-i.auto.i) in
-    let less : is_lt (nat_cmp (get_or keys (i - 1) 0) (get_or keys i 0)) ≡ true = grind (arith, nat_tests, c.if-keys-i.false) in
+    let less : is_lt (nat_cmp (get_or keys (i - 1) 0) (get_or keys i 0)) ≡ true =
+    grind (arith, nat_tests, c.if-keys-i.false) in
     subst (λ n. are_in_order nat_cmp keys ≡ are_in_order nat_cmp (drop n keys)) (omega arith)
-    (c.loop-i.invariant ∙ next_in_order nat_cmp 0 keys i low c.loop-i-test.true ∙ ap (λ b. b && are_in_order nat_cmp (drop i keys)) less)
+    (c.loop-i.invariant ∙ next_in_order nat_cmp 0 keys i low c.loop-i-test.true
+    ∙ ap (λ b. b && are_in_order nat_cmp (drop i keys)) less)
 
 pub returns : goal.returns
 returns c =

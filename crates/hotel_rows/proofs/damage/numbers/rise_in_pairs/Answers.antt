@@ -11,9 +11,11 @@ loop-i-preserved c =
     let keys = c.args.keys.now in
     let i = c.loop-i.i in
     let low : 0 < i = omega (arith, c.loop-i.auto.i) in
-    let less : is_lt (pair_cmp (get_or keys (i - 1) (0, 0)) (get_or keys i (0, 0))) ≡ true = sym c.is_before.ensures ∙ c.if-not-is_before.false in
+    let less : is_lt (pair_cmp (get_or keys (i - 1) (0, 0)) (get_or keys i (0, 0))) ≡ true =
+    sym c.is_before.ensures ∙ c.if-not-is_before.false in
     subst (λ n. are_in_order pair_cmp keys ≡ are_in_order pair_cmp (drop n keys)) (omega arith)
-    (c.loop-i.invariant ∙ next_in_order pair_cmp (0, 0) keys i low c.loop-i-test.true ∙ ap (λ b. b && are_in_order pair_cmp (drop i keys)) less)
+    (c.loop-i.invariant ∙ next_in_order pair_cmp (0, 0) keys i low c.loop-i-test.true
+    ∙ ap (λ b. b && are_in_order pair_cmp (drop i keys)) less)
 
 pub returns-then-not-is_before : goal.returns-then-not-is_before
 returns-then-not-is_before c =
@@ -21,7 +23,8 @@ returns-then-not-is_before c =
     let i = c.loop-i.i in
     let low : 0 < i = omega (arith, c.loop-i.auto.i) in
     let more = sym c.is_before.ensures ∙ c.if-not-is_before.true in
-    let all = c.loop-i.invariant ∙ next_in_order pair_cmp (0, 0) keys i low c.loop-i-test.true ∙ ap (λ b. b && are_in_order pair_cmp (drop i keys)) more in
+    let all = c.loop-i.invariant ∙ next_in_order pair_cmp (0, 0) keys i low c.loop-i-test.true
+    ∙ ap (λ b. b && are_in_order pair_cmp (drop i keys)) more in
     sym all
 
 pub returns : goal.returns

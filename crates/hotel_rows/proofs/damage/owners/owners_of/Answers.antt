@@ -11,4 +11,5 @@ loop-k-preserved c =
     let k = c.loop-k.k in
     let plain = get_or xs (length xs - 1 - k) no_card in
     subst (OwnersOf c.add_owner.new.owners.entries) (at_back xs k no_card c.loop-k-test.true)
-    (owners_more c.loop-k.owners.entries c.add_owner.new.owners.entries plain (drop (length xs - k) xs) c.loop-k.invariant c.in_ok-add_owner.ensures)
+    (owners_more c.loop-k.owners.entries c.add_owner.new.owners.entries plain
+    (drop (length xs - k) xs) c.loop-k.invariant c.in_ok-add_owner.ensures)

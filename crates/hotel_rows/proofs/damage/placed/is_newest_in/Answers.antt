@@ -17,8 +17,10 @@ returns-then-not-is_at_place c =
     let es = places_in c.args.placed.now.entries c.args.room in
     let due = due_parts es c.args.codes (listed_in c.args.placed.now.entries c.args.room) c.requires in
     let link : Link = record { old_code = c.args.old; new_code = c.args.new } in
-    sym (newest_at 0 es link (c.args.codes - 2) (c.args.codes - 1) due.0 (omega (arith, due.1, c.if-codes-lt2.false)) (omega (arith, due.1, c.if-codes-lt2.false)) (omega (arith, due.1, c.if-codes-lt2.false))
-    ∙ ap (λ b. b && is_that (at_number es (c.args.codes - 1)) c.args.new) (sym c.is_at_place.ensures ∙ c.if-not-is_at_place.true))
+    sym (newest_at 0 es link (c.args.codes - 2) (c.args.codes - 1) due.0 (omega (arith, due.1, c.if-codes-lt2.false))
+    (omega (arith, due.1, c.if-codes-lt2.false)) (omega (arith, due.1, c.if-codes-lt2.false))
+    ∙ ap (λ b. b && is_that (at_number es (c.args.codes - 1)) c.args.new)
+    (sym c.is_at_place.ensures ∙ c.if-not-is_at_place.true))
 
 pub returns : goal.returns
 returns c =
@@ -26,5 +28,7 @@ returns c =
     let due = due_parts es c.args.codes (listed_in c.args.placed.now.entries c.args.room) c.requires in
     let link : Link = record { old_code = c.args.old; new_code = c.args.new } in
     c.is_at_place-2.ensures
-    ∙ sym (newest_at 0 es link (c.args.codes - 2) (c.args.codes - 1) due.0 (omega (arith, due.1, c.if-codes-lt2.false)) (omega (arith, due.1, c.if-codes-lt2.false)) (omega (arith, due.1, c.if-codes-lt2.false))
-    ∙ ap (λ b. b && is_that (at_number es (c.args.codes - 1)) c.args.new) (sym c.is_at_place.ensures ∙ c.if-not-is_at_place.false))
+    ∙ sym (newest_at 0 es link (c.args.codes - 2) (c.args.codes - 1) due.0 (omega (arith, due.1, c.if-codes-lt2.false))
+    (omega (arith, due.1, c.if-codes-lt2.false)) (omega (arith, due.1, c.if-codes-lt2.false))
+    ∙ ap (λ b. b && is_that (at_number es (c.args.codes - 1)) c.args.new) (sym c.is_at_place.ensures
+    ∙ c.if-not-is_at_place.false))

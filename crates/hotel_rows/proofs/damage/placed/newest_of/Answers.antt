@@ -15,4 +15,5 @@ returns c =
     let es = places_in c.args.placed.now.entries c.args.room in
     let due = due_parts es c.args.codes (listed_in c.args.placed.now.entries c.args.room) c.requires in
     c.both_of.ensures ∙ ap₂ link_of_both c.code_of-old.ensures c.code_of-new.ensures
-    ∙ sym (last_two 0 es (c.args.codes - 2) (c.args.codes - 1) due.0 (omega (arith, due.1, c.if-codes-lt2.false)) (omega (arith, due.1, c.if-codes-lt2.false)) (omega (arith, due.1, c.if-codes-lt2.false)))
+    ∙ sym (last_two 0 es (c.args.codes - 2) (c.args.codes - 1) due.0 (omega (arith, due.1, c.if-codes-lt2.false))
+    (omega (arith, due.1, c.if-codes-lt2.false)) (omega (arith, due.1, c.if-codes-lt2.false)))

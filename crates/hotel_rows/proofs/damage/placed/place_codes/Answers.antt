@@ -9,5 +9,6 @@ loop-k-preserved c =
     let k = c.loop-k.k in
     let plain = get_or xs (length xs - 1 - k) no_code in
     subst (PlacesOf c.place_plain.new.placed.entries) (at_back xs k no_code c.loop-k-test.true)
-    (placed_first c.loop-k.placed.entries c.place_plain.new.placed.entries plain (drop (length xs - k) xs) c.loop-k.invariant
+    (placed_first c.loop-k.placed.entries c.place_plain.new.placed.entries plain
+    (drop (length xs - k) xs) c.loop-k.invariant
     c.in_ok-place_plain.ensures.places c.in_ok-place_plain.ensures.listed)

@@ -4,4 +4,5 @@ use Rattle.hotel_rows.specs.RowTests.{stay_fits}
 use Rattle.hotel_rows.proofs.damage.stays.stays_fit.Given as goal
 
 abbrev pub invariant-loop-i : goal.invariant-loop-i
-invariant-loop-i l = list_all (stay_fits l.stored) l.stored.stays.items ≡ list_all (stay_fits l.stored) (drop l.i l.stored.stays.items)
+invariant-loop-i l =
+    list_all (stay_fits l.stored) l.stored.stays.items ≡ list_all (stay_fits l.stored) (drop l.i l.stored.stays.items)

@@ -6,4 +6,5 @@ use Rattle.hotel_tables.proofs.table_books.TableBooksIssued.is_issued.Goals as g
 pub returns-clause-cause : goal.returns-clause-cause
 returns-clause-cause g c =
     (look_up_counted g.S.Store _ _ c.self.view_is _ c.counting.new.self c.counting.ensures.conn
-    c.counting.ensures.counted {takes_memory = false} (λ _ _. of_code c.args.code) c.is_issued-issued.ensures c.counting.ensures.same c.counting.ensures.risen).cause
+    c.counting.ensures.counted {takes_memory = false}
+    (λ _ _. of_code c.args.code) c.is_issued-issued.ensures c.counting.ensures.same c.counting.ensures.risen).cause
