@@ -50,6 +50,21 @@ pub record Views (S R W F E : Type 0) : Type 1 where
   pub told : F → Fault → F → Type 0
   pub bound : E → ℕ → Result (Unit {0}) Fault → E → Type 0
 
+abbrev pub desk : {S R W F E : Type 0} → S → R → W → F → E → Desk S R W F E
+desk books source writer faults around =
+    record { books = books; source = source; writer = writer; faults = faults; around = around }
+
+abbrev pub views : {S R W F E : Type 0} → IssuedOf S → (S → Rows) → (R → Stream) → (W → Option (List ℕ))
+    → (F → Fault → F → Type 0) → (E → ℕ → Result (Unit {0}) Fault → E → Type 0) → Views S R W F E
+views issued rows stream contents told bound = record {
+  issued = issued;
+  rows = rows;
+  stream = stream;
+  contents = contents;
+  told = told;
+  bound = bound;
+}
+
 -- An act ended by this status, or by this fault, which was told.
 abbrev pub EndsBy : {S R W F E : Type 0} → Views S R W F E → Result ℕ Fault → ℕ → Desk S R W F E → Desk S R W F E
     → Type 0

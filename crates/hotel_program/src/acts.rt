@@ -1,7 +1,7 @@
 //! What the program is asked for, carried out over any books.
 
 ghost use Rattle.std.specs.Prelude.{◌≡◌, ◌≢◌};
-ghost use Rattle.hotel_program.specs.Acts.{ActEnds};
+ghost use Rattle.hotel_program.specs.Acts.{ActEnds, desk, views};
 ghost use Rattle.hotel_program.specs.Faults.{end_status};
 ghost use Rattle.hotel_program.specs.Program.{script_end};
 ghost use Rattle.hotel_program.specs.declared.command_line.plan.DeskAct.TheVariants.{Script};
@@ -47,9 +47,10 @@ pub fn run_act<B: Walks, R: Rng, I: Read, W: Write, F: FaultSink, E: Surrounding
     faults: &mut F,
     around: &mut E,
 ) -> u8
-    ensures ends { ActEnds (record { issued = B.Issued; rows = B.rows; stream = R.stream; contents = W.contents; told = F.told; bound = E.port_bound }) (I.remaining reader.old) file.now act.now result
-        (record { books = books.old; source = source.old; writer = writer.old; faults = faults.old; around = around.old })
-        (record { books = books.new; source = source.new; writer = writer.new; faults = faults.new; around = around.new }) }
+    ensures ends { ActEnds (views B.Issued B.rows R.stream W.contents F.told E.port_bound)
+        (I.remaining reader.old) file.now act.now result
+        (desk books.old source.old writer.old faults.old around.old)
+        (desk books.new source.new writer.new faults.new around.new) }
     ensures unread { act.now ≢ Script → reader.new ≡ reader.old }
     ensures no_usage { result ≢ 2 }
 {

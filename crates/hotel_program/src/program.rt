@@ -54,7 +54,8 @@ fn run_in_memory<I: Read, W: Write, F: FaultSink, B: Walks + Drop, E: Databases<
     faults: &mut F,
     around: &mut E,
 ) -> u8
-    ensures ends { InMemory (outer_views W.contents F.told F.shown E.seed_read E.file_read E.books_opened E.port_bound ⟦<ListBooks as Issued>⟧ B.Issued B.rows)
+    ensures ends { InMemory (outer_views W.contents F.told F.shown E.seed_read E.file_read
+        E.books_opened E.port_bound ⟦<ListBooks as Issued>⟧ B.Issued B.rows)
         (I.remaining reader.old) act.now file.now source.old around.old result
         (record { writer = writer.old; faults = faults.old; around = around.old })
         (record { writer = writer.new; faults = faults.new; around = around.new }) }
@@ -79,7 +80,8 @@ fn run_on_database<I: Read, W: Write, F: FaultSink, B: Walks + Drop, E: Database
     faults: &mut F,
     around: &mut E,
 ) -> u8
-    ensures ends { OverBooks (outer_views W.contents F.told F.shown E.seed_read E.file_read E.books_opened E.port_bound ⟦<ListBooks as Issued>⟧ B.Issued B.rows)
+    ensures ends { OverBooks (outer_views W.contents F.told F.shown E.seed_read E.file_read
+        E.books_opened E.port_bound ⟦<ListBooks as Issued>⟧ B.Issued B.rows)
         (I.remaining reader.old) act.now file.now source.old (Some name.now) around.old result
         (record { writer = writer.old; faults = faults.old; around = around.old })
         (record { writer = writer.new; faults = faults.new; around = around.new }) }
@@ -108,7 +110,8 @@ fn run_over_books<I: Read, W: Write, F: FaultSink, B: Walks + Drop, E: Databases
     faults: &mut F,
     around: &mut E,
 ) -> u8
-    ensures ends { OverBooks (outer_views W.contents F.told F.shown E.seed_read E.file_read E.books_opened E.port_bound ⟦<ListBooks as Issued>⟧ B.Issued B.rows)
+    ensures ends { OverBooks (outer_views W.contents F.told F.shown E.seed_read E.file_read
+        E.books_opened E.port_bound ⟦<ListBooks as Issued>⟧ B.Issued B.rows)
         (I.remaining reader.old) plan.now.act file.now source.old plan.now.db around.old result
         (record { writer = writer.old; faults = faults.old; around = around.old })
         (record { writer = writer.new; faults = faults.new; around = around.new }) }
@@ -153,7 +156,8 @@ fn run_plan<I: Read, W: Write, F: FaultSink, B: Walks + Drop, E: Databases<B>>(
     faults: &mut F,
     around: &mut E,
 ) -> u8
-    ensures ends { PlanEnds (outer_views W.contents F.told F.shown E.seed_read E.file_read E.books_opened E.port_bound ⟦<ListBooks as Issued>⟧ B.Issued B.rows)
+    ensures ends { PlanEnds (outer_views W.contents F.told F.shown E.seed_read E.file_read
+        E.books_opened E.port_bound ⟦<ListBooks as Issued>⟧ B.Issued B.rows)
         (I.remaining reader.old) plan.now result
         (record { writer = writer.old; faults = faults.old; around = around.old })
         (record { writer = writer.new; faults = faults.new; around = around.new }) }
@@ -209,7 +213,8 @@ fn run_words<I: Read, W: Write, F: FaultSink, B: Walks + Drop, E: Databases<B>>(
     faults: &mut F,
     around: &mut E,
 ) -> u8
-    ensures ends { WordsEnd (outer_views W.contents F.told F.shown E.seed_read E.file_read E.books_opened E.port_bound ⟦<ListBooks as Issued>⟧ B.Issued B.rows)
+    ensures ends { WordsEnd (outer_views W.contents F.told F.shown E.seed_read E.file_read
+        E.books_opened E.port_bound ⟦<ListBooks as Issued>⟧ B.Issued B.rows)
         (I.remaining reader.old) (map string_bytes words.now) result
         (record { writer = writer.old; faults = faults.old; around = around.old })
         (record { writer = writer.new; faults = faults.new; around = around.new }) }
@@ -253,7 +258,8 @@ pub fn run_program<I: Read, W: Write, F: FaultSink, B: Walks + Drop, E: Database
     ensures script { HasNoWords words → (end : Result ScriptEnd ScriptFault) × (result ≡ end_status (script_end end))
         × Tells F.told faults.old (script_end end) faults.new
         × EndsOverNewDesk W.contents (I.remaining reader.old) writer.old writer.new end × (around.new ≡ around.old) }
-    ensures words { IfWords words (λ texts. WordsEnd (outer_views W.contents F.told F.shown E.seed_read E.file_read E.books_opened E.port_bound ⟦<ListBooks as Issued>⟧ B.Issued B.rows)
+    ensures words { IfWords words (λ texts. WordsEnd (outer_views W.contents F.told F.shown E.seed_read E.file_read
+        E.books_opened E.port_bound ⟦<ListBooks as Issued>⟧ B.Issued B.rows)
         (I.remaining reader.old) texts result
         (record { writer = writer.old; faults = faults.old; around = around.old })
         (record { writer = writer.new; faults = faults.new; around = around.new })) }

@@ -2,7 +2,7 @@
 
 ghost use Rattle.std.specs.Prelude.{◌≢◌, ◌++◌, codes};
 ghost use Rattle.hotel_lists.specs.Bytes.{Writes};
-ghost use Rattle.hotel_program.specs.Acts.{ServeEnds, listening_text};
+ghost use Rattle.hotel_program.specs.Acts.{ServeEnds, desk, listening_text, views};
 
 use crate::connections::serve_connections;
 use crate::faults::{Fault, FaultSink, finish};
@@ -54,9 +54,9 @@ pub fn run_serve<B: Walks, R: Rng, W: Write, F: FaultSink, E: Surroundings>(
     faults: &mut F,
     around: &mut E,
 ) -> u8
-    ensures ends { ServeEnds (record { issued = B.Issued; rows = B.rows; stream = R.stream; contents = W.contents; told = F.told; bound = E.port_bound }) port count result
-        (record { books = books.old; source = source.old; writer = writer.old; faults = faults.old; around = around.old })
-        (record { books = books.new; source = source.new; writer = writer.new; faults = faults.new; around = around.new }) }
+    ensures ends { ServeEnds (views B.Issued B.rows R.stream W.contents F.told E.port_bound) port count result
+        (desk books.old source.old writer.old faults.old around.old)
+        (desk books.new source.new writer.new faults.new around.new) }
     ensures no_usage { result ≢ 2 }
 {
     let mut calls = IoCalls::none();

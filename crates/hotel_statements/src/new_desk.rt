@@ -47,7 +47,8 @@ pub fn make_first<S: Alter>(tx: &mut Transaction<'_, S>) -> Result<(), Error>
 pub(crate) fn make_new<S: Alter>(tx: &mut Transaction<'_, S>) -> Result<(), Error>
     ensures same_reference { tx.new.conn.ghost_name ≡ tx.old.conn.ghost_name }
     ensures makes { MakesBy S.Store makes_new
-        (λ old new. MakesNew old new × IfOpenBare with_note desk_schema old new) tx.old.conn.now tx.new.conn.now result }
+        (λ old new. MakesNew old new × IfOpenBare with_note desk_schema old new)
+        tx.old.conn.now tx.new.conn.now result }
 {
     make(tx, CREATE_FIT)?;
     make_index(tx, CREATE_STAY_ROOM)?;

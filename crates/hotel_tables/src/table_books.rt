@@ -46,7 +46,13 @@ impl<S: Alter> Model for TableBooks<S> {
 
     ghost coded = { tabled_code S.code };
 
-    ghost view = { λ b. record { conn = b.conn; kinds = b.kinds; nights = b.nights; memory = b.memory; store = b.store } };
+    ghost view = { λ b. record {
+      conn = b.conn;
+      kinds = b.kinds;
+      nights = b.nights;
+      memory = b.memory;
+      store = b.store;
+    } };
 
     ghost invariant = { λ b. IsTabled (state S.Store b.conn) b.kinds b.nights b.answers };
 }
