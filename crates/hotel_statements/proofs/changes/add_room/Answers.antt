@@ -1,30 +1,47 @@
-use Rattle.std.proofs.Common.{◌≡◌, [], ◌∷◌, refl, subst, rules}
-use Rattle.hotel_model.specs.Refits.{fit_row}
-use Rattle.hotel_statements.specs.Statements.{WritesBy, adds_fit}
-use Rattle.hotel_statements.specs.Steps.{IsNewRoom, IsNextFit, fit_added}
+use Rattle.std.proofs.Common.{◌≡◌, [], ◌∷◌, Result, refl, subst}
+use Rattle.sqlite.specs.Held.{Held}
+use Rattle.sqlite.specs.declared.error.Error.{Error}
+use Rattle.sqlite_trees.specs.declared.store.Store.{Ghosts}
+use Rattle.hotel_model.specs.{declared.rows.FitRow.FitRow, declared.rows.RoomRow.RoomRow}
+use Rattle.hotel_statements.specs.Statements.{WritesBy, adds_fit, adds_room}
+use Rattle.hotel_statements.specs.Steps.{IsNewRoom, IsNextFit, IsWithoutFit, fit_added, room_added}
 use Rattle.hotel_statements.proofs.InTurn.{writes_then, writes_then_if, writes_stopped, writes_as}
 use Rattle.hotel_statements.proofs.Made.Rooms.{room_is, still_next}
 use Rattle.hotel_statements.proofs.changes.add_room.Goals as goal
 
+module _ {S : Type 0} {g : Ghosts S} {old new : Held S} {result : Result (Unit {0}) Error} where
+  -- a room's row was added, and it is this one
+  adds_same : {row other : RoomRow} → row ≡ other
+      → WritesBy g (adds_room row ∷ []) (IsWithoutFit row.room) (room_added row) old new result
+      → WritesBy g (adds_room other ∷ []) (IsWithoutFit other.room) (room_added other) old new result
+  adds_same same added =
+      subst (λ row. WritesBy g (adds_room row ∷ []) (IsWithoutFit row.room) (room_added row) old new result) same added
+
+  -- a fit was added, and it is this one
+  adds_same_fit : {fit other : FitRow} → fit ≡ other
+      → WritesBy g (adds_fit fit ∷ []) (IsNextFit fit) (fit_added fit) old new result
+      → WritesBy g (adds_fit other ∷ []) (IsNextFit other) (fit_added other) old new result
+  adds_same_fit same added =
+      subst (λ fit. WritesBy g (adds_fit fit ∷ []) (IsNextFit fit) (fit_added fit) old new result) same added
+
 pub returns-in_err-insert_room-clause-makes : goal.returns-in_err-insert_room-clause-makes
 returns-in_err-insert_room-clause-makes g c = writes_stopped _ c.from_residual.result c.from_residual.ensures.0
-    c.from_residual.ensures.1 c.in_err-insert_room.ensures.makes
+    c.from_residual.ensures.1
+    (adds_same c.of_new_room.ensures c.in_err-insert_room.ensures.makes)
 
 pub returns-in_err-insert_code-clause-makes : goal.returns-in_err-insert_code-clause-makes
 returns-in_err-insert_code-clause-makes g c =
     writes_stopped _ c.from_residual-in_err-insert_code.result c.from_residual-in_err-insert_code.ensures.0
     c.from_residual-in_err-insert_code.ensures.1
-    (writes_then c.in_ok-insert_room.ensures.makes c.in_err-insert_code.ensures.makes)
+    (writes_then (adds_same c.of_new_room.ensures c.in_ok-insert_room.ensures.makes) c.in_err-insert_code.ensures.makes)
 
 pub returns-clause-makes : goal.returns-clause-makes
 returns-clause-makes g c =
     let room = c.args.room in
     let kind = c.args.kind in
     let code = c.args.code in
-    let first : c.unwrap-first.result ≡ 1 = search rules in
-    let last = subst (λ n. WritesBy g.S.Store (adds_fit (fit_row room n 0 0) ∷ []) (IsNextFit (fit_row room n 0 0))
-    (fit_added (fit_row room n 0 0)) c.insert_code.new.tx.conn.now c.insert_fit.new.tx.conn.now c.insert_fit.result)
-    first c.insert_fit.ensures.makes in
+    let first = adds_same c.of_new_room.ensures c.in_ok-insert_room.ensures.makes in
+    let last = adds_same_fit c.of_new_room-2.ensures c.insert_fit.ensures.makes in
     writes_as (λ rows is. is) (λ rows is. room_is room kind code rows)
     (writes_then_if (still_next room kind code) (writes_as {others = IsNewRoom room} (λ rows is. is.fits)
-    (λ rows _. refl) (writes_then c.in_ok-insert_room.ensures.makes c.in_ok-insert_code.ensures.makes)) last)
+    (λ rows _. refl) (writes_then first c.in_ok-insert_code.ensures.makes)) last)
