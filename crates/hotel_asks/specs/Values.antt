@@ -11,6 +11,7 @@ use Rattle.hotel_asks.specs.{declared.values.AskFault.AskFault}
 use Rattle.hotel_asks.specs.{declared.values.AskFault.TheVariants.Values, declared.values.AskFault.TheVariants.Memory}
 use Rattle.hotel_asks.specs.{declared.values.ValueName.ValueName, declared.values.Lock.Lock}
 use Rattle.keycard_rules.specs.Results.{◌>>=◌}
+use Rattle.hotel_nights.specs.declared.nights.TheConstants.{MOST_NIGHTS}
 use Rattle.keycard_rules.specs.declared.numbers.TheConstants.{LAST_FIT, LAST_NUMBER, LAST_ROOM}
 use Rattle.hotel_asks.specs.declared.values.ValueName.TheVariants.{Kind, Nights, Guest, Room, Lock as LockName, Party}
 use Rattle.hotel_asks.specs.declared.values.ValueName.TheVariants.{Card, Count, Moment as MomentName}
@@ -27,7 +28,7 @@ abbrev pub kind_in : List ℕ → Result (List ℕ) ValueFault
 kind_in text = ok_or (read_kind text) (Value Kind)
 
 abbrev pub nights_in : List ℕ → Result ℕ ValueFault
-nights_in text = ok_or (number_up_to 90 text) (Value Nights)
+nights_in text = ok_or (number_up_to MOST_NIGHTS text) (Value Nights)
 
 abbrev pub guest_in : List ℕ → Result (List ℕ) ValueFault
 guest_in text = if is_utf8 text && is_guest text then Ok text else Err (Value Guest)

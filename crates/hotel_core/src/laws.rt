@@ -12,8 +12,9 @@ pub fn shut_answers_nothing<B: Books, A, R>()
     ensures reply { RepliesNothing B.Issued }
 {}
 
-/// Of a run (its clause `through`): from the first state on that was not clean, each reply is `Memory` or `Store`, where
-/// nobody else wrote what the books are kept in.
+/// Of a run (its clause `through`): from the first state on that was not clean, each reply is `Memory` or `Store`.
+///
+/// This is so where nobody else wrote what the books are kept in.
 pub fn shut_run_answers_nothing<B: Books, R: Rng>()
     ensures { RunsNothing B.Issued B.rows R.stream }
 {}

@@ -1,7 +1,9 @@
 -- The ranges of the values in commands, replies and events: those that their types hold.
-use Rattle.std.specs.Prelude.{ℕ, ◌≡◌, ◌≤◌, ◌<◌, ◌^◌, ◌+◌, true}
+use Rattle.std.specs.Prelude.{ℕ, ◌≡◌, ◌≤◌, ◌<◌, ◌+◌, true}
 use Rattle.keycard_rules.specs.Numbers.{IsNumberUpTo}
 use Rattle.keycard_rules.specs.Note.{IsTimed}
+use Rattle.keycard_rules.specs.declared.code.TheConstants.{CODES}
+use Rattle.hotel_nights.specs.declared.nights.TheConstants.{MOST_NIGHTS}
 use Rattle.keycard_rules.specs.declared.note.TheConstants.{LAST_DAY}
 use Rattle.keycard_rules.specs.declared.numbers.TheConstants.{LAST_FIT, LAST_NUMBER, LAST_ROOM}
 use Rattle.hotel_nights.specs.Kinds.{is_kind}
@@ -18,7 +20,7 @@ IsDay day = day ≤ LAST_DAY
 
 -- a code has 48 bits
 abbrev pub IsCode : ℕ → Type 0
-IsCode code = code < 2 ^ 48
+IsCode code = code < CODES
 
 -- a room has a number from 1 on
 abbrev pub IsRoomNumber : ℕ → Type 0
@@ -37,7 +39,7 @@ abbrev pub IsCommand : Command → Type 0
 IsCommand (command.Begin day) = IsDay day
 IsCommand (command.AddKind kind) = is_kind kind ≡ true
 IsCommand (command.AddRoom room kind) = IsRoomNumber room
-IsCommand (command.Reserve guest kind arrive nights) = (is_guest guest ≡ true) × IsDay arrive × IsNumberUpTo 90 nights
+IsCommand (command.Reserve guest kind arrive nights) = (is_guest guest ≡ true) × IsDay arrive × IsNumberUpTo MOST_NIGHTS nights
 IsCommand (command.Reported note) = IsCount note.count × IsTimed note.day note.second × IsFit note.fit
 IsCommand _ = Unit {0}
 
@@ -54,7 +56,7 @@ InRange (Begun day) = IsDay day
 InRange (Kind kind) = is_kind kind ≡ true
 InRange (Install room kind code) = IsRoomNumber room × IsCode code
 InRange (Reserved party guest kind arrive depart) =
-    (is_guest guest ≡ true) × (arrive < depart) × (depart ≤ arrive + 90) × IsDay depart
+    (is_guest guest ≡ true) × (arrive < depart) × (depart ≤ arrive + MOST_NIGHTS) × IsDay depart
 InRange (Issue party room number code) = IsCode code
 InRange (Refitted room fit code) = IsCode code
 InRange (Entered room fit count number link at) = IsCount count × IsTimed at.0 at.1 × IsFit fit

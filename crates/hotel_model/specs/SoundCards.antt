@@ -5,6 +5,7 @@ use Rattle.std.specs.List.{list_any, list_all}
 use Rattle.std.specs.Map.{keys_of, values_of}
 use Rattle.keycard_rules.specs.declared.card.Card.{Card}
 use Rattle.keycard_rules.specs.declared.card.Link.{Link}
+use Rattle.keycard_rules.specs.declared.code.TheConstants.{CODES}
 use Rattle.keycard_rules.specs.declared.numbers.TheConstants.{LAST_NUMBER}
 use Rattle.hotel_model.specs.declared.rows.CodeRow.{CodeRow}
 use Rattle.hotel_model.specs.Words.{said_of}
@@ -23,7 +24,7 @@ code_is rows code test = said_of (at_number rows.codes code) false test
 
 -- each code is below 2^48
 abbrev pub codes_in_range : Rows → Bool
-codes_in_range rows = list_all (λ code. nat_lt code (2 ^ 48)) (keys_of rows.codes)
+codes_in_range rows = list_all (λ code. nat_lt code CODES) (keys_of rows.codes)
 
 -- each code's room is there
 abbrev pub code_rooms_there : Rows → Bool

@@ -2,6 +2,7 @@
 use Rattle.std.specs.Prelude.{ℕ, Bool, true, ◌+◌, ◌==◌, ◌&&◌, nat_le, nat_lt, length}
 use Rattle.std.specs.List.{list_all}
 use Rattle.std.specs.Map.{keys_of, values_of}
+use Rattle.hotel_nights.specs.declared.nights.TheConstants.{MOST_NIGHTS}
 use Rattle.keycard_rules.specs.declared.numbers.TheConstants.{LAST_NUMBER}
 use Rattle.hotel_nights.specs.declared.stay.Stay.{Stay}
 use Rattle.hotel_model.specs.Words.{is_that, said_of}
@@ -28,10 +29,10 @@ guests_read rows = each_stay rows (λ stay. is_guest stay.guest)
 abbrev pub stay_kinds_there : Rows → Bool
 stay_kinds_there rows = each_stay rows (λ stay. has_kind rows stay.kind)
 
--- days in range, 1 to 90 nights
+-- days in range, 1 to MOST_NIGHTS nights
 abbrev pub stay_days : Rows → Bool
 stay_days rows = each_stay rows (λ stay. is_day stay.depart && nat_lt stay.arrive stay.depart
-    && nat_le stay.depart (stay.arrive + 90))
+    && nat_le stay.depart (stay.arrive + MOST_NIGHTS))
 
 -- the room is there, and has this party
 abbrev pub has_party : Rows → ℕ → ℕ → Bool

@@ -3,19 +3,20 @@
 ghost use Rattle.std.specs.Prelude.{◌≡◌, ℕ, ◌+◌, ◌-◌, ◌<◌, ◌≤◌, ◌^◌, slice_index};
 ghost use Rattle.std.specs.List.{count_by};
 ghost use Rattle.hotel_nights.specs.{FullNight.is_full, FullNight.first_day, FullNight.is_of_kind, Block.begins};
-ghost use Rattle.hotel_nights.specs.{Block.ends, Block.one_if};
+ghost use Rattle.hotel_nights.specs.{Block.ends, Block.one_if, declared.block.TheConstants.BLOCK};
 
 use crate::kind::KindCode;
+use crate::nights::MOST_NIGHTS;
 use crate::stay::Stay;
 
-/// The most nights of a block.
-pub(crate) const BLOCK: u16 = 90;
+/// The most nights of a block: a stay lies in two of them at most.
+pub(crate) const BLOCK: u16 = MOST_NIGHTS as u16;
 
 /// For each night of a block, how many stays begin to take it, and how many took the night before and don't take it.
 #[derive(Clone, Copy)]
 struct Tally {
-    pub begins: [usize; 90],
-    pub ends: [usize; 90],
+    pub begins: [usize; BLOCK as usize],
+    pub ends: [usize; BLOCK as usize],
 }
 
 /// Whether the stay holds its nights in rooms of the kind.
@@ -28,7 +29,7 @@ fn is_of_kind(stay: &Stay, kind: &KindCode) -> bool
 /// Counts the stay at its first night in the block, and at the night after its last.
 fn add(tally: &mut Tally, stay: &Stay, kind: &KindCode, first: u16, after: u16)
     requires order { first < after }
-    requires few { after ≤ first + 90 }
+    requires few { after ≤ first + BLOCK }
     requires begins_fit { (j : ℕ) → slice_index tally.old.begins j < 2 ^ 63 }
     requires ends_fit { (j : ℕ) → slice_index tally.old.ends j < 2 ^ 63 }
     ensures begins { (j : ℕ) → slice_index tally.new.begins j ≡ slice_index tally.old.begins j + one_if
@@ -53,14 +54,14 @@ fn add(tally: &mut Tally, stay: &Stay, kind: &KindCode, first: u16, after: u16)
 /// Counts all the stays of the kind.
 fn count_stays(stays: &[Stay], kind: &KindCode, first: u16, after: u16) -> Tally
     requires order { first < after }
-    requires few { after ≤ first + 90 }
+    requires few { after ≤ first + BLOCK }
     ensures begins { (j : ℕ) → slice_index result.begins j ≡ count_by
         (begins kind.now first after (first + j)) stays.now }
     ensures ends { (j : ℕ) → slice_index result.ends j ≡ count_by (ends kind.now first after (first + j)) stays.now }
 {
     let mut tally = Tally {
-        begins: [0; 90],
-        ends: [0; 90],
+        begins: [0; BLOCK as usize],
+        ends: [0; BLOCK as usize],
     };
     for stay in stays {
         add(&mut tally, stay, kind, first, after);
@@ -77,7 +78,7 @@ pub(crate) fn first_in_block(
     after: u16,
 ) -> Option<u16>
     requires order { first < after }
-    requires few { after ≤ first + 90 }
+    requires few { after ≤ first + BLOCK }
     ensures { result ≡ first_day (is_full stays.now kind.now rooms) first (after - first) }
 {
     let tally = count_stays(stays, kind, first, after);

@@ -41,8 +41,8 @@ impl Model for Guest {
     ghost invariant = { λ g. is_guest (string_bytes g.text) ≡ true };
 }
 
-/// The most bytes of a name.
-const MOST_BYTES: usize = 60;
+/// The most bytes of a guest's name.
+pub const GUEST_BYTES: usize = 60;
 
 /// Whether no character of the text is a control character.
 fn has_no_control(text: &str) -> bool
@@ -56,7 +56,7 @@ fn is_guest(text: &str) -> bool
     ensures { result ≡ is_guest text.now }
 {
     let bytes = text.as_bytes();
-    if bytes.is_empty() || bytes.len() > MOST_BYTES {
+    if bytes.is_empty() || bytes.len() > GUEST_BYTES {
         return false;
     }
     if bytes[0] == b' ' || bytes[bytes.len() - 1] == b' ' {

@@ -13,6 +13,9 @@ ghost use Rattle.hotel_nights.specs.Kinds.{is_kind, read_kind, is_kind_byte};
 use std::cmp::Ordering;
 use std::marker::Model;
 
+/// The most bytes of the code of a kind.
+pub const KIND_BYTES: usize = 8;
+
 /// The code of a kind of rooms, as `DBL`: one to eight of the letters A to Z and the digits 0 to 9.
 ///
 /// Contracts see a code as its bytes. Codes are equal where these are, and ordered as texts are: by the first byte that
@@ -21,26 +24,28 @@ use std::marker::Model;
 #[derive(Clone, Copy, Debug)]
 pub struct KindCode {
     /// The code, and zeros after it.
-    bytes: [u8; 8],
+    bytes: [u8; KIND_BYTES],
     len: usize,
 }
 
 impl Model for KindCode {
     ghost use Rattle.std.specs.Prelude.{◌≡◌, ◌≤◌, ◌-◌, ◌++◌, ℕ, List, length, take, drop, replicate, true};
     ghost use Rattle.std.proofs.Common.{arith, ap, sym, ◌∙◌, take-append-drop, length-take-le};
-    ghost use Rattle.hotel_nights.specs.Kinds.{is_kind};
+    ghost use Rattle.hotel_nights.specs.{Kinds.is_kind, declared.kind.TheConstants.KIND_BYTES};
 
     ghost Value = { List ℕ };
 
     ghost view = { λ k. take k.len k.bytes };
 
-    ghost invariant = { λ k. (length k.bytes ≡ 8) × (k.len ≤ 8) × (drop k.len k.bytes ≡ replicate (8 - k.len) 0)
-        × (is_kind (take k.len k.bytes) ≡ true) };
+    ghost invariant = { λ k. (length k.bytes ≡ KIND_BYTES) × (k.len ≤ KIND_BYTES)
+        × (drop k.len k.bytes ≡ replicate (KIND_BYTES - k.len) 0) × (is_kind (take k.len k.bytes) ≡ true) };
 
-    ghost inverse = { λ l. record { bytes = l ++ replicate (8 - length l) 0; len = length l } };
+    ghost inverse = { λ l. record { bytes = l ++ replicate (KIND_BYTES - length l) 0; len = length l } };
 
     ghost inverse_ok = { λ k h i. record {
-      bytes = (ap (λ m. take k.len k.bytes ++ replicate (8 - m) 0) (length-take-le k.len k.bytes (omega (arith, h.0, h.1))) ∙ (ap (λ t. take k.len k.bytes ++ t) (sym h.2) ∙ take-append-drop k.len k.bytes)) i;
+      bytes = (ap (λ m. take k.len k.bytes ++ replicate (KIND_BYTES - m) 0)
+          (length-take-le k.len k.bytes (omega (arith, h.0, h.1)))
+          ∙ (ap (λ t. take k.len k.bytes ++ t) (sym h.2) ∙ take-append-drop k.len k.bytes)) i;
       len = length-take-le k.len k.bytes (omega (arith, h.0, h.1)) i;
     } };
 }
@@ -58,11 +63,11 @@ impl KindCode {
     pub fn read(text: &[u8]) -> Option<KindCode>
         ensures { result ≡ read_kind text.now }
     {
-        if text.is_empty() || text.len() > 8 || !are_kind_bytes(text) {
+        if text.is_empty() || text.len() > KIND_BYTES || !are_kind_bytes(text) {
             return None;
         }
         let len = text.len();
-        let mut bytes = [0; 8];
+        let mut bytes = [0; KIND_BYTES];
         bytes[..len].copy_from_slice(text);
         Some(KindCode { bytes, len })
     }

@@ -16,8 +16,8 @@ mod stay;
 
 pub use day::Day;
 pub use full_night::first_full_night;
-pub use guest::{Guest, GuestFault};
-pub use kind::KindCode;
+pub use guest::{GUEST_BYTES, Guest, GuestFault};
+pub use kind::{KIND_BYTES, KindCode};
 pub use moment::Moment;
-pub use nights::Nights;
+pub use nights::{MOST_NIGHTS, Nights};
 pub use stay::{Stay, StayState};

@@ -1,5 +1,5 @@
 -- What is tested of each row by itself.
-use Rattle.std.specs.Prelude.{ℕ, ◌≡◌, ◌+◌, ◌-◌, ◌^◌, Bool, true, List, ◌==◌, ◌&&◌, ◌||◌, not, nat_le, nat_lt, is_some}
+use Rattle.std.specs.Prelude.{ℕ, ◌≡◌, ◌+◌, ◌-◌, Bool, true, List, ◌==◌, ◌&&◌, ◌||◌, not, nat_le, nat_lt, is_some}
 use Rattle.std.specs.Prelude.{length, bytes_eq, string_bytes, option_map}
 use Rattle.std.specs.List.{list_all, list_any, count_by}
 use Rattle.hotel_nights.specs.FullNight.{takes}
@@ -8,6 +8,8 @@ use Rattle.std.specs.Cmp.Lexicographic.{slice_cmp}
 use Rattle.std.specs.BTreeMap.{is_at}
 use Rattle.std.specs.Map.{lookup}
 use Rattle.keycard_rules.specs.declared.card.Card.{Card}
+use Rattle.keycard_rules.specs.declared.code.TheConstants.{CODES}
+use Rattle.hotel_nights.specs.declared.nights.TheConstants.{MOST_NIGHTS}
 use Rattle.keycard_rules.specs.declared.note.TheConstants.{LAST_SECOND}
 use Rattle.keycard_rules.specs.declared.numbers.TheConstants.{LAST_ROOM}
 use Rattle.hotel_nights.specs.declared.stay.Stay.{Stay}
@@ -74,11 +76,11 @@ room_fits s plain =
 
 -- ---- stay
 
--- days in range, 1 to 90 nights
+-- days in range, 1 to MOST_NIGHTS nights
 abbrev pub are_stay_days : PlainStay → Bool
 are_stay_days plain =
     is_day (number_of plain.depart) && nat_lt (number_of plain.arrive) (number_of plain.depart)
-    && nat_le (number_of plain.depart) (number_of plain.arrive + 90)
+    && nat_le (number_of plain.depart) (number_of plain.arrive + MOST_NIGHTS)
 
 abbrev pub has_home : Rows → Stay → Bool
 has_home rows stay = said_of (room_of_state stay.state) true (has_party rows stay.party)
@@ -104,7 +106,7 @@ has_night s plain =
 -- ---- code
 
 abbrev pub code_fits : Rows → PlainCode → Bool
-code_fits rows plain = nat_lt (number_of plain.code) (2 ^ 48) && is_some (at_number rows.rooms (number_of plain.room))
+code_fits rows plain = nat_lt (number_of plain.code) CODES && is_some (at_number rows.rooms (number_of plain.room))
 
 abbrev pub recoding_fits : Rows → ℕ → ℕ → ℕ → Bool
 recoding_fits rows room from to = code_is rows from (λ first. code_is rows to (comes_later room first))

@@ -47,7 +47,11 @@ impl Model for Chain {
 
     ghost Value = { Ledger };
 
-    ghost view = { λ c. record { passed = take c.place c.codes.items; held = slice_index c.codes.items c.place; awaited = drop (c.place + 1) c.codes.items } };
+    ghost view = { λ c. record {
+      passed = take c.place c.codes.items;
+      held = slice_index c.codes.items c.place;
+      awaited = drop (c.place + 1) c.codes.items;
+    } };
 
     ghost invariant = { λ c. (c.place < length c.codes.items) × IsDistinct nat_eq c.codes.items };
 }

@@ -1,12 +1,16 @@
 //! The codes of cards and locks.
 
-ghost use Rattle.std.specs.Prelude.{◌≡◌, ℕ, ◌^◌, ◌<◌, Some, None, if◌then◌else◌, nat_lt};
+ghost use Rattle.std.specs.Prelude.{◌≡◌, ℕ, ◌<◌, Some, None, if◌then◌else◌, nat_lt};
 ghost use Rattle.keycard_rules.specs.{Draw.code_of, Numerals.read_code, Numerals.code_text};
+ghost use Rattle.keycard_rules.specs.declared.code.TheConstants.{CODES};
 
 use crate::numerals::{read_numeral, write_fixed};
 use std::marker::Model;
 
-/// A code of a card or a lock: a whole number below 2^48.
+/// How many codes there are: 2^48, each with twelve hexadecimal digits.
+pub const CODES: u64 = 281_474_976_710_656;
+
+/// A code of a card or a lock: a whole number below `CODES`.
 #[derive(Clone, Copy, PartialEq, Eq, PartialOrd, Ord, Hash, Debug)]
 pub struct Code {
     value: u64,
@@ -17,17 +21,17 @@ impl Model for Code {
 
     ghost view = { λ c. c.value };
 
-    ghost invariant = { λ c. c.value < 2 ^ 48 };
+    ghost invariant = { λ c. c.value < CODES };
 
     ghost inverse = { λ n. record { value = n } };
 }
 
 impl Code {
-    /// The code of this value, or `None` from 2^48 on.
+    /// The code of this value, or `None` from `CODES` on.
     pub fn new(value: u64) -> Option<Code>
-        ensures { result ≡ (if nat_lt value (2 ^ 48) then Some value else None) }
+        ensures { result ≡ (if nat_lt value CODES then Some value else None) }
     {
-        if value < 1 << 48 {
+        if value < CODES {
             Some(Code { value })
         } else {
             None
@@ -46,7 +50,7 @@ impl Code {
     /// The code as a number.
     pub fn value(&self) -> u64
         ensures same { result ≡ self.now }
-        ensures below { result < 2 ^ 48 }
+        ensures below { result < CODES }
     {
         self.value
     }

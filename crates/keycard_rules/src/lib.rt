@@ -16,7 +16,7 @@ mod short_text;
 
 pub use card::{Card, Link};
 pub use chain::{Chain, Memory, RecodeFault, Turned};
-pub use code::Code;
+pub use code::{CODES, Code};
 pub use draw::{DrawFault, draw_fresh};
 pub use issued::{Issued, ListedCodes, LookFault};
 pub use listed_words::ListedWords;

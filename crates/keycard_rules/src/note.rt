@@ -40,11 +40,25 @@ impl Model for LockNote {
 
     ghost Value = { Note };
 
-    ghost view = { λ n. record { room = n.room; fit = n.fit; count = n.count; act = n.act; day = n.day; second = n.second } };
+    ghost view = { λ n. record {
+      room = n.room;
+      fit = n.fit;
+      count = n.count;
+      act = n.act;
+      day = n.day;
+      second = n.second;
+    } };
 
     ghost invariant = { λ n. IsTimed n.day n.second };
 
-    ghost inverse = { λ v. record { room = v.room; fit = v.fit; count = v.count; act = v.act; day = v.day; second = v.second } };
+    ghost inverse = { λ v. record {
+      room = v.room;
+      fit = v.fit;
+      count = v.count;
+      act = v.act;
+      day = v.day;
+      second = v.second;
+    } };
 }
 
 impl LockNote {

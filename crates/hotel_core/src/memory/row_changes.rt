@@ -1,6 +1,6 @@
 //! Changes of rows that are there: they take no memory.
 ghost use Rattle.std.specs.Prelude.{◌≡◌, ◌+◌, ◌-◌, ◌^◌, ◌<◌, Some, None, false};
-ghost use Rattle.hotel_model.specs.{Rows.column_at, Refinement.Change.room_changed};
+ghost use Rattle.hotel_model.specs.{Rows.column_at, Refinement.Change.room_changed, Refinement.Change.refitted_row};
 ghost use Rattle.hotel_model.specs.{Refinement.Change.without_party, Refinement.Change.freed_by, Stays.in_state};
 
 use hotel_model::RoomRow;
@@ -41,7 +41,7 @@ pub(crate) fn notes_before(rooms: &BTreeMap<RoomNo, RoomRow>, room: RoomNo) -> u
 /// The room has a new lock, which holds a new code.
 pub(crate) fn refit_at(rooms: &mut BTreeMap<RoomNo, RoomRow>, room: RoomNo, fit: FitNo)
     requires { column_at rooms.old.entries room (λ row. row.codes) < 2 ^ 32 - 1 }
-    ensures { rooms.new.entries ≡ room_changed room (λ row. record row { lock_place = row.codes; codes = row.codes + 1; secured = false; fit = fit; before = row.notes }) rooms.old.entries }
+    ensures { rooms.new.entries ≡ room_changed room (refitted_row fit) rooms.old.entries }
 {
     if let Some(row) = rooms.get_mut(&room) {
         *row = RoomRow {

@@ -48,7 +48,17 @@ impl Model for Tables {
 
     ghost Value = { Rows };
 
-    ghost view = { λ t. record { day = t.day; kinds = keys_of t.kinds; rooms = t.rooms.entries; codes = t.codes; stays = t.stays; cards = t.cards; inside = t.inside; notes = t.notes; fits = t.fits.entries } };
+    ghost view = { λ t. record {
+      day = t.day;
+      kinds = keys_of t.kinds;
+      rooms = t.rooms.entries;
+      codes = t.codes;
+      stays = t.stays;
+      cards = t.cards;
+      inside = t.inside;
+      notes = t.notes;
+      fits = t.fits.entries;
+    } };
 
     ghost invariant = { λ t. TablesAgree t.kinds t.rooms.entries t.codes };
 }

@@ -59,6 +59,11 @@ new_row room kind = record {
   before = 0;
 }
 
+-- the row of a room with a new lock, of this number: it holds its own first code, and no party is secured with it
+abbrev pub refitted_row : ℕ → RoomRow → RoomRow
+refitted_row fit row =
+    record row { lock_place = row.codes; codes = row.codes + 1; secured = false; fit = fit; before = row.notes }
+
 -- The rows with those of the change added or altered, and no others.
 abbrev pub made : Change → Rows → Rows
 made (Begin day) rows = record rows { day = Some day }
@@ -84,9 +89,7 @@ made (CheckedOut party room) rows = record rows {
   stays = in_state party state.Done rows.stays;
 }
 made (Refit room code fit) rows = record rows {
-  rooms = room_changed room (λ row.
-      record row { lock_place = row.codes; codes = row.codes + 1; secured = false; fit = fit; before = row.notes })
-      rows.rooms;
+  rooms = room_changed room (refitted_row fit) rows.rooms;
   codes = insert_entry nat_cmp rows.codes code (record { room = room; place = codes_of rows room });
   inside = those_elsewhere room rows.inside;
   fits = insert_entry pair_cmp rows.fits (room, fit) (fit_row room fit (codes_of rows room) (notes_in rows room));

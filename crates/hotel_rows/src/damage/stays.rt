@@ -15,7 +15,7 @@ use crate::damage::nights::nights_fit;
 use crate::damage::numbers::{are_numbered, number, number_if};
 use crate::damage::rooms::home_of;
 use crate::stored::{PlainStay, Stored};
-use hotel_nights::{Guest, GuestFault};
+use hotel_nights::{Guest, GuestFault, MOST_NIGHTS};
 use keycard_rules::{LAST_DAY, Memory};
 use std::alloc::Global;
 
@@ -38,7 +38,7 @@ fn has_days(stay: &PlainStay) -> bool
 {
     let arrive = number(stay.arrive);
     let depart = number(stay.depart);
-    depart <= u64::from(LAST_DAY) && arrive < depart && depart - arrive <= 90
+    depart <= u64::from(LAST_DAY) && arrive < depart && depart - arrive <= u64::from(MOST_NIGHTS)
 }
 
 /// Whether the room of a stay in house has its party.
