@@ -39,7 +39,8 @@ abbrev pub IsCommand : Command → Type 0
 IsCommand (command.Begin day) = IsDay day
 IsCommand (command.AddKind kind) = is_kind kind ≡ true
 IsCommand (command.AddRoom room kind) = IsRoomNumber room
-IsCommand (command.Reserve guest kind arrive nights) = (is_guest guest ≡ true) × IsDay arrive × IsNumberUpTo MOST_NIGHTS nights
+IsCommand (command.Reserve guest kind arrive nights) =
+    (is_guest guest ≡ true) × IsDay arrive × IsNumberUpTo MOST_NIGHTS nights
 IsCommand (command.Reported note) = IsCount note.count × IsTimed note.day note.second × IsFit note.fit
 IsCommand _ = Unit {0}
 

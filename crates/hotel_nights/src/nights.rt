@@ -40,7 +40,8 @@ impl Nights {
         Some(Nights { value })
     }
 
-    /// Reads 1 to 9 decimal digits, leading zeros among them, whose number is 1 to `MOST_NIGHTS`; `None` for any other text.
+    /// Reads 1 to 9 decimal digits, leading zeros among them, whose number is 1 to `MOST_NIGHTS`; `None` for any other
+    /// text.
     pub fn read(text: &[u8]) -> Option<Nights>
         ensures { result ≡ number_up_to MOST_NIGHTS text.now }
     {

@@ -75,8 +75,7 @@ module _ {S : Type 0} {g : Ghosts S} {one : List Statement} {a b : Held S} where
         → WritesBy g two more h b c r → WritesBy g (one ++ two) fits (λ rows. h (f rows)) a c r
     writes_then_if still first next = record {
       runs = runs_then first.runs next.rows.survives next.runs;
-      rows =
-          then_makes_if still first.rows next.rows;
+      rows = then_makes_if still first.rows next.rows;
     }
 
     -- what failed promises no rows

@@ -154,8 +154,7 @@ rooms_set {db} was made = (
     inside = was.inside;
     inside_numbered = was.inside_numbered;
     inside_ids = was.inside_ids;
-    note =
-        was.note;
+    note = was.note;
     fit = was.fit;
   },
   ap (λ rooms. record (rows_in db) { rooms = map (with_fit (fits_in db)) rooms }) made.1,
@@ -177,8 +176,7 @@ stays_set {db} was made = (
     inside = was.inside;
     inside_numbered = was.inside_numbered;
     inside_ids = was.inside_ids;
-    note =
-        was.note;
+    note = was.note;
     fit = was.fit;
   },
   ap (λ stays. record (rows_in db) { stays = stays }) made.1,
@@ -200,8 +198,7 @@ codes_set {db} was made = (
     inside = was.inside;
     inside_numbered = was.inside_numbered;
     inside_ids = was.inside_ids;
-    note =
-        was.note;
+    note = was.note;
     fit = was.fit;
   },
   ap (λ codes. record (rows_in db) { codes = codes }) made.1,
@@ -218,8 +215,7 @@ cards_set {db} was made = (
     kind = was.kind;
     room = was.room;
     stay = was.stay;
-    code =
-        was.code;
+    code = was.code;
     card = made.0;
     inside = was.inside;
     inside_numbered = was.inside_numbered;
@@ -246,8 +242,7 @@ kinds_set {db} was made = (
     inside = was.inside;
     inside_numbered = was.inside_numbered;
     inside_ids = was.inside_ids;
-    note =
-        was.note;
+    note = was.note;
     fit = was.fit;
   },
   ap (λ kinds. record (rows_in db) { kinds = kinds }) made.1,
@@ -264,13 +259,11 @@ notes_set {db} was made = (
     kind = was.kind;
     room = was.room;
     stay = was.stay;
-    code =
-        was.code;
+    code = was.code;
     card = was.card;
     inside = was.inside;
     inside_numbered = was.inside_numbered;
-    inside_ids =
-        was.inside_ids;
+    inside_ids = was.inside_ids;
     note = made.0;
     fit = was.fit;
   },
@@ -292,13 +285,11 @@ fits_set {db} was made = (
     kind = was.kind;
     room = was.room;
     stay = was.stay;
-    code =
-        was.code;
+    code = was.code;
     card = was.card;
     inside = was.inside;
     inside_numbered = was.inside_numbered;
-    inside_ids =
-        was.inside_ids;
+    inside_ids = was.inside_ids;
     note = was.note;
     fit = made.0;
   },
@@ -321,8 +312,7 @@ insides_set {db} was made numbered apart = (
     kind = was.kind;
     room = was.room;
     stay = was.stay;
-    code =
-        was.code;
+    code = was.code;
     card = was.card;
     inside = made.0;
     inside_numbered = numbered;
@@ -349,8 +339,7 @@ day_set {day = day} was made = (
     inside = was.inside;
     inside_numbered = was.inside_numbered;
     inside_ids = was.inside_ids;
-    note =
-        was.note;
+    note = was.note;
     fit = was.fit;
   },
   rw made.1 refl,

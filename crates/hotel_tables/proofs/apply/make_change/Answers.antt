@@ -42,6 +42,5 @@ returns g c =
       made = search (rules, it.made);
       same = search (rules, it.same);
       crash = search (rules, it.crash);
-      failed =
-          search (rules, failed);
+      failed = search (rules, failed);
     }
