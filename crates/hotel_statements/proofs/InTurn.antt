@@ -6,7 +6,7 @@ use Rattle.std.proofs.lemmas.Bool.{cases_Bool}
 use Rattle.sqlite.specs.Order.{Row}
 use Rattle.sqlite.specs.Tree.{Trees}
 use Rattle.sqlite.specs.Held.{Held, state}
-use Rattle.sqlite.specs.State.{State, HasCleanDisk, ExecutesInside, Survives}
+use Rattle.sqlite.specs.State.{State, HasCleanDisk, ExecutesInside, KeepsCommit, Survives}
 use Rattle.sqlite.specs.declared.error.Error.{Error}
 use Rattle.sqlite.specs.declared.error.Error.TheVariants.{SqliteFailure}
 use Rattle.sqlite.specs.declared.error.ErrorCode.TheVariants.{TransactionState}
@@ -126,6 +126,16 @@ module _ {S : Type 0} {g : Ghosts S} {one : List Statement} {a b : Held S} where
         nothing : (r : Result (Unit {0}) Error) → IsErr r → OnOk r (R (state g a) (state g b))
         nothing (Ok u) is = absurd cc
         nothing (Err e) is = tt
+
+    -- with what is true of the committed rows
+    pub made_kept : {r : Result (Unit {0}) Error} → MakesBy g one P a b r
+        → MakesBy g one (λ old new. P old new × KeepsCommit old new) a b r
+    made_kept {r = r} it = record {
+      runs = it.runs;
+      made = λ clean. on_ok_weaker r (λ made. (made, it.kept clean)) (it.made clean);
+      kept = it.kept;
+      survives = it.survives;
+    }
 
     -- it is made by another word
     pub made_as : {R : State → State → Type 0} {r : Result (Unit {0}) Error}

@@ -1,15 +1,17 @@
 -- A desk of the second version made of one of the first: its statements in turn, how their transaction ends, and what
 -- that leaves.
 use Rattle.std.proofs.Common.{◌≡◌, ◌<◌, ◌≤◌, ◌+◌, ◌++◌, inl, inr, refl, sym, ap, ap₂, subst, ◌∙◌, List, [], ◌∷◌, ℕ}
-use Rattle.std.proofs.Common.{zero}
-use Rattle.std.proofs.Common.{suc, take, length, get_or, map, true, false, Ok, Err, Result, OnOk, OnErr, IfErr, IsErr}
-use Rattle.std.proofs.Common.{IsTrue, true≢false, arith, nat_cmp}
+use Rattle.std.proofs.Common.{zero, suc, take, drop, length, get_or, map, true, false, Ok, Err, Result, OnOk, OnErr}
+use Rattle.std.proofs.Common.{IfErr, IsErr, IsTrue, true≢false, arith, nat_cmp}
 use Rattle.std.specs.List.{AllByRecursion}
 use Rattle.std.proofs.lemmas.Bool.Decides.{nat_tests}
-use Rattle.std.proofs.lemmas.List.{take_all, take_more, map_push}
+use Rattle.std.proofs.lemmas.List.{take_all, take_more, take-append-drop, map_push, map-append}
+use Rattle.std.proofs.lemmas.Result.{on_ok_weaker}
 use Rattle.sqlite_catalog.specs.Listing.{IsSound}
+use Rattle.sqlite_trees.specs.declared.store.Store.{Ghosts}
 use Rattle.sqlite.specs.Tree.{Trees}
 use Rattle.sqlite.specs.Effect.{Database}
+use Rattle.sqlite.specs.Held.{Held, state}
 use Rattle.sqlite.specs.Order.{Row}
 use Rattle.sqlite.specs.State.{State, HasCleanDisk, IsRolledBack, KeepsCommit, Survives, Shows, KeepsCounts}
 use Rattle.sqlite.specs.State.{ExecutesInside}
@@ -24,67 +26,55 @@ use Rattle.hotel_statements.specs.Schema.{desk_schema}
 use Rattle.hotel_statements.specs.Tables.{AreTables, AreTablesOf, rows_in, rows_of_version, fits_in, bare_rooms_in}
 use Rattle.hotel_statements.specs.Books.{IsDesk, IsKept, IsBooks}
 use Rattle.hotel_statements.specs.NewDesk.{MakesNew}
+use Rattle.hotel_statements.specs.Statements.{RunsStatements, MakesBy, adds_first_fit, makes_new, makes_second}
+use Rattle.hotel_statements.specs.Statements.{sets_version}
 use Rattle.hotel_statements.specs.Steps.{RunsStatement}
 use Rattle.hotel_statements.specs.Upgrade.{IsFirstDesk, IsFirstBooks, IsFirstMid, IsFirstWith, AreRoomsIn, IsUpgraded}
-use Rattle.hotel_statements.specs.Upgrade.{Upgrades, IsUpgradeOf, IsOutdated, IsBefore, first_of, HasFits}
-use Rattle.hotel_statements.specs.Upgrade.{GivesFits}
+use Rattle.hotel_statements.specs.Upgrade.{Upgrades, IsUpgradeOf, IsOutdated, IsBefore, first_of, GivesFits}
 use Rattle.hotel_statements.proofs.Answers.{fused}
-use Rattle.hotel_statements.proofs.Ends.{none_new, commit_then}
+use Rattle.hotel_statements.proofs.Ends.{none_new}
 use Rattle.hotel_statements.proofs.Risen.{rooms_rise, keys_rise}
 use Rattle.hotel_statements.proofs.Made.Desk.{same_tables, same_bare}
 
 -- ---- statements, one after the other
 
 -- one statement, given what it makes, and its parameters as they are bound
-pub gives_one : {Before : State → Type 0} {text : List ℕ} {given : Row} {fits : FitEntries} {old new : State}
-    {r : Result (Unit {0}) Error} (params : Row) → RunsStatement text given old new r
-    → ((count : ℕ) → ExecutesInside 0 text params old new (Ok count) → (IsTrue old.is_open → Before old)
-    → HasFits fits old new) → given ≡ params → GivesFits Before fits old new r
-gives_one {Before} {text} {given} {fits} {old} {new} {r} params it step same =
-    record { made = λ clean. go r (it.ran clean); kept = it.kept; survives = it.survives }
-  where
-    go : (r : Result (Unit {0}) Error) → OnOk r ((count : ℕ) × ExecutesInside 0 text given old new (Ok count))
-        → OnOk r ((IsTrue old.is_open → Before old) → HasFits fits old new)
-    go (Err e) ran = tt
-    go (Ok u) ran = step ran.0 (subst (λ ps. ExecutesInside 0 text ps old new (Ok ran.0)) same ran.1)
+pub gives_one : {S : Type 0} {g : Ghosts S} {text : List ℕ} {given : Row} {Before : State → Type 0} {fits : FitEntries}
+    {old new : Held S} {r : Result (Unit {0}) Error} (params : Row)
+    → RunsStatement text given (state g old) (state g new) r → RunsStatements g ((text, given) ∷ []) old new r
+    → ((count : ℕ) → ExecutesInside 0 text params (state g old) (state g new) (Ok count)
+    → GivesFits Before fits (state g old) (state g new)) → given ≡ params
+    → MakesBy g ((text, params) ∷ []) (GivesFits Before fits) old new r
+gives_one {g = g} {text = text} {old = old} {new = new} {r = r} params it answers step same = record {
+  runs = subst (λ ps. RunsStatements g ((text, ps) ∷ []) old new r) same answers;
+  made = λ clean. on_ok_weaker r (λ ran. step ran.0
+      (subst (λ ps. ExecutesInside 0 text ps (state g old) (state g new) (Ok ran.0)) same ran.1)) (it.ran clean);
+  kept = it.kept;
+  survives = it.survives;
+}
 
 -- ---- the tables, and then the version
 
-pub version_then : {a b c : State} {u : Unit {0}} {r : Result (Unit {0}) Error} → (HasCleanDisk b → MakesNew a b)
-    → (HasCleanDisk b → KeepsCommit a b) → Survives a b (λ _. ⊥) → GivesFits IsOutdated [] b c r
-    → GivesFits IsFirstMid [] a c r
-version_then {a} {b} {c} {u} {r} tables kept survives next = record {
-  made = λ clean. go r (tables (was clean)) (kept (was clean)) (next.made clean);
-  kept = λ clean. commit_then (kept (was clean)) (next.kept clean);
-  survives = none_new survives next.survives;
-}
-  where
-    was : HasCleanDisk c → HasCleanDisk b
-    was clean = omega (arith, next.survives.clean, clean)
-
-    go : (r : Result (Unit {0}) Error) → MakesNew a b → KeepsCommit a b
-        → OnOk r ((IsTrue b.is_open → IsOutdated b) → HasFits [] b c)
-        → OnOk r ((IsTrue a.is_open → IsFirstMid a) → HasFits [] a c)
-    go (Err e) makes commit did = tt
-    go (Ok u) makes commit did = λ before.
-        let first = makes (λ is_open. (before is_open).schema) in
-        let was = before first.was_open in
-        let tables = same_tables {version = First} a.now.trees b.now.trees first.rows was.tables tt in
-        let last = did (λ _. record {
-          schema = first.schema_is;
-          inside = first.inside;
-          tables = tables;
-          empty = first.empty;
-        }) in
-        record {
-          was_open = first.was_open;
-          is_open = last.is_open;
-          committed = last.committed ∙ commit.committed last.was_open;
-          mid = last.mid;
-          sound = last.sound;
-          bare_rows_are = last.bare_rows_are ∙ same_bare a.now.trees b.now.trees first.rows;
-          fits_are = last.fits_are;
-        }
+pub version_then : {a b c : State} → MakesNew a b × KeepsCommit a b → GivesFits IsOutdated [] b c
+    → GivesFits IsFirstMid [] a c
+version_then {a} {b} made did before =
+    let first = made.0 (λ is_open. (before is_open).schema) in
+    let was = before first.was_open in
+    let last = did (λ _. record {
+      schema = first.schema_is;
+      inside = first.inside;
+      tables = same_tables {version = First} a.now.trees b.now.trees first.rows was.tables tt;
+      empty = first.empty;
+    }) in
+    record {
+      was_open = first.was_open;
+      is_open = last.is_open;
+      committed = last.committed ∙ made.1.committed last.was_open;
+      mid = last.mid;
+      sound = last.sound;
+      bare_rows_are = last.bare_rows_are ∙ same_bare a.now.trees b.now.trees first.rows;
+      fits_are = last.fits_are;
+    }
 
 -- ---- the rooms
 
@@ -101,79 +91,74 @@ all_earlier d (r ∷ rooms) (suc i) low up =
     below (x ∷ rooms) zero low after = let is = after.0 in grind (arith, nat_tests, is)
     below (x ∷ rooms) (suc i) low after = below rooms i (omega (arith, low)) after.1
 
--- the fits of those so far, and one more
-fits_more : (rooms : List ℕ) (i room : ℕ) → i < length rooms → room ≡ get_or rooms i room
-    → map first_of (take i rooms) ++ first_of room ∷ [] ≡ map first_of (take (i + 1) rooms)
-fits_more rooms i room low is =
-    ap (λ x. map first_of (take i rooms) ++ first_of x ∷ []) is
-    ∙ sym (ap (map first_of) (take_more rooms i room low) ∙ map_push first_of (take i rooms) (get_or rooms i room))
+-- what is made of those so far, and of one more
+map_more : {X : Type 0} (f : ℕ → X) (rooms : List ℕ) (i room : ℕ) → i < length rooms → room ≡ get_or rooms i room
+    → map f (take i rooms) ++ f room ∷ [] ≡ map f (take (i + 1) rooms)
+map_more f rooms i room low is =
+    ap (λ x. map f (take i rooms) ++ f x ∷ []) is
+    ∙ sym (ap (map f) (take_more rooms i room low) ∙ map_push f (take i rooms) (get_or rooms i room))
 
 abbrev AreEarlier : ℕ → FitEntries → Type 0
 AreEarlier room fits = AllByRecursion (λ (e : (ℕ × ℕ) × FitRow). e.0.0 < room) fits
 
-pub room_then : {rooms : List ℕ} {a b c : State} {u : Unit {0}} {r : Result (Unit {0}) Error} (i room : ℕ)
-    → i < length rooms → room ≡ get_or rooms i room
-    → GivesFits (IsFirstWith rooms) (map first_of (take i rooms)) a b (Ok u)
-    → GivesFits (IsBefore room) (fits_in b.now.trees ++ first_of room ∷ []) b c r
-    → GivesFits (IsFirstWith rooms) (map first_of (take (i + 1) rooms)) a c r
-room_then {rooms} {a} {b} {c} {u} {r} i room low is one two = record {
-  made = λ clean. go r (one.made (was clean)) (two.made clean);
-  kept = λ clean. commit_then (one.kept (was clean)) (two.kept clean);
-  survives = none_new one.survives two.survives;
-}
-  where
-    was : HasCleanDisk c → HasCleanDisk b
-    was clean = omega (arith, two.survives.clean, clean)
+-- those so far have their fits
+abbrev pub GivesSoFar : List ℕ → ℕ → State → State → Type 0
+GivesSoFar rooms i = GivesFits (IsFirstWith rooms) (map first_of (take i rooms))
 
-    so_far : FitEntries
-    so_far = map first_of (take i rooms)
+pub room_then : {rooms : List ℕ} {a b c : State} (i room : ℕ) → i < length rooms → room ≡ get_or rooms i room
+    → GivesSoFar rooms i a b → GivesFits (IsBefore room) (fits_in b.now.trees ++ first_of room ∷ []) b c
+    → GivesSoFar rooms (i + 1) a c
+room_then {rooms} {a} {b} {c} i room low is did next before =
+    let first = did before in
+    let desk = before first.was_open in
+    let so_far : FitEntries = map first_of (take i rooms) in
+    let up : InOrder nat_cmp rooms = subst (InOrder nat_cmp) (sym desk.1)
+    (keys_rise nat_cmp (bare_rooms_in a.now.trees) (rooms_rise {version = First} a.now.trees desk.0.tables)) in
+    let earlier : AreEarlier room so_far =
+    subst (λ x. AreEarlier x so_far) (sym is) (all_earlier room rooms i low up) in
+    let last = next (λ _. record {
+      mid = first.mid;
+      earlier = subst (AreEarlier room) (sym first.fits_are) earlier;
+    }) in
+    record {
+      was_open = first.was_open;
+      is_open = last.is_open;
+      committed = last.committed ∙ first.committed;
+      mid = last.mid;
+      sound = last.sound;
+      bare_rows_are = last.bare_rows_are ∙ first.bare_rows_are;
+      fits_are = last.fits_are ∙ ap (λ fits. fits ++ first_of room ∷ []) first.fits_are
+          ∙ map_more first_of rooms i room low is;
+    }
 
-    go : (r : Result (Unit {0}) Error) → ((IsTrue a.is_open → IsFirstWith rooms a) → HasFits so_far a b)
-        → OnOk r ((IsTrue b.is_open → IsBefore room b) → HasFits (fits_in b.now.trees ++ first_of room ∷ []) b c)
-        → OnOk r ((IsTrue a.is_open → IsFirstWith rooms a) → HasFits (map first_of (take (i + 1) rooms)) a c)
-    go (Err e) did next = tt
-    go (Ok u) did next = λ before.
-        let first = did before in
-        let desk = before first.was_open in
-        let up : InOrder nat_cmp rooms = subst (InOrder nat_cmp) (sym desk.1)
-        (keys_rise nat_cmp (bare_rooms_in a.now.trees) (rooms_rise {version = First} a.now.trees desk.0.tables)) in
-        let earlier : AreEarlier room so_far =
-        subst (λ x. AreEarlier x so_far) (sym is) (all_earlier room rooms i low up) in
-        let last = next (λ _. record {
-          mid = first.mid;
-          earlier = subst (AreEarlier room) (sym first.fits_are) earlier;
-        }) in
-        record {
-          was_open = first.was_open;
-          is_open = last.is_open;
-          committed = last.committed ∙ first.committed;
-          mid = last.mid;
-          sound = last.sound;
-          bare_rows_are = last.bare_rows_are ∙ first.bare_rows_are;
-          fits_are = last.fits_are ∙ ap (λ fits. fits ++ first_of room ∷ []) first.fits_are
-              ∙ fits_more rooms i room low is;
-        }
+-- all have
+pub all_given : {rooms : List ℕ} {a b : State} (i : ℕ) → length rooms ≤ i → GivesSoFar rooms i a b
+    → Upgrades rooms a b
+all_given {rooms} {a} {b} i past did before =
+    let all = did before in
+    let fits : map first_of (take i rooms) ≡ first_fits (bare_rooms_in a.now.trees) =
+    ap (map first_of) (take_all i rooms past ∙ (before all.was_open).1)
+    ∙ fused first_of (λ e. e.0) (bare_rooms_in a.now.trees) in
+    record {
+      was_open = all.was_open;
+      is_open = all.is_open;
+      committed = all.committed;
+      mid = all.mid;
+      sound = all.sound;
+      rows_are = ap₂ joined (all.fits_are ∙ fits) all.bare_rows_are;
+    }
 
--- all rooms have their fits
-pub all_given : {rooms : List ℕ} {a b : State} {u : Unit {0}} (i : ℕ) → length rooms ≤ i
-    → GivesFits (IsFirstWith rooms) (map first_of (take i rooms)) a b (Ok u) → Upgrades rooms a b (Ok u)
-all_given {rooms} {a} {b} i past it = record {
-  made = λ clean before.
-      let all = it.made clean before in
-      let fits : map first_of (take i rooms) ≡ first_fits (bare_rooms_in a.now.trees) =
-      ap (map first_of) (take_all i rooms past ∙ (before all.was_open).1)
-      ∙ fused first_of (λ e. e.0) (bare_rooms_in a.now.trees) in
-      record {
-        was_open = all.was_open;
-        is_open = all.is_open;
-        committed = all.committed;
-        mid = all.mid;
-        sound = all.sound;
-        rows_are = ap₂ joined (all.fits_are ∙ fits) all.bare_rows_are;
-      };
-  kept = it.kept;
-  survives = it.survives;
-}
+-- the statements for those so far, and for one more
+pub one_more : (rooms : List ℕ) (i room : ℕ) → i < length rooms → room ≡ get_or rooms i room
+    → makes_second (take i rooms) ++ adds_first_fit room ∷ [] ≡ makes_second (take (i + 1) rooms)
+one_more rooms i room low is =
+    ap (λ more. makes_new ++ (sets_version ∷ more)) (map_more adds_first_fit rooms i room low is)
+
+-- and for the others
+pub with_others : (rooms : List ℕ) (i : ℕ)
+    → makes_second (take i rooms) ++ map adds_first_fit (drop i rooms) ≡ makes_second rooms
+with_others rooms i = ap (λ more. makes_new ++ (sets_version ∷ more))
+    (sym (map-append adds_first_fit (take i rooms) (drop i rooms)) ∙ ap (map adds_first_fit) (take-append-drop i rooms))
 
 -- ---- the transaction
 
@@ -223,42 +208,41 @@ restored old new desk now committed =
     )
 
 -- a transaction that was given up for a statement that failed
-pub given_up : {rooms : List ℕ} {old start mid new : State} {e : Error} (r : Result (Unit {0}) Error) → IsErr r
-    → BeginsFirst rooms old start → Survives old start (λ _. ⊥) → Upgrades rooms start mid (Err e)
-    → new.in_transaction ≡ false → (HasCleanDisk new → IsRolledBack mid new) → Survives mid new (λ _. ⊥)
-    → Migrates old new r
-given_up (Ok u) is b began did autocommit undone two = absurd cc
-given_up {rooms} {old} {start} {mid} {new} (Err why) is b began did autocommit undone two = record {
+pub given_up : {rooms : List ℕ} {old start mid new : State} (r : Result (Unit {0}) Error) → IsErr r
+    → BeginsFirst rooms old start → Survives old start (λ _. ⊥) → (HasCleanDisk mid → KeepsCommit start mid)
+    → Survives start mid (λ _. ⊥) → new.in_transaction ≡ false → (HasCleanDisk new → IsRolledBack mid new)
+    → Survives mid new (λ _. ⊥) → Migrates old new r
+given_up (Ok u) is b began commits ran autocommit undone two = absurd cc
+given_up {rooms} {old} {start} {mid} {new} (Err why) is b began commits ran autocommit undone two = record {
   books = tt;
   left = record { autocommit = autocommit; desk = λ kept. (back kept).1.0 };
   was = λ kept. (back kept).0;
   made = λ kept. tt;
   same = λ kept. (back kept).1.1;
   crash = survives_then old mid new (λ _. ⊥) (λ _. ⊥) (IsUpgradeOf old.now.trees) (λ _ _ none. absurd none)
-      (λ _ _ none. absurd none) (none_new began did.survives) two;
+      (λ _ _ none. absurd none) (none_new began ran) two;
 }
   where
     back : IsKept new → IsKept old × (IsFirstDesk new × (new.now ≡ old.now))
     back kept =
         let clean_mid : HasCleanDisk mid = omega (arith, two.clean, kept.0) in
-        let clean_start : HasCleanDisk start = omega (arith, did.survives.clean, clean_mid) in
+        let clean_start : HasCleanDisk start = omega (arith, ran.clean, clean_mid) in
         let gone = undone kept.0 in
         let open_mid = gone.was_open kept.1 in
-        let commit = did.kept clean_mid in
+        let commit = commits clean_mid in
         let was = start_kept old start b clean_start (commit.was_open open_mid) in
         let same = commit.committed open_mid ∙ ap (λ (s : State). s.committed) b.begun in
         let done = gone.undone kept.1 in
         (was, restored old new (b.books.desk was) (done.0 ∙ same) (done.1 ∙ same))
 
-module _ {rooms : List ℕ} {old start mid : State} {u : Unit {0}} (b : BeginsFirst rooms old start)
-    (did : Upgrades rooms start mid (Ok u)) where
+module _ {rooms : List ℕ} {old start mid : State} (b : BeginsFirst rooms old start)
+    (did : HasCleanDisk mid → Upgrades rooms start mid) (ran : Survives start mid (λ _. ⊥)) where
   all_steps : HasCleanDisk mid → IsUpgraded start mid
   all_steps clean =
-      let before : HasCleanDisk start = omega (arith, did.survives.clean, clean) in
-      did.made clean (start_mid old start b before)
+      let before : HasCleanDisk start = omega (arith, ran.clean, clean) in did clean (start_mid old start b before)
 
   was_kept : HasCleanDisk mid → IsKept old
-  was_kept clean = start_kept old start b (omega (arith, did.survives.clean, clean)) (all_steps clean).was_open
+  was_kept clean = start_kept old start b (omega (arith, ran.clean, clean)) (all_steps clean).was_open
 
   start_rows : rows_of_version First start.now.trees ≡ rows_of_version First old.now.trees
   start_rows = ap (λ (s : State). rows_of_version First s.now.trees) b.begun
@@ -323,7 +307,7 @@ module _ {rooms : List ℕ} {old start mid : State} {u : Unit {0}} (b : BeginsFi
       made = λ kept. made r (ends kept);
       same = λ kept. same r (ends kept);
       crash = survives_then old mid new (λ _. ⊥) (λ db. db ≡ mid.now.trees) (IsUpgradeOf old.now.trees)
-          (λ _ db none. absurd none) (λ clean db is. whole (clean_mid clean) db is) (none_new began did.survives) two;
+          (λ _ db none. absurd none) (λ clean db is. whole (clean_mid clean) db is) (none_new began ran) two;
     }
       where
         books : (r : Result (Unit {0}) Error) → (IsKept new → Ended r) → OnOk r (IsBooks new)

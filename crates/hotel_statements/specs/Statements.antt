@@ -1,7 +1,7 @@
 -- The SQL statements of each change, with the values of their parameters, and what comes of statements that are run in
 -- turn.
 use Rattle.std.specs.Prelude.{ℕ, ◌+◌, ◌≡◌, ◌⊎◌, false, Bool, IsTrue, List, [], ◌∷◌, ◌++◌, Option, Some, None, Result}
-use Rattle.std.specs.Prelude.{Ok, Err, OnOk}
+use Rattle.std.specs.Prelude.{Ok, Err, OnOk, map}
 use Rattle.keycard_rules.specs.declared.card.Card.{Card}
 use Rattle.keycard_rules.specs.Note.{Note}
 use Rattle.hotel_nights.specs.declared.stay.Stay.{Stay}
@@ -28,6 +28,7 @@ use Rattle.sqlite.specs.declared.error.Error.TheVariants.{SqliteFailure}
 use Rattle.sqlite.specs.declared.error.ErrorCode.TheVariants.{TransactionState}
 use Rattle.hotel_model.specs.Rows.{Rows}
 use Rattle.hotel_statements.specs.declared.look_ups.Known.{Known}
+use Rattle.hotel_statements.specs.declared.upgrade.TheConstants.{VERSION}
 use Rattle.hotel_statements.specs.Texts as text
 use Rattle.hotel_statements.specs.Values.{int, maybe_int}
 use Rattle.hotel_statements.specs.Columns.{bit_of, state_number, kind_written, room_written, stay_written, code_written}
@@ -42,6 +43,10 @@ Statement = List ℕ × Row
 
 abbrev pub sets_day : ℕ → Statement
 sets_day day = (text.update_day, int 1 ∷ int day ∷ [])
+
+-- the version of the tables
+abbrev pub sets_version : Statement
+sets_version = (text.update_version, int 1 ∷ int VERSION ∷ [])
 
 -- the row of meta, with no day
 abbrev pub adds_meta : Statement
@@ -68,6 +73,10 @@ adds_note note number = (text.insert_note, note_written ((note.room, number), no
 
 abbrev pub adds_fit : FitRow → Statement
 adds_fit fit = (text.insert_fit, fit_written ((fit.room, fit.fit), fit))
+
+-- the fit that the room began with
+abbrev pub adds_first_fit : ℕ → Statement
+adds_first_fit room = adds_fit (fit_row room 1 0 0)
 
 abbrev pub adds_inside : ℕ → ℕ → Statement
 adds_inside room card = (text.insert_inside, inside_written (room, card))
@@ -119,7 +128,7 @@ issues_card card room leaves codes =
 abbrev pub opens_room : ℕ → List ℕ → ℕ → List Statement
 opens_room room kind code =
     adds_room (new_row room kind) ∷ adds_code code (record { room = room; place = 0 })
-    ∷ adds_fit (fit_row room 1 0 0) ∷ []
+    ∷ adds_first_fit room ∷ []
 
 abbrev pub ends_stay : ℕ → ℕ → List Statement
 ends_stay party room = sets_state party state.Done ∷ frees_room room ∷ []
@@ -179,6 +188,10 @@ makes_of_locks = makes_table text.create_inside ∷ makes_table text.create_note
 -- codes and cards, and these
 abbrev pub makes_last : List Statement
 makes_last = makes_table text.create_code ∷ makes_table text.create_card ∷ makes_of_locks
+
+-- those that make a desk of the second version of one of the first, whose rooms are these
+abbrev pub makes_second : List ℕ → List Statement
+makes_second rooms = makes_new ++ (sets_version ∷ map adds_first_fit rooms)
 
 -- ---- what comes of them
 

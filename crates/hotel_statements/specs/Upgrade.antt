@@ -1,12 +1,11 @@
 -- A desk of the first version, and what makes one of the second of it.
-use Rattle.std.specs.Prelude.{◌≡◌, ◌<◌, ℕ, false, List, [], Result, OnOk, IsTrue}
+use Rattle.std.specs.Prelude.{◌≡◌, ◌<◌, ℕ, false, List, [], IsTrue}
 use Rattle.std.specs.List.{AllByRecursion}
 use Rattle.std.specs.Map.{keys_of}
 use Rattle.sqlite.specs.Tree.{Trees}
 use Rattle.sqlite_catalog.specs.Listing.{IsSound}
 use Rattle.sqlite.specs.Effect.{IsDatabase}
-use Rattle.sqlite.specs.State.{State, HasCleanDisk, KeepsCommit, Survives}
-use Rattle.sqlite.specs.declared.error.Error.{Error}
+use Rattle.sqlite.specs.State.{State}
 use Rattle.hotel_model.specs.declared.rows.FitRow.{FitRow}
 use Rattle.hotel_model.specs.Rows.{FitKey}
 use Rattle.hotel_model.specs.Refits.{fit_row}
@@ -54,12 +53,9 @@ pub record IsUpgraded (old new : State) : Type 0 where
   pub sound : IsDatabase new.now
   pub rows_are : rows_in new.now.trees ≡ rows_of_version First old.now.trees
 
--- The statements that make a desk of the second version of one of the first, whose rooms are these: nothing is
--- committed, and a crash leaves nothing new.
-pub record Upgrades (rooms : List ℕ) (old new : State) (result : Result (Unit {0}) Error) : Type 0 where
-  pub made : HasCleanDisk new → OnOk result ((IsTrue old.is_open → IsFirstWith rooms old) → IsUpgraded old new)
-  pub kept : HasCleanDisk new → KeepsCommit old new
-  pub survives : Survives old new (λ _. ⊥)
+-- where the connection was open, and the desk was one of the first version with these rooms, it is one of the second
+abbrev pub Upgrades : List ℕ → State → State → Type 0
+Upgrades rooms old new = (IsTrue old.is_open → IsFirstWith rooms old) → IsUpgraded old new
 
 -- The trees are the whole of a desk of the second version, with the rows of one of the first: an opening that finds
 -- them finds its schema.
@@ -96,10 +92,6 @@ pub record HasFits (fits : FitEntries) (old new : State) : Type 0 where
   pub bare_rows_are : bare_rows_in new.now.trees ≡ bare_rows_in old.now.trees
   pub fits_are : fits_in new.now.trees ≡ fits
 
--- Statements of an upgrade, from old to new: where none failed, and old was such a state, the desk has these fits.
--- Nothing is committed, and a crash leaves nothing new.
-pub record GivesFits (Before : State → Type 0) (fits : FitEntries) (old new : State) (result : Result (Unit {0}) Error)
-    : Type 0 where
-  pub made : HasCleanDisk new → OnOk result ((IsTrue old.is_open → Before old) → HasFits fits old new)
-  pub kept : HasCleanDisk new → KeepsCommit old new
-  pub survives : Survives old new (λ _. ⊥)
+-- where the connection was open, and the state was such, the desk has these fits, and its other rows stayed
+abbrev pub GivesFits : (State → Type 0) → FitEntries → State → State → Type 0
+GivesFits Before fits old new = (IsTrue old.is_open → Before old) → HasFits fits old new

@@ -1,6 +1,7 @@
 //! The statements that make a desk of the second version of one of the first, within a transaction.
 ghost use Rattle.std.specs.Prelude.{◌≡◌, ◌++◌, [], ◌∷◌};
 ghost use Rattle.sqlite.specs.Held.{state};
+ghost use Rattle.hotel_statements.specs.Statements.{MakesBy, adds_first_fit, makes_new, makes_second, sets_version};
 ghost use Rattle.hotel_statements.specs.Tables.{fits_in};
 ghost use Rattle.hotel_statements.specs.Upgrade.{Upgrades, GivesFits, IsOutdated, IsBefore, IsFirstMid, first_of};
 
@@ -17,7 +18,8 @@ const VERSION: u32 = 2;
 /// Has meta tell the second version.
 fn set_version<S: Alter>(tx: &mut Transaction<'_, S>) -> Result<(), Error>
     ensures same_reference { tx.new.conn.ghost_name ≡ tx.old.conn.ghost_name }
-    ensures makes { GivesFits IsOutdated [] (state S.Store tx.old.conn.now) (state S.Store tx.new.conn.now) result }
+    ensures makes { MakesBy S.Store (sets_version ∷ []) (GivesFits IsOutdated [])
+        tx.old.conn.now tx.new.conn.now result }
 {
     run(tx, UPDATE_VERSION, &[small(1), small(VERSION)])
 }
@@ -25,8 +27,9 @@ fn set_version<S: Alter>(tx: &mut Transaction<'_, S>) -> Result<(), Error>
 /// Adds the fit that a room began with.
 fn insert_first_fit<S: Alter>(tx: &mut Transaction<'_, S>, room: RoomNo) -> Result<(), Error>
     ensures same_reference { tx.new.conn.ghost_name ≡ tx.old.conn.ghost_name }
-    ensures makes { GivesFits (IsBefore room) (fits_in (state S.Store tx.old.conn.now).now.trees ++ first_of room ∷ [])
-        (state S.Store tx.old.conn.now) (state S.Store tx.new.conn.now) result }
+    ensures makes { MakesBy S.Store (adds_first_fit room ∷ [])
+        (GivesFits (IsBefore room) (fits_in (state S.Store tx.old.conn.now).now.trees ++ first_of room ∷ []))
+        tx.old.conn.now tx.new.conn.now result }
 {
     run(
         tx,
@@ -38,7 +41,8 @@ fn insert_first_fit<S: Alter>(tx: &mut Transaction<'_, S>, room: RoomNo) -> Resu
 /// Makes the table of fits and the indexes, and has meta tell the second version.
 fn upgrade_tables<S: Alter>(tx: &mut Transaction<'_, S>) -> Result<(), Error>
     ensures same_reference { tx.new.conn.ghost_name ≡ tx.old.conn.ghost_name }
-    ensures makes { GivesFits IsFirstMid [] (state S.Store tx.old.conn.now) (state S.Store tx.new.conn.now) result }
+    ensures makes { MakesBy S.Store (makes_second []) (GivesFits IsFirstMid [])
+        tx.old.conn.now tx.new.conn.now result }
 {
     make_new(tx)?;
     set_version(tx)
@@ -47,7 +51,8 @@ fn upgrade_tables<S: Alter>(tx: &mut Transaction<'_, S>) -> Result<(), Error>
 /// Makes a desk of the second version of one of the first: its tables, and then the fit of each of its rooms.
 pub fn upgrade<S: Alter>(tx: &mut Transaction<'_, S>, rooms: &[RoomNo]) -> Result<(), Error>
     ensures same_reference { tx.new.conn.ghost_name ≡ tx.old.conn.ghost_name }
-    ensures makes { Upgrades rooms.now (state S.Store tx.old.conn.now) (state S.Store tx.new.conn.now) result }
+    ensures makes { MakesBy S.Store (makes_second rooms.now) (Upgrades rooms.now)
+        tx.old.conn.now tx.new.conn.now result }
 {
     upgrade_tables(tx)?;
     'rooms: for i in 0..rooms.len() {

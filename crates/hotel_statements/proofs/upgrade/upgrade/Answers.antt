@@ -1,16 +1,39 @@
-use Rattle.std.proofs.Common.{arith, rules}
+use Rattle.std.proofs.Common.{◌+◌, sym, ap, subst, List, Ok, take, drop, map, arith, rules}
 use Rattle.std.proofs.lemmas.Bool.Decides.{nat_tests}
-use Rattle.hotel_statements.proofs.Upgraded.{room_then, all_given}
+use Rattle.std.proofs.lemmas.List.{take_all}
+use Rattle.hotel_statements.specs.Statements.{Statement, MakesBy, makes_second, adds_first_fit}
+use Rattle.hotel_statements.specs.Upgrade.{Upgrades}
+use Rattle.hotel_statements.proofs.InTurn.{made_as, made_then, made_stopped, runs_on}
+use Rattle.hotel_statements.proofs.Upgraded.{GivesSoFar, room_then, all_given, one_more, with_others}
 use Rattle.hotel_statements.proofs.upgrade.upgrade.Goals as goal
 
+pub returns-in_err-upgrade_tables-clause-makes : goal.returns-in_err-upgrade_tables-clause-makes
+returns-in_err-upgrade_tables-clause-makes g c =
+    made_stopped (map adds_first_fit c.args.rooms.now) c.from_residual.result c.from_residual.ensures.0
+    c.from_residual.ensures.1 c.in_err-upgrade_tables.ensures.makes
+
+pub rooms-begins : goal.rooms-begins
+rooms-begins g c = (search rules, made_as (λ gives before. gives (λ is_open. (before is_open).0))
+    c.in_ok-upgrade_tables.ensures.makes)
+
 pub rooms-preserved : goal.rooms-preserved
-rooms-preserved g c = (
-  search rules,
-  room_then {rooms = c.args.rooms.now} c.rooms.i c.index-rooms-i.result (omega arith) c.index-rooms-i.is
-      c.rooms.invariant.1 c.in_ok-insert_first_fit.ensures.makes,
-)
+rooms-preserved g c =
+    let rooms = c.args.rooms.now in
+    let i = c.rooms.i in
+    let low = omega arith in
+    (
+      search rules,
+      subst (λ (all : List Statement). MakesBy g.S.Store all (GivesSoFar rooms (i + 1)) c.args.tx.now.conn.now
+          c.insert_first_fit.new.tx.conn.now (Ok tt))
+          (one_more rooms i c.index-rooms-i.result low c.index-rooms-i.is)
+          (made_then (room_then i c.index-rooms-i.result low c.index-rooms-i.is)
+          c.rooms.invariant.1 c.in_ok-insert_first_fit.ensures.makes),
+    )
 
 pub returns-clause-makes : goal.returns-clause-makes
 returns-clause-makes g c =
+    let rooms = c.args.rooms.now in
     let past = c.rooms-test.false in
-    all_given {rooms = c.args.rooms.now} c.rooms.i (grind (arith, nat_tests, past)) c.rooms.invariant.1
+    subst (λ (all : List Statement). MakesBy g.S.Store all (Upgrades rooms) c.args.tx.now.conn.now
+    c.rooms.tx.conn.now (Ok tt)) (ap makes_second (take_all c.rooms.i rooms (grind (arith, nat_tests, past))))
+    (made_as (all_given c.rooms.i (grind (arith, nat_tests, past))) c.rooms.invariant.1)

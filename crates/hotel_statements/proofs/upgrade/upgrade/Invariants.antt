@@ -1,11 +1,11 @@
-use Rattle.std.proofs.Common.{◌≡◌, map, take, Ok}
-use Rattle.sqlite.specs.Held.{state}
-use Rattle.hotel_statements.specs.Upgrade.{GivesFits, IsFirstWith, first_of}
+use Rattle.std.proofs.Common.{◌≡◌, take, Ok}
+use Rattle.hotel_statements.specs.Statements.{MakesBy, makes_second}
+use Rattle.hotel_statements.proofs.Upgraded.{GivesSoFar}
 use Rattle.hotel_statements.proofs.upgrade.upgrade.Given as goal
 
 -- the transaction is on the same connection, and the rooms so far have their fits
 abbrev pub invariant-rooms : goal.invariant-rooms
 invariant-rooms g l =
     (l.tx.conn.ghost_name ≡ l.fn.tx.conn.ghost_name)
-    × GivesFits (IsFirstWith l.rooms) (map first_of (take l.i l.rooms)) (state g.S.Store l.fn.tx.conn.now)
-    (state g.S.Store l.tx.conn.now) (Ok tt)
+    × MakesBy g.S.Store (makes_second (take l.i l.rooms)) (GivesSoFar l.rooms l.i) l.fn.tx.conn.now l.tx.conn.now
+    (Ok tt)
