@@ -65,30 +65,21 @@ module _ {S : Type 0} (g : Ghosts S) where
   -- of a transaction, a statement failed
   pub not_run : {statements : List Statement} (old start ended new : Held S) {e : Error} (r : Result (Unit {0}) Error)
       → start ≡ record old { in_transaction = true } → r ≡ Err e → RunsStatements g statements start ended (Err e)
-      → Survives (state g ended) (state g new) (λ _. ⊥) → HasCleanDisk (state g new)
-      → IfErr r (FailsToWrite g statements old new)
-  not_run {statements = statements} old start ended new r begun is ran survives clean =
+      → Survives (state g ended) (state g new) (λ _. ⊥) → IfErr r (FailsToWrite g statements old new)
+  not_run {statements = statements} old start ended new r begun is ran survives =
       subst (λ (x : Result (Unit {0}) Error). IfErr x (FailsToWrite g statements old new)) (sym is)
-      (record {
-        start = start;
-        begun = begun;
-        ended = ended;
-        failed = inl (ran.in_turn (omega (arith, survives.clean, clean)), survives);
-      })
+      (record { start = start; begun = begun; ended = ended; failed = inl (ran, survives) })
 
   -- or the commit
-  pub not_committed : {statements : List Statement} {P : Trees → Type 0} (old start ended new : Held S) (u : Unit {0})
+  pub not_committed : {statements : List Statement} (old start ended new : Held S) (u : Unit {0})
       (r : Result (Unit {0}) Error) → start ≡ record old { in_transaction = true }
-      → RunsStatements g statements start ended (Ok u) → Survives (state g ended) (state g new) P
+      → RunsStatements g statements start ended (Ok u)
+      → Survives (state g ended) (state g new) (λ db. db ≡ (state g ended).now.trees)
       → (HasCleanDisk (state g new) → IfErr r (FailsToCommit (state g ended) (state g new)))
-      → HasCleanDisk (state g new) → IfErr r (FailsToWrite g statements old new)
-  not_committed old start ended new u (Ok v) begun ran survives err clean = tt
-  not_committed old start ended new u (Err e) begun ran survives err clean = record {
-    start = start;
-    begun = begun;
-    ended = ended;
-    failed = inr (ran.in_turn (omega (arith, survives.clean, clean)), err clean);
-  }
+      → IfErr r (FailsToWrite g statements old new)
+  not_committed old start ended new u (Ok v) begun ran survives err = tt
+  not_committed old start ended new u (Err e) begun ran survives err =
+      record { start = start; begun = begun; ended = ended; failed = inr (ran, survives, err) }
 
   -- what is told where nothing is looked up
   abbrev nothing : Option Known

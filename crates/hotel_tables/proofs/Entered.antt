@@ -15,7 +15,8 @@ use Rattle.hotel_statements.specs.declared.version.Version.{Version}
 use Rattle.hotel_statements.specs.declared.version.Version.TheVariants.{First, Second}
 use Rattle.hotel_statements.specs.Schema.{first_schema, desk_schema, schema_of}
 use Rattle.hotel_statements.specs.Tables.{AreTablesOf, AreTables, rows_in, rows_of_version}
-use Rattle.hotel_statements.specs.Books.{IsKept, IsBooks}
+use Rattle.hotel_statements.specs.Books.{IsKept, IsBooks, KeepsRows}
+use Rattle.hotel_statements.specs.Statements.{makes_second}
 use Rattle.hotel_statements.specs.WholeTables.{IsOurs, AreRead, ReadsTo}
 use Rattle.hotel_statements.specs.declared.whole_tables.Tables.{Tables}
 use Rattle.hotel_statements.specs.Upgrade.{IsFirstBooks, AreRoomsIn, IsUpgradeOf}
@@ -27,7 +28,8 @@ use Rattle.hotel_tables.specs.Applied.{LeavesAll}
 use Rattle.hotel_tables.specs.TableBooks.{IsCounted}
 use Rattle.hotel_tables.specs.Opening.{Opens, Enters, FaultFits, FaultFitsIn, IsUpgraded, IsSoundDesk, IsOfVersion}
 use Rattle.hotel_tables.specs.Opening.{IsOfCall, IsNoDesk, FailsToRead, MemoryFitsIn, fault_for}
-use Rattle.hotel_tables.specs.Exits.{FailsToUpgrade, CallFails, LeavesDatabase}
+use Rattle.hotel_tables.specs.Causes.{FailsToWrite}
+use Rattle.hotel_tables.specs.Exits.{CallFails, LeavesDatabase}
 use Rattle.hotel_tables.proofs.Opened.{fits_more, fits_call}
 use Rattle.hotel_tables.proofs.Reread.{of_a_call}
 
@@ -218,9 +220,14 @@ of_call failed s why fits (Second, desk, sound) =
 
 module _ {S : Type 0} (g : Ghosts S) where
   -- the making of a desk of the second version failed
-  pub upgrade_fails : (old mid new : Held S) (rooms : List ℕ) (e : Error) → FailsToUpgrade g rooms mid new e
-      → (cause : LookFault) → fault_of e ≡ cause → CallFails g old new cause First
-  upgrade_fails old mid new rooms e fails cause is = inr (refl, mid, rooms, e, sym is, fails)
+  pub upgrade_fails : (old mid new : Held S) (rooms : List ℕ) (e : Error) → KeepsRows (state g old) (state g mid)
+      → (IsKept (state g mid) → AreRoomsIn rooms (state g mid).now.trees)
+      → FailsToWrite g (makes_second rooms) mid new e → (cause : LookFault) → fault_of e ≡ cause
+      → CallFails g old new cause First
+  upgrade_fails old mid new rooms e same rooms_are failed cause is = inr (
+    refl,
+    record { read = mid; same = same; rooms = rooms; rooms_are = rooms_are; error = e; told = sym is; failed = failed },
+  )
 
   -- nothing was read: the tables are no desk's, or memory was wanting
   pub unread : (c : Held S) (why : OpenFault) → c.in_transaction ≡ false

@@ -8,7 +8,6 @@ mod Applied
 mod MayMake
 mod MemoryDesk
 mod Reread
-mod NotUpgraded
 mod Entered
 mod Reopened
 mod OfFiles

@@ -2,8 +2,6 @@
 -- left where none is made.
 use Rattle.std.proofs.Common.{◌≡◌, true, false, true≢false, [], refl, sym, ap, subst, ◌∙◌, inl, inr, Ok, Err}
 use Rattle.std.proofs.Common.{Result, OnOk, OnErr, IsTrue, arith}
-use Rattle.sqlite_trees.specs.declared.store.Store.{Ghosts}
-use Rattle.sqlite.specs.Held.{Held, state}
 use Rattle.sqlite.specs.Effect.{Database}
 use Rattle.sqlite.specs.Tree.{Trees}
 use Rattle.sqlite.specs.State.{State, HasCleanDisk, Survives, Shows, KeepsCounts, KeepsCommit, IsRolledBack}
@@ -13,8 +11,6 @@ use Rattle.std.specs.Prelude.{IfErr}
 use Rattle.hotel_statements.specs.Schema.{no_schema}
 use Rattle.hotel_statements.specs.Books.{IsKept}
 use Rattle.hotel_statements.specs.NewDesk.{IsBare, IsMade, IsEmptyDesk, IfOpen}
-use Rattle.hotel_statements.specs.Statements.{RunsStatements}
-use Rattle.hotel_tables.specs.Exits.{makes_desk, FailsToMake}
 
 -- what a commit promises that was answered
 abbrev IsCommitted : State → State → Type 0
@@ -69,19 +65,3 @@ module _ (old start ended new : State) (P : Trees → Type 0) (begun : start ≡
       back : IsMade ended → FailsToCommit ended new e → IsRolledBack ended new
       back made (inl fails) = fails.3
       back made (inr late) = absurd (true≢false (sym made.inside ∙ late.1))
-
-module _ {S : Type 0} (g : Ghosts S) (old start ended new : Held S)
-    (begun : start ≡ record old { in_transaction = true }) where
-  -- a statement failed
-  pub not_made : {e : Error} (r : Result (Unit {0}) Error) → r ≡ Err e → RunsStatements g makes_desk start ended (Err e)
-      → IfErr r (FailsToMake g old new)
-  not_made {e} r is ran =
-      subst (λ (r : Result (Unit {0}) Error). IfErr r (FailsToMake g old new)) (sym is)
-      (record { start = start; begun = begun; ended = ended; failed = inl ran })
-
-  -- or the commit
-  pub not_committed : (u : Unit {0}) (r : Result (Unit {0}) Error) → RunsStatements g makes_desk start ended (Ok u)
-      → (HasCleanDisk (state g new) → IfErr r (FailsToCommit (state g ended) (state g new)))
-      → IfErr r (FailsToMake g old new)
-  not_committed u (Ok v) ran err = tt
-  not_committed u (Err e) ran err = record { start = start; begun = begun; ended = ended; failed = inr (ran, err) }

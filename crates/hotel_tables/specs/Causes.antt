@@ -3,7 +3,7 @@ use Rattle.std.specs.Prelude.{◌≡◌, ◌⊎◌, true, ℕ, List, Option, Som
 use Rattle.sqlite_trees.specs.declared.store.Store.{Ghosts}
 use Rattle.sqlite.specs.declared.error.Error.{Error}
 use Rattle.sqlite.specs.Held.{Held, state}
-use Rattle.sqlite.specs.State.{State, IsUnchanged, Survives}
+use Rattle.sqlite.specs.State.{State, HasCleanDisk, IsUnchanged, Survives}
 use Rattle.sqlite.specs.Steps.{FailsToCommit}
 use Rattle.keycard_rules.specs.declared.issued.LookFault.TheVariants as why
 use Rattle.hotel_model.specs.declared.change.Change.{Change}
@@ -11,7 +11,7 @@ use Rattle.hotel_model.specs.declared.change.Change.TheVariants.{Cancelled, Issu
 use Rattle.hotel_statements.specs.Tables.{rows_in}
 use Rattle.hotel_statements.specs.LookUps.{fault_of, LeavesNoMore}
 use Rattle.hotel_statements.specs.declared.look_ups.Known.{Known}
-use Rattle.hotel_statements.specs.Statements.{Statement, RunsInTurn, statements_of}
+use Rattle.hotel_statements.specs.Statements.{Statement, RunsStatements, statements_of}
 use Rattle.hotel_statements.specs.Failures.{BareRoomFails}
 use Rattle.hotel_statements.specs.Failures.{DayFails, KindFails, RoomFails, FitFails, StayFails, StaysFail, CodeFails}
 use Rattle.hotel_statements.specs.Failures.{CodeAtFails, CardFails, InsideFails, IsInsideFails, HasInsideFails}
@@ -74,14 +74,16 @@ module _ {S : Type 0} (g : Ghosts S) where
   AsksTold (Noted note lock_place secured insides) known old new = IsAsked old new
   AsksTold _ known old new = (known ≡ Some (record { codes = 0; notes = 0; before = 0 })) × (new ≡ old)
 
-  -- The transaction of these statements fails, of a connection from old to new: one of them answers this error, or the
-  -- commit does.
+  -- The transaction of these statements fails, of a connection from old to new: one of them answers this error, and a
+  -- crash leaves nothing of them; or the commit answers it, and a crash leaves nothing or all.
   pub record FailsToWrite (statements : List Statement) (old new : Held S) (e : Error) : Type 0 where
     pub start : Held S
     pub begun : start ≡ record old { in_transaction = true }
     pub ended : Held S
-    pub failed : (RunsInTurn g statements start ended (Err e) × Survives (state g ended) (state g new) (λ _. ⊥))
-        ⊎ (RunsInTurn g statements start ended (Ok tt) × FailsToCommit (state g ended) (state g new) e)
+    pub failed : (RunsStatements g statements start ended (Err e) × Survives (state g ended) (state g new) (λ _. ⊥))
+        ⊎ (RunsStatements g statements start ended (Ok tt)
+        × Survives (state g ended) (state g new) (λ db. db ≡ (state g ended).now.trees)
+        × (HasCleanDisk (state g new) → FailsToCommit (state g ended) (state g new) e))
 
   -- The transaction of a change fails, after the look-up that it makes first, if it makes one.
   pub record WriteFails (change : Change) (old new : Held S) : Type 0 where

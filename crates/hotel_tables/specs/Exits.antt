@@ -1,20 +1,20 @@
 -- What is left of a connection's database where no books come of it, and why none come.
-use Rattle.std.specs.Prelude.{◌≡◌, ◌⊎◌, ◌++◌, true, false, ℕ, List, [], ◌∷◌, Ok, Err}
+use Rattle.std.specs.Prelude.{◌≡◌, ◌⊎◌, ◌++◌, false, ℕ, List, [], ◌∷◌}
 use Rattle.sqlite_trees.specs.declared.store.Store.{Ghosts}
 use Rattle.sqlite.specs.declared.error.Error.{Error}
 use Rattle.sqlite.specs.Held.{Held, state}
 use Rattle.sqlite.specs.State.{HasCleanDisk, Survives}
-use Rattle.sqlite.specs.Steps.{FailsToCommit}
 use Rattle.hotel_statements.specs.Books.{IsKept, KeepsRows}
 use Rattle.hotel_statements.specs.LookUps.{fault_of}
 use Rattle.hotel_statements.specs.NewDesk.{IsEmptyDesk}
-use Rattle.hotel_statements.specs.Statements.{Statement, RunsStatements, adds_meta, makes_first, makes_last}
-use Rattle.hotel_statements.specs.Upgrade.{Upgrades}
+use Rattle.hotel_statements.specs.Statements.{Statement, adds_meta, makes_first, makes_last, makes_second}
+use Rattle.hotel_statements.specs.Upgrade.{AreRoomsIn}
 use Rattle.hotel_tables.specs.declared.open_fault.OpenFault.{OpenFault}
 use Rattle.hotel_statements.specs.declared.version.Version.{Version}
 use Rattle.hotel_statements.specs.declared.version.Version.TheVariants.{First}
 use Rattle.keycard_rules.specs.declared.issued.LookFault.{LookFault}
 use Rattle.keycard_rules.specs.declared.issued.LookFault.TheVariants as look
+use Rattle.hotel_tables.specs.Causes.{FailsToWrite}
 use Rattle.hotel_tables.specs.Opening.{fault_for, FailsToRead, FaultFitsIn, IsNoDesk, IsOfCall, IsOfVersion}
 use Rattle.hotel_tables.specs.Opening.{MemoryFitsIn, IsSoundDesk, IsUpgraded}
 
@@ -23,16 +23,6 @@ abbrev pub makes_desk : List Statement
 makes_desk = makes_first ++ (makes_last ++ adds_meta ∷ [])
 
 module _ {S : Type 0} (g : Ghosts S) where
-  -- No desk was made, of a connection from old to new: one of the statements of the transaction answered this error, or
-  -- its commit.
-  pub record FailsToMake (old new : Held S) (e : Error) : Type 0 where
-    pub start : Held S
-    pub begun : start ≡ record old { in_transaction = true }
-    pub ended : Held S
-    pub failed : RunsStatements g makes_desk start ended (Err e)
-        ⊎ (RunsStatements g makes_desk start ended (Ok tt)
-        × (HasCleanDisk (state g new) → FailsToCommit (state g ended) (state g new) e))
-
   -- Why no desk was made of a database that has nothing, from the connection to it to the one that is given back,
   -- outside any transaction: a call of the store answered an error, which is told by its name. No row is changed, and a
   -- crash leaves what it could leave before, or the whole of a new desk.
@@ -42,24 +32,23 @@ module _ {S : Type 0} (g : Ghosts S) where
     pub crash : Survives (state g old) (state g new) IsEmptyDesk
     pub error : Error
     pub told : why ≡ fault_for (fault_of error)
-    pub failed : FailsToMake old new error
+    pub failed : FailsToWrite g makes_desk old new error
 
-  -- No desk of the second version was made of one of the first with these rooms, of a connection from old to new: the
-  -- statements of the transaction answered this error, or its commit.
-  pub record FailsToUpgrade (rooms : List ℕ) (old new : Held S) (e : Error) : Type 0 where
-    pub start : Held S
-    pub begun : start ≡ record old { in_transaction = true }
-    pub ended : Held S
-    pub failed : Upgrades rooms (state g start) (state g ended) (Err e)
-        ⊎ (Upgrades rooms (state g start) (state g ended) (Ok tt)
-        × (HasCleanDisk (state g new) → FailsToCommit (state g ended) (state g new) e))
+  -- No desk of the second version was made of one of the first, of a connection from old to new, and this is told: its
+  -- tables were read, and the transaction of the statements for its rooms failed.
+  pub record UpgradeFails (old new : Held S) (why : LookFault) : Type 0 where
+    pub read : Held S
+    pub same : KeepsRows (state g old) (state g read)
+    pub rooms : List ℕ
+    pub rooms_are : IsKept (state g read) → AreRoomsIn rooms (state g read).now.trees
+    pub error : Error
+    pub told : why ≡ fault_of error
+    pub failed : FailsToWrite g (makes_second rooms) read new error
 
-  -- of the tables of a version, their reading failed for this cause, or the making of a desk of the second version did
+  -- of the tables of a version, their reading failed for this cause, or the making of the second version of the first
   abbrev pub CallFails : Held S → Held S → LookFault → Version → Type 0
   CallFails old new why version =
-      FailsToRead version (state g old) (state g new) why
-      ⊎ ((version ≡ First) × (mid : Held S) × (rooms : List ℕ) × (e : Error) × (why ≡ fault_of e)
-      × FailsToUpgrade rooms mid new e)
+      FailsToRead version (state g old) (state g new) why ⊎ ((version ≡ First) × UpgradeFails old new why)
 
   -- Why a database gave no books, from the connection to it to the one that is given back, outside any transaction. No
   -- row is changed, and a crash leaves what it could leave before, or the whole desk that was to be made of one of the

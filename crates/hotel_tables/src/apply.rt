@@ -83,8 +83,7 @@ fn make_change<S: Alter>(
         ((state S.Store conn.new).now ≡ (state S.Store conn.old).now) }
     ensures crash { Survives (state S.Store conn.old) (state S.Store conn.new)
         (IsMadeOf (made change.now) (state S.Store conn.old).now.trees) }
-    ensures failed { HasCleanDisk (state S.Store conn.new)
-        → IfErr result (FailsToWrite S.Store (statements_of change.now known) conn.old conn.new) }
+    ensures failed { IfErr result (FailsToWrite S.Store (statements_of change.now known) conn.old conn.new) }
 {
     let mut tx = conn.transaction();
     write_change(&mut tx, change, known)?;

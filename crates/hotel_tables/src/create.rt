@@ -9,7 +9,8 @@ ghost use Rattle.hotel_statements.specs.NewDesk.{IfOpen, IsBare, IsMade, IsEmpty
 ghost use Rattle.hotel_statements.specs.Statements.{MakesBy};
 ghost use Rattle.hotel_statements.specs.Tables.{rows_in};
 ghost use Rattle.hotel_tables.specs.declared.open_fault.OpenFault.TheVariants.{NotADesk};
-ghost use Rattle.hotel_tables.specs.Exits.{makes_desk, FailsToMake, LeavesBare};
+ghost use Rattle.hotel_tables.specs.Causes.{FailsToWrite};
+ghost use Rattle.hotel_tables.specs.Exits.{makes_desk, LeavesBare};
 
 use crate::open_fault::OpenFault;
 use crate::opening::open_fault;
@@ -43,7 +44,7 @@ pub(crate) fn make_desk<S: Alter>(conn: &mut Connection<S>) -> Result<(), Error>
     ensures outside { conn.new.in_transaction ≡ false }
     ensures same { IsKept (state S.Store conn.new) → OnErr result
         ((state S.Store conn.new).now ≡ (state S.Store conn.old).now) }
-    ensures failed { IfErr result (FailsToMake S.Store conn.old conn.new) }
+    ensures failed { IfErr result (FailsToWrite S.Store makes_desk conn.old conn.new) }
 {
     // Outside a transaction nothing is uncommitted.
     let _settled = conn.is_autocommit();

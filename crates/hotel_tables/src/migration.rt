@@ -3,11 +3,12 @@ ghost use Rattle.std.specs.Prelude.{◌≡◌, IsTrue, IfErr, OnOk, OnErr};
 ghost use Rattle.sqlite.specs.Held.{state};
 ghost use Rattle.sqlite.specs.State.{HasCleanDisk, Survives};
 ghost use Rattle.hotel_statements.specs.declared.version.Version.TheVariants.{First};
+ghost use Rattle.hotel_statements.specs.Statements.{makes_second};
 ghost use Rattle.hotel_statements.specs.Tables.{rows_in, rows_of_version};
 ghost use Rattle.hotel_statements.specs.Books.{IsKept, IsBooks};
 ghost use Rattle.hotel_statements.specs.Upgrade.{IsFirstBooks, AreRoomsIn, IsUpgradeOf};
 ghost use Rattle.hotel_tables.specs.Applied.{LeavesAll};
-ghost use Rattle.hotel_tables.specs.Exits.{FailsToUpgrade};
+ghost use Rattle.hotel_tables.specs.Causes.{FailsToWrite};
 
 use hotel_statements::upgrade::upgrade;
 use keycard_rules::RoomNo;
@@ -26,7 +27,7 @@ pub(crate) fn migrate<S: Alter>(conn: &mut Connection<S>, rooms: &[RoomNo]) -> R
     ensures same { IsKept (state S.Store conn.new) → OnErr result
         ((state S.Store conn.new).now ≡ (state S.Store conn.old).now) }
     ensures open_on { HasCleanDisk (state S.Store conn.new) → OnOk result (IsTrue (state S.Store conn.new).is_open) }
-    ensures failed { IfErr result (FailsToUpgrade S.Store rooms.now conn.old conn.new) }
+    ensures failed { IfErr result (FailsToWrite S.Store (makes_second rooms.now) conn.old conn.new) }
     ensures crash { Survives (state S.Store conn.old) (state S.Store conn.new)
         (IsUpgradeOf (state S.Store conn.old).now.trees) }
 {

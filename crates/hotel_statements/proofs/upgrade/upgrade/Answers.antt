@@ -1,4 +1,4 @@
-use Rattle.std.proofs.Common.{◌+◌, sym, ap, subst, List, Ok, take, drop, map, arith, rules}
+use Rattle.std.proofs.Common.{◌+◌, ◌<◌, ◌++◌, ◌∙◌, ap, subst, List, Ok, take, drop, map, length, arith, rules}
 use Rattle.std.proofs.lemmas.Bool.Decides.{nat_tests}
 use Rattle.std.proofs.lemmas.List.{take_all}
 use Rattle.hotel_statements.specs.Statements.{Statement, MakesBy, makes_second, adds_first_fit}
@@ -12,16 +12,18 @@ returns-in_err-upgrade_tables-clause-makes g c =
     made_stopped (map adds_first_fit c.args.rooms.now) c.from_residual.result c.from_residual.ensures.0
     c.from_residual.ensures.1 c.in_err-upgrade_tables.ensures.makes
 
-pub rooms-begins : goal.rooms-begins
-rooms-begins g c = (search rules, made_as (λ gives before. gives (λ is_open. (before is_open).0))
-    c.in_ok-upgrade_tables.ensures.makes)
+pub rooms-init : goal.rooms-init
+rooms-init g c = (
+  search rules,
+  made_as (λ gives before. gives (λ is_open. (before is_open).0))
+      c.in_ok-upgrade_tables.ensures.makes,
+)
 
 pub rooms-preserved : goal.rooms-preserved
 rooms-preserved g c =
     let rooms = c.args.rooms.now in
     let i = c.rooms.i in
-    let low = omega arith in
-    (
+    let low : i < length rooms = omega arith in (
       search rules,
       subst (λ (all : List Statement). MakesBy g.S.Store all (GivesSoFar rooms (i + 1)) c.args.tx.now.conn.now
           c.insert_first_fit.new.tx.conn.now (Ok tt))
@@ -29,6 +31,22 @@ rooms-preserved g c =
           (made_then (room_then i c.index-rooms-i.result low c.index-rooms-i.is)
           c.rooms.invariant.1 c.in_ok-insert_first_fit.ensures.makes),
     )
+
+pub returns-in_err-insert_first_fit-clause-makes : goal.returns-in_err-insert_first_fit-clause-makes
+returns-in_err-insert_first_fit-clause-makes g c =
+    let rooms = c.args.rooms.now in
+    let i = c.rooms.i in
+    let low : i < length rooms = omega arith in
+    let room = c.index-rooms-i.result in
+    let old = c.args.tx.now.conn.now in
+    let new = c.insert_first_fit.new.tx.conn.now in
+    let result = c.from_residual-in_err-insert_first_fit.result in
+    let ran = runs_on c.rooms.invariant.1 c.in_err-insert_first_fit.ensures.makes in
+    subst (λ (all : List Statement). MakesBy g.S.Store all (Upgrades rooms) old new result)
+    (ap (λ (so_far : List Statement). so_far ++ map adds_first_fit (drop (i + 1) rooms))
+    (one_more rooms i room low c.index-rooms-i.is) ∙ with_others rooms (i + 1))
+    (made_stopped (map adds_first_fit (drop (i + 1) rooms)) result c.from_residual-in_err-insert_first_fit.ensures.0
+    c.from_residual-in_err-insert_first_fit.ensures.1 ran)
 
 pub returns-clause-makes : goal.returns-clause-makes
 returns-clause-makes g c =

@@ -40,5 +40,5 @@ returns-in-Err-clause-cause g c = λ clean is.
       is_known = sym (c.in_ok-known.ensures.known before) ∙ c.in-Some.is;
       error = c.in-Err.error;
       is_store = sym c.fault_of.ensures ∙ is;
-      failed = c.in-Err.ensures.failed clean;
+      failed = c.in-Err.ensures.failed;
     })

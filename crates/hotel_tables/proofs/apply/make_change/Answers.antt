@@ -1,7 +1,7 @@
 use Rattle.std.proofs.Common.{ap, rules}
 use Rattle.std.specs.Prelude.{IfErr}
 use Rattle.sqlite.specs.Held.{state}
-use Rattle.sqlite.specs.State.{HasCleanDisk, Survives}
+use Rattle.sqlite.specs.State.{Survives}
 use Rattle.hotel_model.specs.Refinement.Change.{made}
 use Rattle.hotel_statements.proofs.Ends.{Begins, Ends, ended}
 use Rattle.hotel_statements.specs.Statements.{statements_of}
@@ -29,8 +29,7 @@ returns g c =
     let it : Ends (made c.args.change.now) old (state g.S.Store c.commit.new.self.0) c.commit.result =
     ended begins c.requires.fits c.in_ok-write_change.ensures.makes.rows c.commit.result zero c.commit.ensures.ended
     c.commit.ensures.ok c.commit.ensures.err c.commit.ensures.survives in
-    let failed : HasCleanDisk (state g.S.Store c.commit.new.self.0)
-    → IfErr c.commit.result (FailsToWrite g.S.Store (statements_of c.args.change.now c.args.known)
+    let failed : IfErr c.commit.result (FailsToWrite g.S.Store (statements_of c.args.change.now c.args.known)
     c.args.conn.now c.commit.new.self.0) =
     not_committed g.S.Store c.args.conn.now c.transaction-tx.result.conn.now c.write_change.new.tx.conn.now
     c.commit.new.self.0 tt c.commit.result c.transaction-tx.ensures.begun c.in_ok-write_change.ensures.makes.runs

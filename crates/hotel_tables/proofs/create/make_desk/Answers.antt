@@ -8,8 +8,10 @@ use Rattle.hotel_statements.specs.Books.{IsKept}
 use Rattle.hotel_statements.specs.NewDesk.{IsEmptyDesk}
 use Rattle.hotel_statements.proofs.Ends.{none_new}
 use Rattle.hotel_statements.proofs.InTurn.{answered}
-use Rattle.hotel_tables.specs.Exits.{FailsToMake}
-use Rattle.hotel_tables.proofs.MadeDesk.{desk_made, commit_undone, undone, not_made, not_committed}
+use Rattle.hotel_tables.specs.Causes.{FailsToWrite}
+use Rattle.hotel_tables.specs.Exits.{makes_desk}
+use Rattle.hotel_tables.proofs.Causes.{not_run, not_committed}
+use Rattle.hotel_tables.proofs.MadeDesk.{desk_made, commit_undone, undone}
 use Rattle.hotel_tables.proofs.create.make_desk.Goals as goal
 
 pub returns-in_err-write_desk-clause-crash : goal.returns-in_err-write_desk-clause-crash
@@ -41,9 +43,9 @@ returns-in_err-write_desk-clause-same g c =
 
 pub returns-in_err-write_desk-clause-failed : goal.returns-in_err-write_desk-clause-failed
 returns-in_err-write_desk-clause-failed g c =
-    not_made g.S.Store c.args.conn.now c.transaction-tx.result.conn.now c.write_desk.new.tx.conn.now _
-    c.transaction-tx.ensures.begun c.from_residual.result (answered c.from_residual.result c.from_residual.ensures.1)
-    c.in_err-write_desk.ensures.makes.runs
+    not_run g.S.Store c.args.conn.now c.transaction-tx.result.conn.now c.write_desk.new.tx.conn.now _
+    c.from_residual.result c.transaction-tx.ensures.begun (answered c.from_residual.result c.from_residual.ensures.1)
+    c.in_err-write_desk.ensures.makes.runs (search (rules, c.drop-tx.ensures.survives))
 
 pub returns-clause-made : goal.returns-clause-made
 returns-clause-made g c =
@@ -78,8 +80,8 @@ returns-clause-same g c =
 
 pub returns-clause-failed : goal.returns-clause-failed
 returns-clause-failed g c =
-    let failed : IfErr c.commit.result (FailsToMake g.S.Store c.args.conn.now c.commit.new.self.0) =
+    let failed : IfErr c.commit.result (FailsToWrite g.S.Store makes_desk c.args.conn.now c.commit.new.self.0) =
     not_committed g.S.Store c.args.conn.now c.transaction-tx.result.conn.now c.write_desk.new.tx.conn.now
-    c.commit.new.self.0 c.transaction-tx.ensures.begun tt c.commit.result
-    c.in_ok-write_desk.ensures.makes.runs c.commit.ensures.err in
+    c.commit.new.self.0 tt c.commit.result c.transaction-tx.ensures.begun c.in_ok-write_desk.ensures.makes.runs
+    c.commit.ensures.survives c.commit.ensures.err in
     search (rules, failed)

@@ -1,6 +1,7 @@
 use Rattle.std.proofs.Common.{List, ℕ, inl, sym, subst, Err, ◌∙◌}
 use Rattle.sqlite.specs.Held.{state}
 use Rattle.hotel_statements.specs.declared.version.Version.TheVariants.{First}
+use Rattle.hotel_statements.specs.Books.{IsKept}
 use Rattle.hotel_statements.specs.Upgrade.{AreRoomsIn}
 use Rattle.hotel_tables.specs.Opening.{Enters}
 use Rattle.hotel_tables.specs.Exits.{CallFails}
@@ -32,9 +33,12 @@ pub returns-in-Err-migrate : goal.returns-in-Err-migrate
 returns-in-Err-migrate g c =
     let did = c.in-Err-migrate.ensures in
     let old = state g.S.Store c.args.conn.now in
+    let mid = state g.S.Store c.find_counts.new.conn in
     let new = state g.S.Store c.migrate.new.conn in
     let fails = CallFails g.S.Store c.args.conn.now c.migrate.new.conn in
     subst (λ why. Enters fails old new (Err why)) (sym c.open_fault.ensures)
     (not_upgraded c.requires.first c.in-Ok.ensures did.left.autocommit did.was did.crash c.fault_of.result did.same
     (λ cause is. upgrade_fails g.S.Store c.args.conn.now c.find_counts.new.conn c.migrate.new.conn _
-    c.in-Err-migrate.error did.failed cause (sym c.fault_of.ensures ∙ is)))
+    c.in-Err-migrate.error c.in-Ok.ensures.keeps
+    (subst (λ (rooms : List ℕ). IsKept mid → AreRoomsIn rooms mid.now.trees) (sym c.deref.ensures.value)
+    (first_rooms c.requires.first c.in-Ok.ensures)) did.failed cause (sym c.fault_of.ensures ∙ is)))

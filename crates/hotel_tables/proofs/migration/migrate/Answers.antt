@@ -6,8 +6,9 @@ use Rattle.sqlite.specs.Held.{state}
 use Rattle.sqlite.specs.State.{HasCleanDisk, Survives}
 use Rattle.hotel_statements.specs.Books.{IsKept}
 use Rattle.hotel_tables.specs.Applied.{LeavesAll}
-use Rattle.hotel_tables.specs.Exits.{FailsToUpgrade}
-use Rattle.hotel_tables.proofs.NotUpgraded.{not_written, not_committed}
+use Rattle.hotel_statements.specs.Statements.{makes_second}
+use Rattle.hotel_tables.specs.Causes.{FailsToWrite}
+use Rattle.hotel_tables.proofs.Causes.{not_run, not_committed}
 use Rattle.hotel_statements.proofs.InTurn.{answered}
 use Rattle.hotel_statements.proofs.Upgraded.{BeginsFirst, Migrates, migrated}
 use Rattle.hotel_tables.proofs.migration.migrate.Goals as goal
@@ -24,9 +25,8 @@ returns g c =
     } in
     let zero : Survives old start (λ _. ⊥) = search rules in
     let it : Migrates old new c.commit.result =
-    migrated begins c.in_ok-upgrade.ensures.makes c.commit.result zero
-    c.commit.ensures.ended c.commit.ensures.ok
-    c.commit.ensures.err c.commit.ensures.survives in
+    migrated begins c.in_ok-upgrade.ensures.makes.made c.in_ok-upgrade.ensures.makes.survives c.commit.result zero
+    c.commit.ensures.ended c.commit.ensures.ok c.commit.ensures.err c.commit.ensures.survives in
     let whole : IsKept new → OnOk c.commit.result (LeavesAll new) = λ kept.
     on_ok_weaker c.commit.result
     (λ books db left.
@@ -34,10 +34,11 @@ returns g c =
     ∙ sym (ap (λ (d : Database). d.trees) (books.desk kept).settled)) it.books in
     let open_on : HasCleanDisk new → OnOk c.commit.result (IsTrue new.is_open) = λ clean.
     on_ok_weaker c.commit.result (λ did. did.1.is_open) (c.commit.ensures.ok clean) in
-    let failed : IfErr c.commit.result (FailsToUpgrade g.S.Store c.args.rooms.now c.args.conn.now c.commit.new.self.0) =
-    not_committed g.S.Store c.args.rooms.now c.args.conn.now c.transaction-tx.result.conn.now c.upgrade.new.tx.conn.now
-    c.commit.new.self.0 c.transaction-tx.ensures.begun tt c.commit.result c.in_ok-upgrade.ensures.makes
-    c.commit.ensures.err in
+    let failed : IfErr c.commit.result (FailsToWrite g.S.Store (makes_second c.args.rooms.now) c.args.conn.now
+    c.commit.new.self.0) =
+    not_committed g.S.Store c.args.conn.now c.transaction-tx.result.conn.now c.upgrade.new.tx.conn.now
+    c.commit.new.self.0 tt c.commit.result c.transaction-tx.ensures.begun c.in_ok-upgrade.ensures.makes.runs
+    c.commit.ensures.survives c.commit.ensures.err in
     record {
       books = search (rules, it.books);
       left = search (rules, it.left);
@@ -52,6 +53,6 @@ returns g c =
 
 pub returns-in_err-upgrade-clause-failed : goal.returns-in_err-upgrade-clause-failed
 returns-in_err-upgrade-clause-failed g c =
-    not_written g.S.Store c.args.rooms.now c.args.conn.now c.transaction-tx.result.conn.now c.upgrade.new.tx.conn.now _
-    c.transaction-tx.ensures.begun c.from_residual.result (answered c.from_residual.result c.from_residual.ensures.1)
-    c.in_err-upgrade.ensures.makes
+    not_run g.S.Store c.args.conn.now c.transaction-tx.result.conn.now c.upgrade.new.tx.conn.now _
+    c.from_residual.result c.transaction-tx.ensures.begun (answered c.from_residual.result c.from_residual.ensures.1)
+    c.in_err-upgrade.ensures.makes.runs (search (rules, c.drop-tx.ensures.survives))
