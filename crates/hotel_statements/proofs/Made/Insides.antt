@@ -24,7 +24,8 @@ use Rattle.hotel_statements.proofs.Writing.{cast_null, cast_int}
 use Rattle.hotel_statements.proofs.Perm.{same_tie, put_fresh, apart_permuted, every_shuffled}
 use Rattle.hotel_statements.proofs.Made.Desk.{steps, insides_set}
 use Rattle.hotel_statements.proofs.Made.Entries.{put_keyed, key_put}
-use Rattle.hotel_statements.proofs.Made.Inserts.{Put, put, pair_total}
+use Rattle.hotel_statements.proofs.Made.Inserts.{Put, put}
+use Rattle.hotel_model.proofs.OfTables.Pairs.{pair_cmp_total}
 use Rattle.hotel_statements.proofs.Made.Alone.{alone}
 use Rattle.hotel_statements.proofs.Made.Reads.{inside_stored}
 
@@ -50,7 +51,7 @@ inside_step old new room number count h mid =
     (rw (cast_null, cast_int (pos room), cast_int (pos number)) refl) was.schema h.0 in
     let out = alone did.next room number
     (next_rowid rows) rows was.tables.inside.good was.tables.inside_numbered did.fits did.next_is did.fresh in
-    let made = put_keyed pair_cmp pair_total (IsWrittenAs inside_columns inside_of inside_written)
+    let made = put_keyed pair_cmp pair_cmp_total (IsWrittenAs inside_columns inside_of inside_written)
     (λ r. inside_of (inside_columns r)) row e rows was.tables.inside refl refl did.fresh out in
     let ids = every_shuffled HasId (row ∷ rows) (put_row row rows)
     (IsPermutation-sym _ _ (put_fresh row rows did.fresh)) (refl, was.tables.inside_numbered) in
