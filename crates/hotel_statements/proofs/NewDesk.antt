@@ -1,5 +1,6 @@
 -- The row of meta is added to nine empty tables.
-use Rattle.std.proofs.Common.{if◌then◌else◌, ◌==◌, ◌≡◌, refl, sym, ap, ap₂, subst, ◌∙◌, [], ◌∷◌, ℕ, pos, None, Ok, IsTrue}
+use Rattle.std.proofs.Common.{if◌then◌else◌, ◌==◌, ◌≡◌, refl, sym, ap, ap₂, subst, ◌∙◌, [], ◌∷◌, ℕ, pos, None, Ok}
+use Rattle.std.proofs.Common.{IsTrue}
 use Rattle.sqlite_value.specs.declared.value.Value.TheVariants.{Null}
 use Rattle.sqlite_keyed.proofs.ListLemmas.{all_both}
 use Rattle.sqlite_trees.specs.Tree.{with_tree}

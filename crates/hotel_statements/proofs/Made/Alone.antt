@@ -6,6 +6,7 @@ use Rattle.std.specs.List.{AllByRecursion}
 use Rattle.std.proofs.lemmas.List.Sorted.{IsPermutation-sym}
 use Rattle.sqlite.specs.Order.{Row, column, value_cmp}
 use Rattle.sqlite.specs.Tree.{Trees, put_row}
+use Rattle.sqlite.specs.Ops.{binary}
 use Rattle.sqlite_trees.specs.Tree.{rowid}
 use Rattle.sqlite_rules.specs.Edit.{is_taken}
 use Rattle.sqlite_schema.specs.Rules.{Fits, passes, equal, differ, agree, clashes}
@@ -13,18 +14,17 @@ use Rattle.sqlite_schema.specs.declared.schema.Constraint.TheVariants.{Unique}
 use Rattle.sqlite_value.specs.declared.keys.Collation.TheVariants.{Binary}
 use Rattle.sqlite_value.specs.Keys.{plain, first_key}
 use Rattle.sqlite_value.specs.declared.value.Value.TheVariants.{Int}
-use Rattle.sqlite.specs.Ops.{binary}
 use Rattle.sqlite_keyed.proofs.SortLemmas.{IsPermutation-sort_by}
 use Rattle.sqlite_keyed.proofs.ListLemmas.{none_from_any, all_both, all_map}
 use Rattle.hotel_model.specs.Words.{pair_cmp}
+use Rattle.hotel_model.proofs.OfTables.Pairs.{pair_cmp_total}
 use Rattle.hotel_statements.specs.Trees.{inside_tree}
 use Rattle.hotel_statements.specs.Tables.{HasId, listed}
+use Rattle.hotel_statements.specs.Schema.{desk_schema, inside_table, at_tree}
 use Rattle.hotel_statements.proofs.Keys.{truly}
-use Rattle.hotel_model.proofs.OfTables.Pairs.{pair_cmp_total}
 use Rattle.hotel_statements.proofs.Made.Deletes.{test, tested}
 use Rattle.hotel_statements.proofs.Made.Gone.{Good, read}
 use Rattle.hotel_statements.proofs.Made.Reads.{inside_stored}
-use Rattle.hotel_statements.specs.Schema.{desk_schema, inside_table, at_tree}
 use Rattle.hotel_statements.proofs.Perm.{put_fresh, every_shuffled}
 
 not_true : (a : Bool) → (not a && true) ≡ true → a ≡ false

@@ -32,8 +32,10 @@ use Rattle.hotel_statements.specs.Columns.{code_columns, code_of, code_written, 
 use Rattle.hotel_statements.specs.Columns.{inside_columns, inside_of, inside_written, note_columns, note_of}
 use Rattle.hotel_statements.specs.Columns.{note_written, fit_columns, fit_of, fit_written}
 use Rattle.hotel_statements.specs.Tables.{AreMetas, AreKinds, AreRooms, AreStays, AreCodes, AreCards, AreInside}
-use Rattle.hotel_statements.specs.Tables.{IsTable, AreNotes, AreFits, AreTables, AreTablesOf, IsFitTable, AreApartIds, HasId}
-use Rattle.hotel_statements.specs.Tables.{metas_in, rows_in, fits_in, bare_rooms_in, bare_notes_in, bare_rows_in, listed, by_key}
+use Rattle.hotel_statements.specs.Tables.{IsTable, AreNotes, AreFits, AreTables, AreTablesOf, IsFitTable, AreApartIds}
+use Rattle.hotel_statements.specs.Tables.{HasId}
+use Rattle.hotel_statements.specs.Tables.{metas_in, rows_in, fits_in, bare_rooms_in, bare_notes_in, bare_rows_in}
+use Rattle.hotel_statements.specs.Tables.{listed, by_key}
 use Rattle.hotel_statements.specs.Steps.{MovesRows}
 
 -- each table has the same rows in both

@@ -9,7 +9,7 @@ use Rattle.std.specs.BTreeMap.{insert_entry}
 use Rattle.std.specs.BTreeSet.{insert_key}
 use Rattle.std.proofs.lemmas.Bool.{cases_Bool}
 use Rattle.std.proofs.lemmas.Bool.Decides.{nat_tests}
-use Rattle.std.proofs.lemmas.Cmp.{on_total, nat_cmp_total}
+use Rattle.std.proofs.lemmas.Cmp.{nat_cmp_total}
 use Rattle.std.specs.List.Sorted.{IsPermutation}
 use Rattle.std.proofs.lemmas.List.Sorted.{IsPermutation-sym}
 use Rattle.sqlite.proofs.Callers.{one_permutation}
@@ -22,11 +22,10 @@ use Rattle.sqlite_keyed.proofs.ListLemmas.{ascending_weaker, IsPermutation-filte
 use Rattle.sqlite_keyed.proofs.SortLemmas.{IsPermutation-sort_by}
 use Rattle.hotel_statements.specs.Values.{int}
 use Rattle.hotel_statements.specs.Tables.{IsTableOf, IsTable, IsWrittenAs, listed, by_key}
+use Rattle.hotel_statements.proofs.Keyed.{key_total}
 use Rattle.hotel_statements.proofs.Keys.{same_number, is_key}
-use Rattle.hotel_statements.proofs.Perm.{all_left, found_of, none_permuted, every_shuffled, put_makes, filter_makes, filter_mapped, sort_rises}
-
-pub key_total : {K V : Type 0} (cmp : K → K → Ordering) → IsTotalOrder cmp → IsTotalOrder (by_key {V = V} cmp)
-key_total cmp total = on_total (λ e. e.0) total
+use Rattle.hotel_statements.proofs.Perm.{all_left, found_of, none_permuted, every_shuffled, put_makes, filter_makes}
+use Rattle.hotel_statements.proofs.Perm.{filter_mapped, sort_rises}
 
 -- ---- the two ways to put an entry into a list without its key
 
@@ -115,6 +114,20 @@ put_back {X} k f e (a ∷ es) up one = elim (cases_Bool (eqb a.0 k)) [
       rw (other, over) (ap (λ rest. a ∷ rest) (put_back k f e es up.1 later))
 ]
 
+-- ---- a row that is put into a table without its key
+
+pub put_keyed : {X : Type 0} (cmp : X → X → Ordering) (total : IsTotalOrder cmp)
+    (Good : Row → Type 0) (of : Row → X) (new : Row) (x : X) (rows : List Row)
+    → IsTableOf cmp Good of rows → Good new → of new ≡ x → is_taken rows new ≡ false
+    → AllByRecursion (λ y. is_eq (cmp x y) ≡ false) (listed cmp of rows) → IsTableOf cmp Good of (put_row new rows)
+    × (listed cmp of (put_row new rows) ≡ insert_sorted cmp x (listed cmp of rows))
+put_keyed cmp total Good of new x rows was good is fresh apart =
+    let keys =
+    every_shuffled (λ y. is_eq (cmp x y) ≡ false) _ _ (IsPermutation-sort_by cmp total (map of rows)) apart in
+    let put = put_makes cmp total Good of new rows was good fresh
+    (subst (λ z. AllByRecursion (λ y. is_eq (cmp z y) ≡ false) (map of rows)) (sym is) keys) in
+    (put.0, put.1 ∙ ap (λ z. insert_sorted cmp z (listed cmp of rows)) is)
+
 -- ---- tables whose key is the number of the row
 
 module _ {X : Type 0} (columns : Row → Row) (of : Row → ℕ × X) (written : ℕ × X → Row)
@@ -129,7 +142,7 @@ module _ {X : Type 0} (columns : Row → Row) (of : Row → ℕ × X) (written :
   cmp = by_key nat_cmp
 
   total : IsTotalOrder cmp
-  total = key_total nat_cmp nat_cmp_total
+  total = key_total nat_cmp_total
 
   apart_from : (k : ℕ) (new r : Row) → rowid new ≡ int k → Good r → is_eq (value_cmp (rowid r) (rowid new)) ≡ false
       → is_eq (nat_cmp k (read r).0) ≡ false
@@ -144,16 +157,10 @@ module _ {X : Type 0} (columns : Row → Row) (of : Row → ℕ × X) (written :
       let apart : AllByRecursion (λ r. is_eq (nat_cmp k (read r).0) ≡ false) rows =
       all_both Good _ _ (λ r h free. apart_from k new r id h free) rows was.good
       (none_from_any (λ r. is_eq (value_cmp (rowid r) (rowid new))) rows fresh) in
-      let keys : AllByRecursion (λ (y : ℕ × X). is_eq (nat_cmp k y.0) ≡ false) (map read rows) =
-      all_map _ read rows apart in
-      let put = put_makes cmp total Good read new rows was good fresh (subst (λ (e : ℕ × X). AllByRecursion
-      (λ (y : ℕ × X). is_eq (nat_cmp e.0 y.0) ≡ false) (map read rows)) (sym is) keys) in
       let sorted = every_shuffled (λ (y : ℕ × X). is_eq (nat_cmp k y.0) ≡ false) _ _
-      (IsPermutation-sym _ _ (IsPermutation-sort_by cmp total (map read rows))) keys in (
-        put.0,
-        put.1 ∙ ap (λ e. insert_sorted cmp e (listed cmp read rows)) is
-            ∙ entry_put nat_cmp k x (listed cmp read rows) sorted,
-      )
+      (IsPermutation-sym _ _ (IsPermutation-sort_by cmp total (map read rows))) (all_map _ read rows apart) in
+      let put = put_keyed cmp total Good read new (k, x) rows was good is fresh sorted in
+      (put.0, put.1 ∙ entry_put nat_cmp k x (listed cmp read rows) sorted)
 
   -- ---- a row that is changed in its place
 
@@ -237,17 +244,3 @@ module _ {X : Type 0} (columns : Row → Row) (of : Row → ℕ × X) (written :
         ap (listed cmp read) did.after_is ∙ put.1 ∙ ap (λ es. insert_entry nat_cmp es k (f (read r).1)) cut.1
             ∙ put_back k f (read r) (listed cmp read rows) (rises rows was) sorted,
       )
-
--- ---- a table whose rows have a number of their own
-
-pub put_keyed : {X : Type 0} (cmp : X → X → Ordering) (total : IsTotalOrder cmp)
-    (Good : Row → Type 0) (of : Row → X) (new : Row) (x : X) (rows : List Row)
-    → IsTableOf cmp Good of rows → Good new → of new ≡ x → is_taken rows new ≡ false
-    → AllByRecursion (λ y. is_eq (cmp x y) ≡ false) (listed cmp of rows) → IsTableOf cmp Good of (put_row new rows)
-    × (listed cmp of (put_row new rows) ≡ insert_sorted cmp x (listed cmp of rows))
-put_keyed cmp total Good of new x rows was good is fresh apart =
-    let keys =
-    every_shuffled (λ y. is_eq (cmp x y) ≡ false) _ _ (IsPermutation-sort_by cmp total (map of rows)) apart in
-    let put = put_makes cmp total Good of new rows was good fresh
-    (subst (λ z. AllByRecursion (λ y. is_eq (cmp z y) ≡ false) (map of rows)) (sym is) keys) in
-    (put.0, put.1 ∙ ap (λ z. insert_sorted cmp z (listed cmp of rows)) is)

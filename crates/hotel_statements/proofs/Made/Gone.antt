@@ -23,23 +23,23 @@ use Rattle.sqlite.specs.Rowids.TheVariants.{Given}
 use Rattle.sqlite.specs.Rows.{Written}
 use Rattle.sqlite.specs.Tree.{Trees}
 use Rattle.sqlite.specs.State.{State, mode_of, ExecutesInside}
-use Rattle.hotel_model.specs.Words.{pair_cmp}
-use Rattle.hotel_statements.specs.Trees.{inside_tree}
-use Rattle.hotel_statements.specs.Schema.{desk_schema, inside_table, at_tree}
-use Rattle.hotel_core.specs.Refinement.Finds.{AnyRows}
-use Rattle.hotel_statements.proofs.Answers.{answered, single, env, passes, fused}
-use Rattle.hotel_statements.proofs.Perm.{same_tie, apart_filtered, apart_permuted, filter_makes}
-use Rattle.hotel_statements.proofs.Writing.{went, same_value}
-use Rattle.hotel_statements.proofs.Made.Desk.{changed, steps, insides_set}
-use Rattle.hotel_model.proofs.OfTables.Pairs.{pair_cmp_total}
 use Rattle.sqlite.specs.Term.{Term, col}
 use Rattle.sqlite.specs.Command.{Command}
 use Rattle.sqlite.specs.Listing.{understood}
 use Rattle.sqlite.proofs.Callers.{one_step, statement_of}
+use Rattle.hotel_model.specs.Words.{pair_cmp}
+use Rattle.hotel_model.proofs.OfTables.Pairs.{pair_cmp_total}
 use Rattle.hotel_model.specs.Rows.{Rows}
+use Rattle.hotel_core.specs.Refinement.Finds.{AnyRows}
+use Rattle.hotel_statements.specs.Trees.{inside_tree}
+use Rattle.hotel_statements.specs.Schema.{desk_schema, inside_table, at_tree}
 use Rattle.hotel_statements.specs.Columns.{inside_columns, inside_of, inside_written}
 use Rattle.hotel_statements.specs.Tables.{IsWrittenAs, AreApart, AreApartIds, HasId, rows_in}
 use Rattle.hotel_statements.specs.Steps.{IsMidWith, MovesRows}
+use Rattle.hotel_statements.proofs.Answers.{answered, single, env, passes, fused}
+use Rattle.hotel_statements.proofs.Perm.{same_tie, apart_filtered, apart_permuted, filter_makes}
+use Rattle.hotel_statements.proofs.Writing.{went, same_value}
+use Rattle.hotel_statements.proofs.Made.Desk.{changed, steps, insides_set}
 use Rattle.hotel_statements.proofs.Statements.Terms.{Does}
 use Rattle.hotel_statements.proofs.Made.Writes.{IsOn, wrote}
 

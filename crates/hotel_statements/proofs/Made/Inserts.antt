@@ -68,8 +68,10 @@ use Rattle.hotel_statements.proofs.Joins.{rooms_fitted, notes_kept, noted_bare}
 use Rattle.hotel_statements.proofs.Risen.{rooms_rise, fits_rise, keys_rise}
 use Rattle.hotel_statements.proofs.Made.Desk.{Changed, changed, steps, rooms_set, stays_set, codes_set, cards_set}
 use Rattle.hotel_statements.proofs.Made.Desk.{kinds_set, notes_set, fits_set}
-use Rattle.hotel_statements.proofs.Made.Entries.{insert_makes, put_keyed, entry_put, key_put, key_total}
-use Rattle.hotel_statements.proofs.Made.Reads.{room_cast, stay_cast, room_stored, room_good, room_reads, room_numbered, stay_stored}
+use Rattle.hotel_statements.proofs.Made.Entries.{insert_makes, put_keyed, entry_put, key_put}
+use Rattle.hotel_statements.proofs.Keyed.{key_total}
+use Rattle.hotel_statements.proofs.Made.Reads.{room_cast, stay_cast, room_stored, room_good, room_reads}
+use Rattle.hotel_statements.proofs.Made.Reads.{room_numbered, stay_stored}
 use Rattle.hotel_statements.proofs.Made.Reads.{stay_good, stay_reads, stay_numbered, code_stored, code_numbered}
 use Rattle.hotel_statements.proofs.Made.Reads.{card_stored, card_numbered, kind_stored, note_stored, note_good}
 use Rattle.hotel_statements.proofs.Made.Reads.{note_reads, bare_note, fit_stored}
@@ -140,7 +142,8 @@ room_step old new r count h mid =
     let row = room_stored r in
     let did : Put room_tree row old new =
     put room_tree room_table _ row row old new count changes.insert_room (λ _ does. does) refl
-    (rw (cast_int (pos r.room)) (ap (λ (cast : Row). cast ∷ []) (rw (cast_int (pos r.room)) at (room_cast r)))) was.schema h.0 in
+    (rw (cast_int (pos r.room)) (ap (λ (cast : Row). cast ∷ []) (rw (cast_int (pos r.room)) at (room_cast r))))
+    was.schema h.0 in
     let set = rooms_set was.tables (insert_makes room_columns room_of room_written room_numbered row r.room
     (bare_room r) _ was.tables.room (room_good r) (room_reads r) refl did.fresh) in
     let joined : map (with_fit (fits_in db)) (insert_entry nat_cmp (bare_rooms_in db) r.room (bare_room r))
@@ -163,7 +166,8 @@ stay_step old new s count h mid =
     let row = stay_stored s in
     let did : Put stay_tree row old new =
     put stay_tree stay_table _ row row old new count changes.insert_stay (λ _ does. does) refl
-    (rw (cast_int (pos s.party)) (ap (λ (cast : Row). cast ∷ []) (rw (cast_int (pos s.party)) at (stay_cast s)))) was.schema h.0 in
+    (rw (cast_int (pos s.party)) (ap (λ (cast : Row). cast ∷ []) (rw (cast_int (pos s.party)) at (stay_cast s))))
+    was.schema h.0 in
     steps old new (stay_added s) h.1 did.changes (stays_set was.tables (insert_makes stay_columns stay_of stay_written
     stay_numbered row s.party s _ was.tables.stay (stay_good s) (stay_reads s) refl did.fresh))
 
@@ -260,7 +264,7 @@ note_step old new n number count h mid =
     let bare = bare_notes_in db in
     let apart = not_at k bare (lost (joined_at (fits_in db) n.room number) (lookup (is_at (pair_cmp k)) bare)
     (sym (note_joined (fits_in db) bare k) ∙ both.1.new)) in
-    let made = put_keyed (by_key pair_cmp) (key_total pair_cmp pair_cmp_total)
+    let made = put_keyed (by_key pair_cmp) (key_total pair_cmp_total)
     (IsWrittenAs note_columns note_of note_written) (λ r. note_of (note_columns r)) row (k, bare_note number n) _
     was.tables.note
     (note_good id number n) (note_reads id number n) did.fresh apart in
@@ -310,7 +314,7 @@ puts_fit old new f count h was later =
     (rw (cast_null, cast_int (pos f.room), cast_int (pos f.fit), cast_int (pos f.place), cast_int (pos f.before)) refl)
     was.schema h in
     let apart = none_at f.room f.fit fits later in
-    let made = put_keyed (by_key pair_cmp) (key_total pair_cmp pair_cmp_total) (IsWrittenAs fit_columns fit_of fit_written)
+    let made = put_keyed (by_key pair_cmp) (key_total pair_cmp_total) (IsWrittenAs fit_columns fit_of fit_written)
     (λ r. fit_of (fit_columns r)) row (k, f) _ was.tables.fit refl refl did.fresh apart in
     record {
       rows = put_row row (old.now.trees fit_tree);

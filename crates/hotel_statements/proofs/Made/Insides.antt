@@ -1,8 +1,8 @@
 -- What the two statements on the cards inside make of the rows of a desk.
 use Rattle.std.proofs.Common.{◌≡◌, refl, ◌∙◌, List, [], ◌∷◌, ℕ, pos, false, Ok, is_eq}
-use Rattle.sqlite_value.specs.declared.value.Value.TheVariants.{Null}
 use Rattle.std.proofs.lemmas.Cmp.{on_total}
 use Rattle.std.proofs.lemmas.List.Sorted.{IsPermutation-sym}
+use Rattle.sqlite_value.specs.declared.value.Value.TheVariants.{Null}
 use Rattle.sqlite_value.proofs.OrderLemmas.{value_cmp_total}
 use Rattle.sqlite_keyed.proofs.ListLemmas.{none_from_any, all_weaker}
 use Rattle.sqlite_rules.specs.Edit.{next_rowid, is_taken}
@@ -11,13 +11,14 @@ use Rattle.sqlite.specs.Order.{Row, value_cmp}
 use Rattle.sqlite.specs.Tree.{put_row}
 use Rattle.sqlite.specs.State.{State, ExecutesInside}
 use Rattle.hotel_model.specs.Words.{pair_cmp}
+use Rattle.hotel_model.proofs.OfTables.Pairs.{pair_cmp_total}
+use Rattle.hotel_core.specs.Refinement.Finds.{AnyRows}
 use Rattle.hotel_statements.specs.Trees.{inside_tree}
 use Rattle.hotel_statements.specs.Schema.{inside_table}
 use Rattle.hotel_statements.specs.Values.{int}
 use Rattle.hotel_statements.specs.Texts.{insert_inside}
 use Rattle.hotel_statements.specs.Columns.{inside_columns, inside_of, inside_written}
 use Rattle.hotel_statements.specs.Tables.{IsWrittenAs, AreApartIds, HasId, rows_in}
-use Rattle.hotel_core.specs.Refinement.Finds.{AnyRows}
 use Rattle.hotel_statements.specs.Steps.{IsMidWith, MovesRows, inside_added}
 use Rattle.hotel_statements.proofs.Statements.Changes as changes
 use Rattle.hotel_statements.proofs.Writing.{cast_null, cast_int}
@@ -25,7 +26,6 @@ use Rattle.hotel_statements.proofs.Perm.{same_tie, put_fresh, apart_permuted, ev
 use Rattle.hotel_statements.proofs.Made.Desk.{steps, insides_set}
 use Rattle.hotel_statements.proofs.Made.Entries.{put_keyed, key_put}
 use Rattle.hotel_statements.proofs.Made.Inserts.{Put, put}
-use Rattle.hotel_model.proofs.OfTables.Pairs.{pair_cmp_total}
 use Rattle.hotel_statements.proofs.Made.Alone.{alone}
 use Rattle.hotel_statements.proofs.Made.Reads.{inside_stored}
 

@@ -15,9 +15,10 @@ use Rattle.hotel_model.specs.declared.rows.RoomRow.{RoomRow}
 use Rattle.hotel_model.specs.declared.rows.CodeRow.{CodeRow}
 use Rattle.hotel_model.specs.declared.rows.FitRow.{FitRow}
 use Rattle.hotel_model.specs.Stays.{room_of_state}
+use Rattle.hotel_rows.specs.Stored.{state_of, act_of}
+use Rattle.sqlite_rules.specs.Cast.{cast_row}
 use Rattle.hotel_statements.specs.Values.{option_of, int, maybe_int}
 use Rattle.hotel_statements.specs.Columns.{meta_columns, meta_of, meta_written, bit_of, room_columns, room_of}
-use Rattle.hotel_rows.specs.Stored.{state_of, act_of}
 use Rattle.hotel_statements.specs.Columns.{room_written, state_number, stay_columns, stay_of, stay_written}
 use Rattle.hotel_statements.specs.Columns.{code_columns, code_of, code_written, card_columns, card_of, card_written}
 use Rattle.hotel_statements.specs.Columns.{act_number, act_card, act_first, act_second, note_columns, note_of}
@@ -26,7 +27,6 @@ use Rattle.hotel_statements.specs.Tables.{IsWrittenAs}
 use Rattle.hotel_statements.specs.Steps.{bare_room}
 use Rattle.hotel_statements.specs.Trees.{meta_tree, room_tree, stay_tree}
 use Rattle.hotel_statements.specs.Schema.{meta_table, room_table, stay_table}
-use Rattle.sqlite_rules.specs.Cast.{cast_row}
 use Rattle.hotel_statements.proofs.Writing.{cast_null, cast_int, cast_maybe}
 use Rattle.hotel_statements.proofs.Made.Writes.{at_place}
 

@@ -47,7 +47,8 @@ use Rattle.hotel_statements.proofs.Made.Desk as desk
 use Rattle.hotel_statements.proofs.Made.Desk.{Changed, changed, steps, rooms_set, stays_set}
 use Rattle.hotel_statements.proofs.Made.Entries.{Updated, update_makes, changed_at, filter_passes}
 use Rattle.hotel_statements.proofs.Made.Sources.{sourced}
-use Rattle.hotel_statements.proofs.Made.Reads.{meta_cast, room_cast, stay_cast, meta_stored, meta_good, meta_reads, meta_numbered, room_stored}
+use Rattle.hotel_statements.proofs.Made.Reads.{meta_cast, room_cast, stay_cast, meta_stored, meta_good, meta_reads}
+use Rattle.hotel_statements.proofs.Made.Reads.{meta_numbered, room_stored}
 use Rattle.hotel_statements.proofs.Made.Reads.{room_good, room_reads, room_numbered, stay_stored, stay_good, stay_reads}
 use Rattle.hotel_statements.proofs.Made.Reads.{stay_numbered}
 use Rattle.hotel_statements.proofs.Made.Writes.{at_place, IsOn, wrote}
