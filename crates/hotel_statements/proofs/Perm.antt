@@ -1,6 +1,6 @@
 -- Tables as sorted lists, whatever the order of their trees.
 use Rattle.std.proofs.Common.{◌≡◌, ◌<◌, not, inl, inr, refl, sym, ap, subst, ◌∙◌, List, [], ◌∷◌, ◌+◌, length, ℕ, zero}
-use Rattle.std.proofs.Common.{suc, true, false, Bool, cond, map, filter, arith, Ordering, Less, Equal, Greater, is_eq}
+use Rattle.std.proofs.Common.{suc, false, Bool, cond, map, filter, arith, Ordering, Less, Equal, Greater, is_eq}
 use Rattle.std.proofs.Common.{is_lt, is_gt, true≢false, get_or, add-one}
 use Rattle.std.specs.Ordering.{match_ordering, ordering_reverse}
 use Rattle.std.specs.Cmp.{IsTotalOrder}
