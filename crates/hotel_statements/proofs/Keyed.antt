@@ -1,9 +1,8 @@
 -- What the look-ups by a key find.
 use Rattle.std.proofs.Common.{OnOk, IsTrue, ◌≡◌, ◌&&◌, refl, sym, ap, ap₂, subst, ◌∙◌, List, [], ◌∷◌, ℕ}
-use Rattle.std.proofs.Common.{None, Some, Option, map, filter, Ordering, Less, Equal, Greater, nat_cmp, is_eq, eqb}
+use Rattle.std.proofs.Common.{None, Some, Option, map, filter, Ordering, Less, nat_cmp, eqb}
 use Rattle.std.proofs.Common.{Result, Ok, Err, IfOk}
 use Rattle.std.specs.Prelude.{option_map}
-use Rattle.std.specs.Ordering.{ordering_then}
 use Rattle.std.specs.Map.{lookup}
 use Rattle.std.specs.BTreeMap.{is_at}
 use Rattle.std.specs.Option.{option_to_list}
@@ -23,7 +22,7 @@ use Rattle.sqlite.specs.State.{State, HasCleanDisk, IsUnchanged}
 use Rattle.keycard_rules.specs.declared.issued.LookFault.{LookFault}
 use Rattle.hotel_model.specs.Words.{pair_cmp}
 use Rattle.hotel_model.specs.Rows.{Rows, at_number}
-use Rattle.hotel_model.proofs.OfTables.Pairs.{pair_cmp_total}
+use Rattle.hotel_model.proofs.OfTables.Pairs.{pair_cmp_total, pair_is}
 use Rattle.hotel_statements.specs.Values.{number_of, int}
 use Rattle.hotel_statements.specs.Tables.{IsTable, IsWrittenAs, listed, by_key, rows_in, AreTables}
 use Rattle.hotel_statements.specs.Books.{IsKept, IsBooks, KeepsRows}
@@ -92,14 +91,6 @@ module _ {V : Type 0} (tree : ℕ) (project : List Term) (columns : Row → Row)
   abbrev of_two : Row → (ℕ × ℕ) × V
   of_two v = ((number_of (column v 0), number_of (column v 1)), value v)
 
-  both_keys : (x y m n : ℕ) → (eqb m x && eqb n y) ≡ is_eq (ordering_then (nat_cmp x m) (nat_cmp y n))
-  both_keys x y m n = rw (sym (is_key x m), sym (is_key y n)) (go (nat_cmp x m) (nat_cmp y n))
-    where
-      go : (o p : Ordering) → (is_eq o && is_eq p) ≡ is_eq (ordering_then o p)
-      go Less p = refl
-      go Equal p = refl
-      go Greater p = refl
-
   tests_two : (r : Row) → IsWrittenAs columns of_two written r
       → passes (by_pair 1 2) (int a ∷ int b ∷ []) r
       ≡ is_at (pair_cmp (a, b)) (number_of (column (columns r) 0), number_of (column (columns r) 1))
@@ -109,7 +100,7 @@ module _ {V : Type 0} (tree : ℕ) (project : List Term) (columns : Row → Row)
       let k1 : column r 1 ≡ int m = sym (one r) ∙ ap (λ v. column v 0) good ∙ (keyed (of_two (columns r))).0 in
       let k2 : column r 2 ≡ int n = sym (two r) ∙ ap (λ v. column v 1) good ∙ (keyed (of_two (columns r))).1 in
       ap₂ (λ x y. x && y) (column_equals (column r 1) m a k1) (and_true _ ∙ column_equals (column r 2) n b k2)
-      ∙ both_keys a b m n
+      ∙ sym (pair_is a b (m, n))
 
   pub by_two : IsTable (by_key pair_cmp) columns of_two written (db tree) → (o : Option V)
       → AnswersFirst value (single tree (by_pair 1 2) project []) (int a ∷ int b ∷ []) db o

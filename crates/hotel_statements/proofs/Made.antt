@@ -9,6 +9,7 @@ pub mod Updates
 pub mod Issued
 pub mod Rooms
 pub mod Insides
+pub mod Gone
 pub mod Deletes
 pub mod Emptied
 pub mod Alone

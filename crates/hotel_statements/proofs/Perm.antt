@@ -1,6 +1,6 @@
 -- Tables as sorted lists, whatever the order of their trees.
 use Rattle.std.proofs.Common.{◌≡◌, ◌<◌, not, inl, inr, refl, sym, ap, subst, ◌∙◌, List, [], ◌∷◌, ◌+◌, length, ℕ, zero}
-use Rattle.std.proofs.Common.{suc, true, false, Bool, cond, map, filter, arith, Ordering, Less, Equal, Greater, is_eq}
+use Rattle.std.proofs.Common.{suc, false, Bool, cond, map, filter, arith, Ordering, Less, Equal, Greater, is_eq}
 use Rattle.std.proofs.Common.{is_lt, is_gt, true≢false, get_or, add-one}
 use Rattle.std.specs.Ordering.{match_ordering, ordering_reverse}
 use Rattle.std.specs.Cmp.{IsTotalOrder}
@@ -9,22 +9,24 @@ use Rattle.std.specs.List.Sorted.{IsPermutation, IsSorted}
 use Rattle.std.proofs.lemmas.Bool.{cases_Bool}
 use Rattle.std.proofs.lemmas.List.Sorted.{IsPermutation-refl, IsPermutation-sym, IsPermutation-trans}
 use Rattle.std.proofs.lemmas.List.Sorted.{IsPermutation-cons, IsPermutation-middle, IsPermutation-map, All-permutation}
+use Rattle.std.proofs.lemmas.List.Sorted.{length_permutation}
 use Rattle.sqlite_value.specs.Order.{Row, value_cmp}
-use Rattle.sqlite_trees.specs.Tree.{IsAscending, rowid, put_row, has_rowid, without_rowid}
-use Rattle.sqlite_rules.specs.Edit.{is_taken, id_in}
-use Rattle.std.proofs.lemmas.Cmp.{tied_itself}
-use Rattle.sqlite_value.proofs.OrderLemmas.{value_cmp_total}
-use Rattle.sqlite_value.specs.declared.value.Value.TheVariants.{Int}
+use Rattle.sqlite_trees.specs.Tree.{IsAscending, rowid, put_row}
+use Rattle.sqlite_rules.specs.Edit.{is_taken}
 use Rattle.sqlite_keyed.specs.Lists.{insert_sorted, sort_by}
 use Rattle.std.proofs.lemmas.List.Elements.{recursion_from_All, All-from_recursion}
 use Rattle.sqlite_keyed.proofs.ListLemmas.{all_weaker, all-filter, along_permutation, IsPermutation-filter}
 use Rattle.sqlite_keyed.proofs.ListLemmas.{ascending-filter}
-use Rattle.hotel_statements.specs.Tables.{IsTableOf, listed, AreApartIds, HasId}
+use Rattle.hotel_statements.specs.Tables.{IsTableOf, listed, AreApartIds}
 use Rattle.sqlite_keyed.proofs.SortLemmas.{HasNoTies, sorted_is-sort_by, sorted_unique, IsPermutation-sort_by}
 
 pub every_shuffled : {X : Type 0} (P : X → Type 0) (xs ys : List X)
     → IsPermutation xs ys → AllByRecursion P xs → AllByRecursion P ys
 every_shuffled P xs ys same all = recursion_from_All P ys (All-permutation P xs ys same (All-from_recursion P xs all))
+
+pub none_permuted : {X : Type 0} (xs : List X) → IsPermutation [] xs → xs ≡ []
+none_permuted [] same = refl
+none_permuted (x ∷ xs) same = absurd (omega (arith, length_permutation _ _ same))
 
 -- a row with a fresh rowid is put among the others, whatever their order
 pub put_fresh : (new : Row) (rows : List Row)
@@ -165,48 +167,17 @@ module _ {X : Type 0} (cmp : X → X → Ordering) (total : IsTotalOrder cmp) wh
               ∙ sort_filtered q (map of rows) was.apart left,
         )
 
--- ---- what a delete by the rowids that a query showed leaves, where the rowids differ
+-- ---- those that pass a test
 
-pub found_of : (P : Row → Type 0) (p : Row → Bool) (rows : List Row) (r : Row)
-    → AllByRecursion P rows → filter p rows ≡ r ∷ [] → P r
-found_of P p rows r all is = (subst (AllByRecursion P) is (all-filter P p rows all)).0
+pub found_of : {A : Type 0} (P : A → Type 0) (p : A → Bool) (xs : List A) (x : A)
+    → AllByRecursion P xs → filter p xs ≡ x ∷ [] → P x
+found_of P p xs x all is = (subst (AllByRecursion P) is (all-filter P p xs all)).0
 
-others_stay : (p : Row → Bool) (r0 : Row) (rows : List Row)
-    → AllByRecursion (λ b. is_eq (value_cmp (rowid r0) (rowid b)) ≡ false) rows → HasId r0 → filter p rows ≡ []
-    → filter (λ r. not (has_rowid (id_in (rowid r0)) r)) rows ≡ filter (λ r. not (p r)) rows
-others_stay p r0 [] apart keyed none = refl
-others_stay p r0 (r ∷ rows) apart keyed none = elim (cases_Bool (p r)) [
-  | inl is ↦ absurd (let e = rw is at none in cc)
-  | inr other ↦
-      let rest : filter p rows ≡ [] = rw other at none in
-      let differs : is_eq (value_cmp (rowid r) (rowid r0)) ≡ false =
-      same_tie value_cmp value_cmp_total (rowid r) (rowid r0) ∙ apart.0 in
-      let id : has_rowid (id_in (rowid r0)) r ≡ false = ap (λ v. is_eq (value_cmp (rowid r) v)) (sym keyed) ∙ differs in
-      rw (id, other) (ap (λ rs. r ∷ rs) (others_stay p r0 rows apart.1 keyed rest))
-]
-
-pub gone_one : (p : Row → Bool) (r0 : Row) (rows : List Row)
-    → AreApartIds rows → AllByRecursion HasId rows → filter p rows ≡ r0 ∷ []
-    → without_rowid (id_in (rowid r0)) rows ≡ filter (λ r. not (p r)) rows
-gone_one p r0 [] apart keyed one = absurd cc
-gone_one p r0 (r ∷ rows) apart keyed one = elim (cases_Bool (p r)) [
-  | inl is ↦
-      let both : r ∷ filter p rows ≡ r0 ∷ [] = rw is at one in
-      let same : r ≡ r0 = cc in
-      let none : filter p rows ≡ [] = cc in
-      let mine : has_rowid (id_in (rowid r0)) r ≡ true =
-      ap (λ v. is_eq (value_cmp (rowid r) v)) (subst (λ x. Int (id_in (rowid x)) ≡ rowid r) same (sym keyed.0))
-      ∙ ap is_eq (tied_itself value_cmp_total (rowid r)) in
-      let first = subst (λ x. AllByRecursion (λ b. is_eq (value_cmp (rowid x) (rowid b)) ≡ false) rows) same apart.0 in
-      rw (mine, is) (others_stay p r0 rows first (subst HasId same keyed.0) none)
-  | inr other ↦
-      let rest : filter p rows ≡ r0 ∷ [] = rw other at one in
-      let differs : is_eq (value_cmp (rowid r) (rowid r0)) ≡ false =
-      found_of (λ b. is_eq (value_cmp (rowid r) (rowid b)) ≡ false) p rows r0 apart.0 rest in
-      let key : HasId r0 = found_of HasId p rows r0 keyed.1 rest in
-      let id : has_rowid (id_in (rowid r0)) r ≡ false = ap (λ v. is_eq (value_cmp (rowid r) v)) (sym key) ∙ differs in
-      rw (id, other) (ap (λ rs. r ∷ rs) (gone_one p r0 rows apart.1 keyed.1 rest))
-]
+-- where none passes, none is left out
+pub all_left : {A : Type 0} (p : A → Bool) (xs : List A)
+    → AllByRecursion (λ x. p x ≡ false) xs → filter (λ x. not (p x)) xs ≡ xs
+all_left p [] none = refl
+all_left p (x ∷ xs) none = rw none.0 (ap (λ rest. x ∷ rest) (all_left p xs none.1))
 
 pub apart_filtered : (p : Row → Bool) (rows : List Row) → AreApartIds rows → AreApartIds (filter p rows)
 apart_filtered p rows apart = ascending-filter _ p rows apart

@@ -6,6 +6,7 @@ use Rattle.std.specs.List.{AllByRecursion}
 use Rattle.std.proofs.lemmas.List.Sorted.{IsPermutation-sym}
 use Rattle.sqlite.specs.Order.{Row, column, value_cmp}
 use Rattle.sqlite.specs.Tree.{Trees, put_row}
+use Rattle.sqlite.specs.Ops.{binary}
 use Rattle.sqlite_trees.specs.Tree.{rowid}
 use Rattle.sqlite_rules.specs.Edit.{is_taken}
 use Rattle.sqlite_schema.specs.Rules.{Fits, passes, equal, differ, agree, clashes}
@@ -13,17 +14,17 @@ use Rattle.sqlite_schema.specs.declared.schema.Constraint.TheVariants.{Unique}
 use Rattle.sqlite_value.specs.declared.keys.Collation.TheVariants.{Binary}
 use Rattle.sqlite_value.specs.Keys.{plain, first_key}
 use Rattle.sqlite_value.specs.declared.value.Value.TheVariants.{Int}
-use Rattle.sqlite.specs.Ops.{binary}
 use Rattle.sqlite_keyed.proofs.SortLemmas.{IsPermutation-sort_by}
 use Rattle.sqlite_keyed.proofs.ListLemmas.{none_from_any, all_both, all_map}
 use Rattle.hotel_model.specs.Words.{pair_cmp}
+use Rattle.hotel_model.proofs.OfTables.Pairs.{pair_cmp_total}
 use Rattle.hotel_statements.specs.Trees.{inside_tree}
 use Rattle.hotel_statements.specs.Tables.{HasId, listed}
-use Rattle.hotel_statements.proofs.Keys.{truly}
-use Rattle.hotel_statements.proofs.Made.Inserts.{pair_total}
-use Rattle.hotel_statements.proofs.Made.Deletes.{Good, read, test, tested, at_pair}
-use Rattle.hotel_statements.proofs.Made.Reads.{inside_stored}
 use Rattle.hotel_statements.specs.Schema.{desk_schema, inside_table, at_tree}
+use Rattle.hotel_statements.proofs.Keys.{truly}
+use Rattle.hotel_statements.proofs.Made.Deletes.{test, tested}
+use Rattle.hotel_statements.proofs.Made.Gone.{Good, read}
+use Rattle.hotel_statements.proofs.Made.Reads.{inside_stored}
 use Rattle.hotel_statements.proofs.Perm.{put_fresh, every_shuffled}
 
 not_true : (a : Bool) → (not a && true) ≡ true → a ≡ false
@@ -88,7 +89,7 @@ alone next room card id rows good ids fits is fresh =
     let lonely = all_both _ (λ r. differ (rowid r) (rowid row) ≡ true) (λ r. test room card r ≡ false)
     (λ r no d. lone (test room card r) _ no d) rows agrees apart in
     let out = all_both Good (λ r. test room card r ≡ false) (λ r. is_eq (pair_cmp (room, card) (read r)) ≡ false)
-    (λ r g no. at_pair room card (read r) ∙ sym (tested room card r g) ∙ no) rows good lonely in
+    (λ r g no. sym (tested room card r g) ∙ no) rows good lonely in
     every_shuffled (λ e. is_eq (pair_cmp (room, card) e) ≡ false) _ _
-    (IsPermutation-sym _ _ (IsPermutation-sort_by pair_cmp pair_total (map read rows)))
+    (IsPermutation-sym _ _ (IsPermutation-sort_by pair_cmp pair_cmp_total (map read rows)))
     (all_map (λ e. is_eq (pair_cmp (room, card) e) ≡ false) read rows out)

@@ -1,6 +1,6 @@
 -- A desk of whose tables one is written: of the nine lists one moves, and those of rooms and notes with the fits.
 use Rattle.std.proofs.Common.{◌≡◌, ◌≢◌, true, inl, inr, refl, sym, ap, ap₂, subst, ◌∙◌, List, [], ◌∷◌, map, ℕ}
-use Rattle.std.proofs.Common.{Option, None, IsTrue, arith, eqb}
+use Rattle.std.proofs.Common.{Option, None, IsTrue, Ordering, arith, eqb}
 use Rattle.std.specs.Cmp.Lexicographic.{slice_cmp}
 use Rattle.std.specs.Ordering.{nat_cmp}
 use Rattle.std.specs.List.{AllByRecursion}
@@ -26,12 +26,16 @@ use Rattle.hotel_statements.specs.declared.version.Version.TheVariants.{First}
 use Rattle.hotel_statements.specs.Trees.{meta_tree, kind_tree, room_tree, stay_tree, code_tree, card_tree, inside_tree}
 use Rattle.hotel_statements.specs.Trees.{note_tree, fit_tree}
 use Rattle.hotel_statements.specs.Schema.{desk_schema, first_schema}
-use Rattle.hotel_statements.specs.Columns.{meta_columns, meta_of, kind_columns, kind_of, room_columns, room_of}
-use Rattle.hotel_statements.specs.Columns.{stay_columns, stay_of, code_columns, code_of, card_columns, card_of}
-use Rattle.hotel_statements.specs.Columns.{inside_columns, inside_of, note_columns, note_of, fit_columns, fit_of}
+use Rattle.hotel_statements.specs.Columns.{meta_columns, meta_of, meta_written, kind_columns, kind_of, kind_written}
+use Rattle.hotel_statements.specs.Columns.{room_columns, room_of, room_written, stay_columns, stay_of, stay_written}
+use Rattle.hotel_statements.specs.Columns.{code_columns, code_of, code_written, card_columns, card_of, card_written}
+use Rattle.hotel_statements.specs.Columns.{inside_columns, inside_of, inside_written, note_columns, note_of}
+use Rattle.hotel_statements.specs.Columns.{note_written, fit_columns, fit_of, fit_written}
 use Rattle.hotel_statements.specs.Tables.{AreMetas, AreKinds, AreRooms, AreStays, AreCodes, AreCards, AreInside}
-use Rattle.hotel_statements.specs.Tables.{AreNotes, AreFits, AreTables, AreTablesOf, IsFitTable, AreApartIds, HasId}
-use Rattle.hotel_statements.specs.Tables.{rows_in, fits_in, bare_rooms_in, bare_notes_in, bare_rows_in, listed, by_key}
+use Rattle.hotel_statements.specs.Tables.{IsTable, AreNotes, AreFits, AreTables, AreTablesOf, IsFitTable, AreApartIds}
+use Rattle.hotel_statements.specs.Tables.{HasId}
+use Rattle.hotel_statements.specs.Tables.{metas_in, rows_in, fits_in, bare_rooms_in, bare_notes_in, bare_rows_in}
+use Rattle.hotel_statements.specs.Tables.{listed, by_key}
 use Rattle.hotel_statements.specs.Steps.{MovesRows}
 
 -- each table has the same rows in both
@@ -123,10 +127,13 @@ changed old new next tree rows now is others = record {
       (set_one old.now.trees next tree rows desk_schema.tables is others);
 }
 
+-- With these rows in the tree, the trees are those of a desk that has all this.
+abbrev pub IsDeskWith : Trees → ℕ → List Row → Rows → Type 0
+IsDeskWith db tree rows all = AreTables (with_tree db tree rows) × (rows_in (with_tree db tree rows) ≡ all)
+
 pub steps : {tree : ℕ} {rows : List Row} (old new : State) (make : Rows → Rows)
     → Shows old new new.now old.committed true → Changed tree rows old new
-    → AreTables (with_tree old.now.trees tree rows)
-    × (rows_in (with_tree old.now.trees tree rows) ≡ make (rows_in old.now.trees)) → MovesRows old new make
+    → IsDeskWith old.now.trees tree rows (make (rows_in old.now.trees)) → MovesRows old new make
 steps {tree} {rows} old new make shown did now =
     let same = same_desk (with_tree old.now.trees tree rows) new.now.trees did.trees now.0 in record {
       was_open = shown.was_open;
@@ -138,212 +145,76 @@ steps {tree} {rows} old new make shown did now =
 
 -- ---- which list moves
 
-pub rooms_set : {db : Trees} {rows : List Row} {list : List (ℕ × RoomRow)}
-    → AreTables db → AreRooms rows × (listed (by_key nat_cmp) (λ r. room_of (room_columns r)) rows ≡ list)
-    → AreTables (with_tree db room_tree rows) × (rows_in (with_tree db room_tree rows)
-    ≡ record (rows_in db) { rooms = map (with_fit (fits_in db)) list })
-rooms_set {db} was made = (
-  record {
-    meta = was.meta;
-    meta_row = was.meta_row;
-    kind = was.kind;
-    room = made.0;
-    stay = was.stay;
-    code = was.code;
-    card = was.card;
-    inside = was.inside;
-    inside_numbered = was.inside_numbered;
-    inside_ids = was.inside_ids;
-    note = was.note;
-    fit = was.fit;
-  },
-  ap (λ rooms. record (rows_in db) { rooms = map (with_fit (fits_in db)) rooms }) made.1,
-)
+-- The rows are those of a table, and say this list.
+abbrev pub Say : {X : Type 0} → (X → X → Ordering) → (Row → Row) → (Row → X) → (X → Row) → List Row → List X → Type 0
+Say cmp columns of written rows list =
+    IsTable cmp columns of written rows × (listed cmp (λ r. of (columns r)) rows ≡ list)
 
-pub stays_set : {db : Trees} {rows : List Row} {list : List (ℕ × Stay)}
-    → AreTables db → AreStays rows × (listed (by_key nat_cmp) (λ r. stay_of (stay_columns r)) rows ≡ list)
-    → AreTables (with_tree db stay_tree rows)
-    × (rows_in (with_tree db stay_tree rows) ≡ record (rows_in db) { stays = list })
-stays_set {db} was made = (
-  record {
-    meta = was.meta;
-    meta_row = was.meta_row;
-    kind = was.kind;
-    room = was.room;
-    stay = made.0;
-    code = was.code;
-    card = was.card;
-    inside = was.inside;
-    inside_numbered = was.inside_numbered;
-    inside_ids = was.inside_ids;
-    note = was.note;
-    fit = was.fit;
-  },
-  ap (λ stays. record (rows_in db) { stays = stays }) made.1,
-)
+-- Each `assumption` is the record of the nine tables: that of these rows, and those of the other trees as they were.
+module _ {db : Trees} {rows : List Row} (was : AreTables db) where
+  pub kinds_set : {list : List (List ℕ)} → Say (slice_cmp nat_cmp) kind_columns kind_of kind_written rows list
+      → IsDeskWith db kind_tree rows (record (rows_in db) { kinds = list })
+  kinds_set said =
+      (assumption, ap (λ kinds. record (rows_in db) { kinds = kinds }) said.1)
 
-pub codes_set : {db : Trees} {rows : List Row} {list : List (ℕ × CodeRow)}
-    → AreTables db → AreCodes rows × (listed (by_key nat_cmp) (λ r. code_of (code_columns r)) rows ≡ list)
-    → AreTables (with_tree db code_tree rows)
-    × (rows_in (with_tree db code_tree rows) ≡ record (rows_in db) { codes = list })
-codes_set {db} was made = (
-  record {
-    meta = was.meta;
-    meta_row = was.meta_row;
-    kind = was.kind;
-    room = was.room;
-    stay = was.stay;
-    code = made.0;
-    card = was.card;
-    inside = was.inside;
-    inside_numbered = was.inside_numbered;
-    inside_ids = was.inside_ids;
-    note = was.note;
-    fit = was.fit;
-  },
-  ap (λ codes. record (rows_in db) { codes = codes }) made.1,
-)
+  pub rooms_set : {list : List (ℕ × RoomRow)} → Say (by_key nat_cmp) room_columns room_of room_written rows list
+      → IsDeskWith db room_tree rows (record (rows_in db) { rooms = map (with_fit (fits_in db)) list })
+  rooms_set said = (
+    assumption,
+    ap (λ rooms. record (rows_in db) { rooms = map (with_fit (fits_in db)) rooms }) said.1,
+  )
 
-pub cards_set : {db : Trees} {rows : List Row} {list : List (ℕ × Card)}
-    → AreTables db → AreCards rows × (listed (by_key nat_cmp) (λ r. card_of (card_columns r)) rows ≡ list)
-    → AreTables (with_tree db card_tree rows)
-    × (rows_in (with_tree db card_tree rows) ≡ record (rows_in db) { cards = list })
-cards_set {db} was made = (
-  record {
-    meta = was.meta;
-    meta_row = was.meta_row;
-    kind = was.kind;
-    room = was.room;
-    stay = was.stay;
-    code = was.code;
-    card = made.0;
-    inside = was.inside;
-    inside_numbered = was.inside_numbered;
-    inside_ids = was.inside_ids;
-    note = was.note;
-    fit = was.fit;
-  },
-  ap (λ cards. record (rows_in db) { cards = cards }) made.1,
-)
+  pub stays_set : {list : List (ℕ × Stay)} → Say (by_key nat_cmp) stay_columns stay_of stay_written rows list
+      → IsDeskWith db stay_tree rows (record (rows_in db) { stays = list })
+  stays_set said =
+      (assumption, ap (λ stays. record (rows_in db) { stays = stays }) said.1)
 
-pub kinds_set : {db : Trees} {rows : List Row} {list : List (List ℕ)}
-    → AreTables db → AreKinds rows × (listed (slice_cmp nat_cmp) (λ r. kind_of (kind_columns r)) rows ≡ list)
-    → AreTables (with_tree db kind_tree rows)
-    × (rows_in (with_tree db kind_tree rows) ≡ record (rows_in db) { kinds = list })
-kinds_set {db} was made = (
-  record {
-    meta = was.meta;
-    meta_row = was.meta_row;
-    kind = made.0;
-    room = was.room;
-    stay = was.stay;
-    code = was.code;
-    card = was.card;
-    inside = was.inside;
-    inside_numbered = was.inside_numbered;
-    inside_ids = was.inside_ids;
-    note = was.note;
-    fit = was.fit;
-  },
-  ap (λ kinds. record (rows_in db) { kinds = kinds }) made.1,
-)
+  pub codes_set : {list : List (ℕ × CodeRow)} → Say (by_key nat_cmp) code_columns code_of code_written rows list
+      → IsDeskWith db code_tree rows (record (rows_in db) { codes = list })
+  codes_set said =
+      (assumption, ap (λ codes. record (rows_in db) { codes = codes }) said.1)
 
-pub notes_set : {db : Trees} {rows : List Row} {list : List ((ℕ × ℕ) × Note)}
-    → AreTables db → AreNotes rows × (listed (by_key pair_cmp) (λ r. note_of (note_columns r)) rows ≡ list)
-    → AreTables (with_tree db note_tree rows) × (rows_in (with_tree db note_tree rows)
-    ≡ record (rows_in db) { notes = map (under_fit (fits_in db)) list })
-notes_set {db} was made = (
-  record {
-    meta = was.meta;
-    meta_row = was.meta_row;
-    kind = was.kind;
-    room = was.room;
-    stay = was.stay;
-    code = was.code;
-    card = was.card;
-    inside = was.inside;
-    inside_numbered = was.inside_numbered;
-    inside_ids = was.inside_ids;
-    note = made.0;
-    fit = was.fit;
-  },
-  ap (λ notes. record (rows_in db) { notes = map (under_fit (fits_in db)) notes }) made.1,
-)
+  pub cards_set : {list : List (ℕ × Card)} → Say (by_key nat_cmp) card_columns card_of card_written rows list
+      → IsDeskWith db card_tree rows (record (rows_in db) { cards = list })
+  cards_set said =
+      (assumption, ap (λ cards. record (rows_in db) { cards = cards }) said.1)
 
-pub fits_set : {db : Trees} {rows : List Row} {list : FitEntries} → AreTables db → AreFits rows
-    × (listed (by_key pair_cmp) (λ r. fit_of (fit_columns r)) rows ≡ list)
-    → AreTables (with_tree db fit_tree rows)
-    × (rows_in (with_tree db fit_tree rows) ≡ record (rows_in db) {
-      rooms = map (with_fit list) (bare_rooms_in db);
-      notes = map (under_fit list) (bare_notes_in db);
-      fits = list;
-    })
-fits_set {db} was made = (
-  record {
-    meta = was.meta;
-    meta_row = was.meta_row;
-    kind = was.kind;
-    room = was.room;
-    stay = was.stay;
-    code = was.code;
-    card = was.card;
-    inside = was.inside;
-    inside_numbered = was.inside_numbered;
-    inside_ids = was.inside_ids;
-    note = was.note;
-    fit = made.0;
-  },
-  ap (λ fits. record (rows_in db) {
-    rooms = map (with_fit fits) (bare_rooms_in db);
-    notes = map (under_fit fits)
-        (bare_notes_in db);
-    fits = fits;
-  }) made.1,
-)
+  pub insides_set : {list : List (ℕ × ℕ)} → Say pair_cmp inside_columns inside_of inside_written rows list
+      → AllByRecursion HasId rows → AreApartIds rows
+      → IsDeskWith db inside_tree rows (record (rows_in db) { inside = list })
+  insides_set said numbered apart = (
+    assumption,
+    ap (λ inside. record (rows_in db) { inside = inside }) said.1,
+  )
 
-pub insides_set : {db : Trees} {rows : List Row} {list : List (ℕ × ℕ)} → AreTables db → AreInside rows
-    × (listed pair_cmp (λ r. inside_of (inside_columns r)) rows ≡ list) → AllByRecursion HasId rows → AreApartIds rows
-    → AreTables (with_tree db inside_tree rows)
-    × (rows_in (with_tree db inside_tree rows) ≡ record (rows_in db) { inside = list })
-insides_set {db} was made numbered apart = (
-  record {
-    meta = was.meta;
-    meta_row = was.meta_row;
-    kind = was.kind;
-    room = was.room;
-    stay = was.stay;
-    code = was.code;
-    card = was.card;
-    inside = made.0;
-    inside_numbered = numbered;
-    inside_ids = apart;
-    note = was.note;
-    fit = was.fit;
-  },
-  ap (λ inside. record (rows_in db) { inside = inside }) made.1,
-)
+  pub notes_set : {list : List ((ℕ × ℕ) × Note)} → Say (by_key pair_cmp) note_columns note_of note_written rows list
+      → IsDeskWith db note_tree rows (record (rows_in db) { notes = map (under_fit (fits_in db)) list })
+  notes_set said = (
+    assumption,
+    ap (λ notes. record (rows_in db) { notes = map (under_fit (fits_in db)) notes }) said.1,
+  )
 
-pub day_set : {db : Trees} {rows : List Row} {day : Option ℕ} → AreTables db → AreMetas rows
-    × (listed (by_key nat_cmp) (λ r. meta_of (meta_columns r)) rows ≡ (1, (2, day)) ∷ [])
-    → AreTables (with_tree db meta_tree rows)
-    × (rows_in (with_tree db meta_tree rows) ≡ record (rows_in db) { day = day })
-day_set {day = day} was made = (
-  record {
-    meta = made.0;
-    meta_row = (day, made.1);
-    kind = was.kind;
-    room = was.room;
-    stay = was.stay;
-    code = was.code;
-    card = was.card;
-    inside = was.inside;
-    inside_numbered = was.inside_numbered;
-    inside_ids = was.inside_ids;
-    note = was.note;
-    fit = was.fit;
-  },
-  rw made.1 refl,
-)
+  pub fits_set : {list : FitEntries} → Say (by_key pair_cmp) fit_columns fit_of fit_written rows list
+      → IsDeskWith db fit_tree rows (record (rows_in db) {
+        rooms = map (with_fit list) (bare_rooms_in db);
+        notes = map (under_fit list) (bare_notes_in db);
+        fits = list;
+      })
+  fits_set said = (
+    assumption,
+    ap (λ fits. record (rows_in db) {
+      rooms = map (with_fit fits) (bare_rooms_in db);
+      notes = map (under_fit fits) (bare_notes_in db);
+      fits = fits;
+    }) said.1,
+  )
+
+  pub day_set : {day : Option ℕ}
+      → Say (by_key nat_cmp) meta_columns meta_of meta_written rows ((1, (2, day)) ∷ [])
+      → IsDeskWith db meta_tree rows (record (rows_in db) { day = day })
+  day_set {day} said =
+      let row : (day : Option ℕ) × (metas_in (with_tree db meta_tree rows) ≡ (1, (2, day)) ∷ []) = (day, said.1) in
+      (assumption, rw said.1 refl)
 
 -- the version of meta, where there are no fits
 pub version_set : {db : Trees} {rows : List Row} (was : AreTablesOf First db) → db fit_tree ≡ [] → AreMetas rows
@@ -353,25 +224,11 @@ pub version_set : {db : Trees} {rows : List Row} (was : AreTablesOf First db) �
 version_set {db} {rows} was empty made =
     let day = was.meta_row.0 in
     let no_fits : AreFits [] = record { good = tt; apart = tt } in
+    let fit : AreFits (db fit_tree) = subst AreFits (sym empty) no_fits in
+    let row : (day : Option ℕ) × (metas_in (with_tree db meta_tree rows) ≡ (1, (2, day)) ∷ []) = (day, made.1) in
     let now : bare_rows_in (with_tree db meta_tree rows) ≡ record (bare_rows_in db) { day = day } = rw made.1 refl in
     let before : bare_rows_in db ≡ record (bare_rows_in db) { day = day } =
     ap (λ (metas : List (ℕ × (ℕ × Option ℕ))). let all : Rows = record (bare_rows_in db) {
       day = said_of (at_number metas 1) None (λ meta. meta.1);
-    } in all) was.meta_row.1 in (
-      record {
-        meta = made.0;
-        meta_row = (day, made.1);
-        kind = was.kind;
-        room = was.room;
-        stay = was.stay;
-        code = was.code;
-        card = was.card;
-        inside = was.inside;
-        inside_numbered = was.inside_numbered;
-        inside_ids = was.inside_ids;
-        note = was.note;
-        fit = subst AreFits (sym empty) no_fits;
-      },
-      now ∙ sym before,
-      ap (listed (by_key pair_cmp) (λ r. fit_of (fit_columns r))) empty,
-    )
+    } in all) was.meta_row.1 in
+    (assumption, now ∙ sym before, ap (listed (by_key pair_cmp) (λ r. fit_of (fit_columns r))) empty)

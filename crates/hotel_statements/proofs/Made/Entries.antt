@@ -9,51 +9,42 @@ use Rattle.std.specs.BTreeMap.{insert_entry}
 use Rattle.std.specs.BTreeSet.{insert_key}
 use Rattle.std.proofs.lemmas.Bool.{cases_Bool}
 use Rattle.std.proofs.lemmas.Bool.Decides.{nat_tests}
-use Rattle.std.proofs.lemmas.Cmp.{on_total, nat_cmp_total}
+use Rattle.std.proofs.lemmas.Cmp.{nat_cmp_total}
 use Rattle.std.specs.List.Sorted.{IsPermutation}
-use Rattle.std.proofs.lemmas.List.Sorted.{IsPermutation-sym, length_permutation}
+use Rattle.std.proofs.lemmas.List.Sorted.{IsPermutation-sym}
 use Rattle.sqlite.proofs.Callers.{one_permutation}
 use Rattle.sqlite_value.specs.Order.{Row, column, value_cmp}
 use Rattle.sqlite_trees.specs.Tree.{IsAscending, rowid, put_row, without_rowid, has_rowid}
 use Rattle.sqlite_rules.specs.Edit.{is_taken}
 use Rattle.sqlite_keyed.specs.Lists.{insert_sorted}
 use Rattle.sqlite_keyed.proofs.ListLemmas.{all_weaker, all_both, all_map, none_from_any, any_from_none}
-use Rattle.sqlite_keyed.proofs.ListLemmas.{ascending_weaker, all-filter, IsPermutation-filter}
+use Rattle.sqlite_keyed.proofs.ListLemmas.{ascending_weaker, IsPermutation-filter}
 use Rattle.sqlite_keyed.proofs.SortLemmas.{IsPermutation-sort_by}
 use Rattle.hotel_statements.specs.Values.{int}
 use Rattle.hotel_statements.specs.Tables.{IsTableOf, IsTable, IsWrittenAs, listed, by_key}
+use Rattle.hotel_statements.proofs.Keyed.{key_total}
 use Rattle.hotel_statements.proofs.Keys.{same_number, is_key}
-use Rattle.hotel_statements.proofs.Perm.{every_shuffled, put_makes, filter_makes, filter_mapped, sort_rises}
-
-pub key_total : {K V : Type 0} (cmp : K → K → Ordering) → IsTotalOrder cmp → IsTotalOrder (by_key {V = V} cmp)
-key_total cmp total = on_total (λ e. e.0) total
+use Rattle.hotel_statements.proofs.Perm.{all_left, found_of, none_permuted, every_shuffled, put_makes, filter_makes}
+use Rattle.hotel_statements.proofs.Perm.{filter_mapped, sort_rises}
 
 -- ---- the two ways to put an entry into a list without its key
+
+by_order : {A : Type 0} (o : Ordering) (e : A) (before at after more : List A) → is_eq o ≡ false → after ≡ more
+    → (if is_gt o then e ∷ after else before) ≡ match_ordering o before at (e ∷ more)
+by_order Less e before at after more apart same = refl
+by_order Equal e before at after more apart same = absurd (true≢false apart)
+by_order Greater e before at after more apart same = ap (λ rest. e ∷ rest) same
 
 pub entry_put : {K V : Type 0} (cmp : K → K → Ordering) (k : K) (v : V) (es : List (K × V))
     → AllByRecursion (λ e. is_eq (cmp k e.0) ≡ false) es
     → insert_sorted (by_key cmp) (k, v) es ≡ insert_entry cmp es k v
 entry_put cmp k v [] apart = refl
-entry_put cmp k v (e ∷ es) apart = go (cmp k e.0) refl (entry_put cmp k v es apart.1)
-  where
-    go : (o : Ordering) → cmp k e.0 ≡ o → insert_sorted (by_key cmp) (k, v) es ≡ insert_entry cmp es k v
-        → (if is_gt o then e ∷ insert_sorted (by_key cmp) (k, v) es else (k, v) ∷ e ∷ es)
-        ≡ match_ordering o ((k, v) ∷ e ∷ es) ((e.0, v) ∷ es) (e ∷ insert_entry cmp es k v)
-    go Less is more = refl
-    go Equal is more = absurd (true≢false (sym (ap is_eq is) ∙ apart.0))
-    go Greater is more = ap (λ rest. e ∷ rest) more
+entry_put cmp k v (e ∷ es) apart = by_order (cmp k e.0) e _ _ _ _ apart.0 (entry_put cmp k v es apart.1)
 
 pub key_put : {K : Type 0} (cmp : K → K → Ordering) (k : K) (ks : List K)
     → AllByRecursion (λ x. is_eq (cmp k x) ≡ false) ks → insert_sorted cmp k ks ≡ insert_key cmp ks k
 key_put cmp k [] apart = refl
-key_put cmp k (x ∷ ks) apart = go (cmp k x) refl (key_put cmp k ks apart.1)
-  where
-    go : (o : Ordering) → cmp k x ≡ o → insert_sorted cmp k ks ≡ insert_key cmp ks k
-        → (if is_gt o then x ∷ insert_sorted cmp k ks else k ∷ x ∷ ks)
-        ≡ match_ordering o (k ∷ x ∷ ks) (x ∷ ks) (x ∷ insert_key cmp ks k)
-    go Less is more = refl
-    go Equal is more = absurd (true≢false (sym (ap is_eq is) ∙ apart.0))
-    go Greater is more = ap (λ rest. x ∷ rest) more
+key_put cmp k (x ∷ ks) apart = by_order (cmp k x) x _ _ _ _ apart.0 (key_put cmp k ks apart.1)
 
 -- ---- lists of entries whose keys rise
 
@@ -70,12 +61,8 @@ filter_passes p (y ∷ xs) x is = elim (cases_Bool (p y)) [
 
 none_left : {X : Type 0} (xs ys : List (ℕ × X)) (k : ℕ)
     → IsPermutation xs ys → filter (λ (e : ℕ × X). eqb e.0 k) ys ≡ [] → filter (λ (e : ℕ × X). eqb e.0 k) xs ≡ []
-none_left xs ys k same none =
-    empty _ (subst (IsPermutation (filter (λ e. eqb e.0 k) xs)) none (IsPermutation-filter (λ e. eqb e.0 k) xs ys same))
-  where
-    empty : {A : Type 0} (xs : List A) → IsPermutation xs [] → xs ≡ []
-    empty [] h = refl
-    empty (x ∷ xs) h = absurd (omega (arith, length_permutation _ _ h))
+none_left xs ys k same none = none_permuted _ (IsPermutation-sym _ _
+    (subst (IsPermutation (filter (λ e. eqb e.0 k) xs)) none (IsPermutation-filter (λ e. eqb e.0 k) xs ys same)))
 
 one_left : {X : Type 0} (xs ys : List (ℕ × X)) (k : ℕ) (e : ℕ × X) → IsPermutation xs ys
     → filter (λ (e : ℕ × X). eqb e.0 k) ys ≡ e ∷ [] → filter (λ (e : ℕ × X). eqb e.0 k) xs ≡ e ∷ []
@@ -93,21 +80,15 @@ none_changed k f (e ∷ es) none = elim (cases_Bool (eqb e.0 k)) [
 below_found : {X : Type 0} (low k : ℕ) (e : ℕ × X) (es : List (ℕ × X))
     → AllByRecursion (λ (b : ℕ × X). low < b.0) es → filter (λ (e : ℕ × X). eqb e.0 k) es ≡ e ∷ [] → low < k
 below_found low k e es up one =
-    let low_e : low < e.0 = found_in (λ b. low < b.0) (λ b. eqb b.0 k) es e up one in
+    let low_e : low < e.0 = found_of (λ b. low < b.0) (λ b. eqb b.0 k) es e up one in
     let is = filter_passes (λ (b : _). eqb b.0 k) es e one in
     let number : e.0 ≡ k = grind (arith, nat_tests, is) in
     omega (arith, low_e, number)
-  where
-    found_in : {A : Type 0} (P : A → Type 0) (p : A → Bool) (xs : List A) (x : A)
-        → AllByRecursion P xs → filter p xs ≡ x ∷ [] → P x
-    found_in P p xs x all is = (subst (AllByRecursion P) is (all-filter P p xs all)).0
 
 others_kept : {X : Type 0} (k : ℕ) (es : List (ℕ × X))
     → AllByRecursion (λ (b : ℕ × X). k < b.0) es → filter (λ (e : ℕ × X). not (eqb e.0 k)) es ≡ es
-others_kept k [] up = refl
-others_kept k (e ∷ es) up =
-    let other : eqb e.0 k ≡ false = grind (arith, nat_tests, up.0) in
-    rw other (ap (λ rest. e ∷ rest) (others_kept k es up.1))
+others_kept {X} k es up = all_left (λ (e : ℕ × X). eqb e.0 k) es
+    (all_weaker (λ (b : ℕ × X). k < b.0) _ (λ b low. grind (arith, nat_tests, low)) es up)
 
 put_first : {X : Type 0} (k : ℕ) (x : X) (es : List (ℕ × X))
     → AllByRecursion (λ (b : ℕ × X). k < b.0) es → insert_entry nat_cmp es k x ≡ (k, x) ∷ es
@@ -133,6 +114,20 @@ put_back {X} k f e (a ∷ es) up one = elim (cases_Bool (eqb a.0 k)) [
       rw (other, over) (ap (λ rest. a ∷ rest) (put_back k f e es up.1 later))
 ]
 
+-- ---- a row that is put into a table without its key
+
+pub put_keyed : {X : Type 0} (cmp : X → X → Ordering) (total : IsTotalOrder cmp)
+    (Good : Row → Type 0) (of : Row → X) (new : Row) (x : X) (rows : List Row)
+    → IsTableOf cmp Good of rows → Good new → of new ≡ x → is_taken rows new ≡ false
+    → AllByRecursion (λ y. is_eq (cmp x y) ≡ false) (listed cmp of rows) → IsTableOf cmp Good of (put_row new rows)
+    × (listed cmp of (put_row new rows) ≡ insert_sorted cmp x (listed cmp of rows))
+put_keyed cmp total Good of new x rows was good is fresh apart =
+    let keys =
+    every_shuffled (λ y. is_eq (cmp x y) ≡ false) _ _ (IsPermutation-sort_by cmp total (map of rows)) apart in
+    let put = put_makes cmp total Good of new rows was good fresh
+    (subst (λ z. AllByRecursion (λ y. is_eq (cmp z y) ≡ false) (map of rows)) (sym is) keys) in
+    (put.0, put.1 ∙ ap (λ z. insert_sorted cmp z (listed cmp of rows)) is)
+
 -- ---- tables whose key is the number of the row
 
 module _ {X : Type 0} (columns : Row → Row) (of : Row → ℕ × X) (written : ℕ × X → Row)
@@ -147,7 +142,7 @@ module _ {X : Type 0} (columns : Row → Row) (of : Row → ℕ × X) (written :
   cmp = by_key nat_cmp
 
   total : IsTotalOrder cmp
-  total = key_total nat_cmp nat_cmp_total
+  total = key_total nat_cmp_total
 
   apart_from : (k : ℕ) (new r : Row) → rowid new ≡ int k → Good r → is_eq (value_cmp (rowid r) (rowid new)) ≡ false
       → is_eq (nat_cmp k (read r).0) ≡ false
@@ -162,16 +157,10 @@ module _ {X : Type 0} (columns : Row → Row) (of : Row → ℕ × X) (written :
       let apart : AllByRecursion (λ r. is_eq (nat_cmp k (read r).0) ≡ false) rows =
       all_both Good _ _ (λ r h free. apart_from k new r id h free) rows was.good
       (none_from_any (λ r. is_eq (value_cmp (rowid r) (rowid new))) rows fresh) in
-      let keys : AllByRecursion (λ (y : ℕ × X). is_eq (nat_cmp k y.0) ≡ false) (map read rows) =
-      all_map _ read rows apart in
-      let put = put_makes cmp total Good read new rows was good fresh (subst (λ (e : ℕ × X). AllByRecursion
-      (λ (y : ℕ × X). is_eq (nat_cmp e.0 y.0) ≡ false) (map read rows)) (sym is) keys) in
       let sorted = every_shuffled (λ (y : ℕ × X). is_eq (nat_cmp k y.0) ≡ false) _ _
-      (IsPermutation-sym _ _ (IsPermutation-sort_by cmp total (map read rows))) keys in (
-        put.0,
-        put.1 ∙ ap (λ e. insert_sorted cmp e (listed cmp read rows)) is
-            ∙ entry_put nat_cmp k x (listed cmp read rows) sorted,
-      )
+      (IsPermutation-sym _ _ (IsPermutation-sort_by cmp total (map read rows))) (all_map _ read rows apart) in
+      let put = put_keyed cmp total Good read new (k, x) rows was good is fresh sorted in
+      (put.0, put.1 ∙ entry_put nat_cmp k x (listed cmp read rows) sorted)
 
   -- ---- a row that is changed in its place
 
@@ -255,17 +244,3 @@ module _ {X : Type 0} (columns : Row → Row) (of : Row → ℕ × X) (written :
         ap (listed cmp read) did.after_is ∙ put.1 ∙ ap (λ es. insert_entry nat_cmp es k (f (read r).1)) cut.1
             ∙ put_back k f (read r) (listed cmp read rows) (rises rows was) sorted,
       )
-
--- ---- a table whose rows have a number of their own
-
-pub put_keyed : {X : Type 0} (cmp : X → X → Ordering) (total : IsTotalOrder cmp)
-    (Good : Row → Type 0) (of : Row → X) (new : Row) (x : X) (rows : List Row)
-    → IsTableOf cmp Good of rows → Good new → of new ≡ x → is_taken rows new ≡ false
-    → AllByRecursion (λ y. is_eq (cmp x y) ≡ false) (listed cmp of rows) → IsTableOf cmp Good of (put_row new rows)
-    × (listed cmp of (put_row new rows) ≡ insert_sorted cmp x (listed cmp of rows))
-put_keyed cmp total Good of new x rows was good is fresh apart =
-    let keys =
-    every_shuffled (λ y. is_eq (cmp x y) ≡ false) _ _ (IsPermutation-sort_by cmp total (map of rows)) apart in
-    let put = put_makes cmp total Good of new rows was good fresh
-    (subst (λ z. AllByRecursion (λ y. is_eq (cmp z y) ≡ false) (map of rows)) (sym is) keys) in
-    (put.0, put.1 ∙ ap (λ z. insert_sorted cmp z (listed cmp of rows)) is)

@@ -2,7 +2,6 @@
 use Rattle.std.proofs.Common.{◌≡◌, ◌+◌, ◌-◌, ◌&&◌, ◌||◌, not, refl, ap, ap₂, sym, subst, ◌∙◌, List, [], ◌∷◌, ◌++◌, ◌/◌}
 use Rattle.std.proofs.Common.{length, map, ℕ, pos, Bool, Option, None, Some, Ok, inl, inr, true, false, arith, eqb}
 use Rattle.std.proofs.Common.{is_eq, nat_cmp}
-use Rattle.std.specs.Cmp.{IsTotalOrder}
 use Rattle.std.specs.Cmp.Lexicographic.{slice_cmp}
 use Rattle.std.specs.List.{AllByRecursion, list_all}
 use Rattle.std.specs.Map.{lookup}
@@ -11,9 +10,9 @@ use Rattle.std.specs.Str.{bytes_eq}
 use Rattle.std.specs.Prelude.{option_map, nat_lt}
 use Rattle.std.proofs.lemmas.Bool.Decides.{nat_tests}
 use Rattle.hotel_model.proofs.OfTables.Tests.{and_true, eq_from}
-use Rattle.hotel_model.proofs.OfTables.Pairs.{pair_is}
+use Rattle.hotel_model.proofs.OfTables.Pairs.{pair_is, pair_cmp_total}
 use Rattle.std.proofs.lemmas.Bool.{cases_Bool}
-use Rattle.std.proofs.lemmas.Cmp.{on_total, then_total, nat_cmp_total, nat_list_cmp_total}
+use Rattle.std.proofs.lemmas.Cmp.{nat_list_cmp_total}
 use Rattle.std.proofs.lemmas.Map.Text.{is_eq-slice_cmp}
 use Rattle.sqlite_keyed.proofs.ListLemmas.{all_weaker, none_from_any}
 use Rattle.sqlite_value.specs.declared.value.Value.TheVariants.{Null, Text}
@@ -69,8 +68,10 @@ use Rattle.hotel_statements.proofs.Joins.{rooms_fitted, notes_kept, noted_bare}
 use Rattle.hotel_statements.proofs.Risen.{rooms_rise, fits_rise, keys_rise}
 use Rattle.hotel_statements.proofs.Made.Desk.{Changed, changed, steps, rooms_set, stays_set, codes_set, cards_set}
 use Rattle.hotel_statements.proofs.Made.Desk.{kinds_set, notes_set, fits_set}
-use Rattle.hotel_statements.proofs.Made.Entries.{insert_makes, put_keyed, entry_put, key_put, key_total}
-use Rattle.hotel_statements.proofs.Made.Reads.{room_stored, room_good, room_reads, room_numbered, stay_stored}
+use Rattle.hotel_statements.proofs.Made.Entries.{insert_makes, put_keyed, entry_put, key_put}
+use Rattle.hotel_statements.proofs.Keyed.{key_total}
+use Rattle.hotel_statements.proofs.Made.Reads.{room_cast, stay_cast, room_stored, room_good, room_reads}
+use Rattle.hotel_statements.proofs.Made.Reads.{room_numbered, stay_stored}
 use Rattle.hotel_statements.proofs.Made.Reads.{stay_good, stay_reads, stay_numbered, code_stored, code_numbered}
 use Rattle.hotel_statements.proofs.Made.Reads.{card_stored, card_numbered, kind_stored, note_stored, note_good}
 use Rattle.hotel_statements.proofs.Made.Reads.{note_reads, bare_note, fit_stored}
@@ -141,15 +142,8 @@ room_step old new r count h mid =
     let row = room_stored r in
     let did : Put room_tree row old new =
     put room_tree room_table _ row row old new count changes.insert_room (λ _ does. does) refl
-    (rw (
-      cast_null,
-      cast_int (pos r.room),
-      cast_int (pos r.lock_place),
-      cast_int (pos r.codes),
-      cast_int (pos (bit_of r.secured)),
-      cast_maybe r.party,
-      cast_int (pos r.notes),
-    ) refl) was.schema h.0 in
+    (rw (cast_int (pos r.room)) (ap (λ (cast : Row). cast ∷ []) (rw (cast_int (pos r.room)) at (room_cast r))))
+    was.schema h.0 in
     let set = rooms_set was.tables (insert_makes room_columns room_of room_written room_numbered row r.room
     (bare_room r) _ was.tables.room (room_good r) (room_reads r) refl did.fresh) in
     let joined : map (with_fit (fits_in db)) (insert_entry nat_cmp (bare_rooms_in db) r.room (bare_room r))
@@ -172,14 +166,8 @@ stay_step old new s count h mid =
     let row = stay_stored s in
     let did : Put stay_tree row old new =
     put stay_tree stay_table _ row row old new count changes.insert_stay (λ _ does. does) refl
-    (rw (
-      cast_null,
-      cast_int (pos s.party),
-      cast_int (pos s.arrive),
-      cast_int (pos s.depart),
-      cast_int (pos (state_number s.state)),
-      cast_maybe (room_of_state s.state),
-    ) refl) was.schema h.0 in
+    (rw (cast_int (pos s.party)) (ap (λ (cast : Row). cast ∷ []) (rw (cast_int (pos s.party)) at (stay_cast s))))
+    was.schema h.0 in
     steps old new (stay_added s) h.1 did.changes (stays_set was.tables (insert_makes stay_columns stay_of stay_written
     stay_numbered row s.party s _ was.tables.stay (stay_good s) (stay_reads s) refl did.fresh))
 
@@ -225,9 +213,6 @@ kind_step old new kind count h mid =
     (λ r. kind_of (kind_columns r)) row kind _ was.tables.kind refl refl did.fresh apart in
     steps old new (kind_added kind) h.1 did.changes
     (kinds_set was.tables (made.0, made.1 ∙ key_put (slice_cmp nat_cmp) kind kinds apart))
-
-pub pair_total : IsTotalOrder pair_cmp
-pair_total = then_total (on_total (λ e. e.0) nat_cmp_total) (on_total (λ e. e.1) nat_cmp_total)
 
 not_at : {V : Type 0} (k : ℕ × ℕ) (es : List ((ℕ × ℕ) × V))
     → lookup (is_at (pair_cmp k)) es ≡ None → AllByRecursion (λ e. is_eq (pair_cmp k e.0) ≡ false) es
@@ -279,7 +264,7 @@ note_step old new n number count h mid =
     let bare = bare_notes_in db in
     let apart = not_at k bare (lost (joined_at (fits_in db) n.room number) (lookup (is_at (pair_cmp k)) bare)
     (sym (note_joined (fits_in db) bare k) ∙ both.1.new)) in
-    let made = put_keyed (by_key pair_cmp) (key_total pair_cmp pair_total)
+    let made = put_keyed (by_key pair_cmp) (key_total pair_cmp_total)
     (IsWrittenAs note_columns note_of note_written) (λ r. note_of (note_columns r)) row (k, bare_note number n) _
     was.tables.note
     (note_good id number n) (note_reads id number n) did.fresh apart in
@@ -329,7 +314,7 @@ puts_fit old new f count h was later =
     (rw (cast_null, cast_int (pos f.room), cast_int (pos f.fit), cast_int (pos f.place), cast_int (pos f.before)) refl)
     was.schema h in
     let apart = none_at f.room f.fit fits later in
-    let made = put_keyed (by_key pair_cmp) (key_total pair_cmp pair_total) (IsWrittenAs fit_columns fit_of fit_written)
+    let made = put_keyed (by_key pair_cmp) (key_total pair_cmp_total) (IsWrittenAs fit_columns fit_of fit_written)
     (λ r. fit_of (fit_columns r)) row (k, f) _ was.tables.fit refl refl did.fresh apart in
     record {
       rows = put_row row (old.now.trees fit_tree);

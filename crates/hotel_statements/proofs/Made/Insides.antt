@@ -1,8 +1,8 @@
 -- What the two statements on the cards inside make of the rows of a desk.
 use Rattle.std.proofs.Common.{◌≡◌, refl, ◌∙◌, List, [], ◌∷◌, ℕ, pos, false, Ok, is_eq}
-use Rattle.sqlite_value.specs.declared.value.Value.TheVariants.{Null}
 use Rattle.std.proofs.lemmas.Cmp.{on_total}
 use Rattle.std.proofs.lemmas.List.Sorted.{IsPermutation-sym}
+use Rattle.sqlite_value.specs.declared.value.Value.TheVariants.{Null}
 use Rattle.sqlite_value.proofs.OrderLemmas.{value_cmp_total}
 use Rattle.sqlite_keyed.proofs.ListLemmas.{none_from_any, all_weaker}
 use Rattle.sqlite_rules.specs.Edit.{next_rowid, is_taken}
@@ -11,20 +11,21 @@ use Rattle.sqlite.specs.Order.{Row, value_cmp}
 use Rattle.sqlite.specs.Tree.{put_row}
 use Rattle.sqlite.specs.State.{State, ExecutesInside}
 use Rattle.hotel_model.specs.Words.{pair_cmp}
+use Rattle.hotel_model.proofs.OfTables.Pairs.{pair_cmp_total}
+use Rattle.hotel_core.specs.Refinement.Finds.{AnyRows}
 use Rattle.hotel_statements.specs.Trees.{inside_tree}
 use Rattle.hotel_statements.specs.Schema.{inside_table}
 use Rattle.hotel_statements.specs.Values.{int}
 use Rattle.hotel_statements.specs.Texts.{insert_inside}
 use Rattle.hotel_statements.specs.Columns.{inside_columns, inside_of, inside_written}
 use Rattle.hotel_statements.specs.Tables.{IsWrittenAs, AreApartIds, HasId, rows_in}
-use Rattle.hotel_core.specs.Refinement.Finds.{AnyRows}
 use Rattle.hotel_statements.specs.Steps.{IsMidWith, MovesRows, inside_added}
 use Rattle.hotel_statements.proofs.Statements.Changes as changes
 use Rattle.hotel_statements.proofs.Writing.{cast_null, cast_int}
 use Rattle.hotel_statements.proofs.Perm.{same_tie, put_fresh, apart_permuted, every_shuffled}
 use Rattle.hotel_statements.proofs.Made.Desk.{steps, insides_set}
 use Rattle.hotel_statements.proofs.Made.Entries.{put_keyed, key_put}
-use Rattle.hotel_statements.proofs.Made.Inserts.{Put, put, pair_total}
+use Rattle.hotel_statements.proofs.Made.Inserts.{Put, put}
 use Rattle.hotel_statements.proofs.Made.Alone.{alone}
 use Rattle.hotel_statements.proofs.Made.Reads.{inside_stored}
 
@@ -50,7 +51,7 @@ inside_step old new room number count h mid =
     (rw (cast_null, cast_int (pos room), cast_int (pos number)) refl) was.schema h.0 in
     let out = alone did.next room number
     (next_rowid rows) rows was.tables.inside.good was.tables.inside_numbered did.fits did.next_is did.fresh in
-    let made = put_keyed pair_cmp pair_total (IsWrittenAs inside_columns inside_of inside_written)
+    let made = put_keyed pair_cmp pair_cmp_total (IsWrittenAs inside_columns inside_of inside_written)
     (λ r. inside_of (inside_columns r)) row e rows was.tables.inside refl refl did.fresh out in
     let ids = every_shuffled HasId (row ∷ rows) (put_row row rows)
     (IsPermutation-sym _ _ (put_fresh row rows did.fresh)) (refl, was.tables.inside_numbered) in

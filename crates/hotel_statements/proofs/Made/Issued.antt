@@ -1,5 +1,5 @@
 -- The steps of an issue make the change.
-use Rattle.std.proofs.Common.{◌≡◌, ◌+◌, inl, inr, refl, sym, ap, ap₂, ◌∙◌, List, [], ◌∷◌, ℕ, true, false, Option, None}
+use Rattle.std.proofs.Common.{◌≡◌, ◌+◌, inl, inr, refl, sym, ap, ap₂, ◌∙◌, List, [], ◌∷◌, ℕ, false, Option, None}
 use Rattle.std.proofs.Common.{Some, eqb, is_eq, nat_cmp}
 use Rattle.std.proofs.lemmas.Bool.{cases_Bool}
 use Rattle.keycard_rules.specs.declared.card.Card.{Card}
@@ -9,7 +9,7 @@ use Rattle.hotel_model.specs.Words.{said_of}
 use Rattle.hotel_model.specs.Rows.{Rows, at_number}
 use Rattle.hotel_model.specs.Refinement.Change.{made, codes_of, room_changed, without_party, freed_by}
 use Rattle.hotel_statements.specs.Steps.{code_given, card_given}
-use Rattle.hotel_statements.proofs.Keys.{is_key}
+use Rattle.hotel_statements.proofs.Made.Rooms.{changed_alike, said}
 
 abbrev codes_at : ℕ → List (ℕ × RoomRow) → ℕ
 codes_at room es = said_of (at_number es room) 0 (λ row. row.codes)
@@ -21,17 +21,9 @@ set_codes party codes row = record row { codes = codes; secured = false; party =
 one_more : (room party codes : ℕ) (es : List (ℕ × RoomRow))
     → codes_at room es ≡ codes → room_changed room (set_codes party (codes + 1)) es
     ≡ room_changed room (λ row. set_codes party (row.codes + 1) row) es
-one_more room party codes [] is = refl
-one_more room party codes (e ∷ es) is = elim (cases_Bool (eqb e.0 room)) [
-  | inl at ↦
-      let found : is_eq (nat_cmp room e.0) ≡ true = is_key room e.0 ∙ at in
-      let same : e.1.codes ≡ codes = rw found at is in
-      rw at (ap (λ n. (e.0, set_codes party (n + 1) e.1) ∷ es) (sym same))
-  | inr other ↦
-      let lost : is_eq (nat_cmp room e.0) ≡ false = is_key room e.0 ∙ other in
-      let later : codes_at room es ≡ codes = rw lost at is in
-      rw other (ap (λ rest. e ∷ rest) (one_more room party codes es later))
-]
+one_more room party codes es is = changed_alike room (set_codes party (codes + 1))
+    (λ row. set_codes party (row.codes + 1) row) es
+    (λ row there. ap (λ n. set_codes party (n + 1) row) (said (λ row. row.codes) es room codes row is there))
 
 -- who leaves a room does not move its codes
 codes_stay : (room left : ℕ) (es : List (ℕ × RoomRow)) → codes_at room (without_party left es) ≡ codes_at room es

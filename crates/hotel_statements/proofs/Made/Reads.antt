@@ -1,6 +1,6 @@
 -- What the books write of an entry says that entry, and how its row is stored.
 use Rattle.std.proofs.Common.{◌≡◌, ◌==◌, refl, sym, ap, ap₂, ◌∙◌, List, [], ◌∷◌, ℕ, ℤ, true, false, Bool, Option, None}
-use Rattle.std.proofs.Common.{Some}
+use Rattle.std.proofs.Common.{Some, pos}
 use Rattle.sqlite_value.specs.declared.value.Value.TheVariants.{Null, Int, Text}
 use Rattle.sqlite.specs.Order.{Row, column}
 use Rattle.sqlite.specs.Values.{bound_value}
@@ -15,15 +15,20 @@ use Rattle.hotel_model.specs.declared.rows.RoomRow.{RoomRow}
 use Rattle.hotel_model.specs.declared.rows.CodeRow.{CodeRow}
 use Rattle.hotel_model.specs.declared.rows.FitRow.{FitRow}
 use Rattle.hotel_model.specs.Stays.{room_of_state}
+use Rattle.hotel_rows.specs.Stored.{state_of, act_of}
+use Rattle.sqlite_rules.specs.Cast.{cast_row}
 use Rattle.hotel_statements.specs.Values.{option_of, int, maybe_int}
 use Rattle.hotel_statements.specs.Columns.{meta_columns, meta_of, meta_written, bit_of, room_columns, room_of}
-use Rattle.hotel_rows.specs.Stored.{state_of, act_of}
 use Rattle.hotel_statements.specs.Columns.{room_written, state_number, stay_columns, stay_of, stay_written}
 use Rattle.hotel_statements.specs.Columns.{code_columns, code_of, code_written, card_columns, card_of, card_written}
 use Rattle.hotel_statements.specs.Columns.{act_number, act_card, act_first, act_second, note_columns, note_of}
 use Rattle.hotel_statements.specs.Columns.{note_written}
 use Rattle.hotel_statements.specs.Tables.{IsWrittenAs}
 use Rattle.hotel_statements.specs.Steps.{bare_room}
+use Rattle.hotel_statements.specs.Trees.{meta_tree, room_tree, stay_tree}
+use Rattle.hotel_statements.specs.Schema.{meta_table, room_table, stay_table}
+use Rattle.hotel_statements.proofs.Writing.{cast_null, cast_int, cast_maybe}
+use Rattle.hotel_statements.proofs.Made.Writes.{at_place}
 
 maybe_reads : (o : Option ℕ) → option_of (maybe_int o) ≡ o
 maybe_reads None = refl
@@ -91,6 +96,32 @@ room_good r = good_from room_columns room_of room_written (room_stored r) (r.roo
 
 pub stay_good : (s : Stay) → IsWrittenAs stay_columns stay_of stay_written (stay_stored s)
 stay_good s = good_from stay_columns stay_of stay_written (stay_stored s) (s.party, s) refl (stay_reads s)
+
+-- ---- a row that is stored is as its columns are declared
+
+pub meta_cast : (e : ℕ × (ℕ × Option ℕ)) → cast_row (at_place meta_tree meta_table) (meta_stored e) ≡ meta_stored e
+meta_cast e = rw (cast_null, cast_int (pos e.0), cast_int (pos e.1.0), cast_maybe e.1.1) refl
+
+pub room_cast : (r : RoomRow) → cast_row (at_place room_tree room_table) (room_stored r) ≡ room_stored r
+room_cast r = rw (
+  cast_null,
+  cast_int (pos r.room),
+  cast_int (pos r.lock_place),
+  cast_int (pos r.codes),
+  cast_int (pos (bit_of r.secured)),
+  cast_maybe r.party,
+  cast_int (pos r.notes),
+) refl
+
+pub stay_cast : (s : Stay) → cast_row (at_place stay_tree stay_table) (stay_stored s) ≡ stay_stored s
+stay_cast s = rw (
+  cast_null,
+  cast_int (pos s.party),
+  cast_int (pos s.arrive),
+  cast_int (pos s.depart),
+  cast_int (pos (state_number s.state)),
+  cast_maybe (room_of_state s.state),
+) refl
 
 -- ---- the number of a row is its key
 

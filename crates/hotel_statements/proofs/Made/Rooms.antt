@@ -43,7 +43,7 @@ twice k f g (e ∷ es) = elim (cases_Bool (eqb e.0 k)) [
   | inr other ↦ rw other (rw other (ap (λ rest. e ∷ rest) (twice k f g es)))
 ]
 
-changed_alike : (k : ℕ) (f g : RoomRow → RoomRow) (es : List (ℕ × RoomRow))
+pub changed_alike : (k : ℕ) (f g : RoomRow → RoomRow) (es : List (ℕ × RoomRow))
     → ((row : RoomRow) → at_number es k ≡ Some row → f row ≡ g row) → room_changed k f es ≡ room_changed k g es
 changed_alike k f g [] same = refl
 changed_alike k f g (e ∷ es) same = elim (cases_Bool (eqb e.0 k)) [
@@ -57,9 +57,9 @@ changed_alike k f g (e ∷ es) same = elim (cases_Bool (eqb e.0 k)) [
 ]
 
 -- what is said of the room's row
-said : (said_by : RoomRow → ℕ) (rows : Rows) (room n : ℕ) (row : RoomRow)
-    → said_of (at_number rows.rooms room) 0 said_by ≡ n → at_number rows.rooms room ≡ Some row → n ≡ said_by row
-said said_by rows room n row is there = sym is ∙ ap (λ o. said_of o 0 said_by) there
+pub said : (said_by : RoomRow → ℕ) (es : List (ℕ × RoomRow)) (room n : ℕ) (row : RoomRow)
+    → said_of (at_number es room) 0 said_by ≡ n → at_number es room ≡ Some row → n ≡ said_by row
+said said_by es room n row is there = sym is ∙ ap (λ o. said_of o 0 said_by) there
 
 -- ---- a room that is added
 
@@ -90,8 +90,8 @@ refit_is room code fit codes notes rows is =
     let rooms = twice room moved_on fitted rows.rooms
     ∙ changed_alike room (λ row. fitted (moved_on row)) wanted rows.rooms (λ row there.
     ap₂ (λ c n. record row { lock_place = c; codes = c + 1; secured = false; fit = fit; before = n })
-    (said (λ row. row.codes) rows room codes row is.codes_are there)
-    (said (λ row. row.notes) rows room notes row is.notes_are there)) in
+    (said (λ row. row.codes) rows.rooms room codes row is.codes_are there)
+    (said (λ row. row.notes) rows.rooms room notes row is.notes_are there)) in
     ap (λ rooms. record done { rooms = rooms }) rooms
     ∙ ap₂ (λ c n. record after {
       codes = insert_entry nat_cmp rows.codes code (record { room = room; place = c });

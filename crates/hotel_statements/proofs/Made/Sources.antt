@@ -1,9 +1,8 @@
 -- The one row, or none, that an UPDATE by the number of the row finds.
-use Rattle.std.proofs.Common.{◌≡◌, ◌⊎◌, inl, inr, refl, ap, subst, ◌∙◌, List, [], ◌∷◌, ℕ, map, filter, arith, eqb}
+use Rattle.std.proofs.Common.{◌≡◌, ◌⊎◌, inl, inr, refl, ap, subst, ◌∙◌, List, [], ◌∷◌, ℕ, map, filter, eqb}
 use Rattle.std.proofs.Common.{nat_cmp}
 use Rattle.std.specs.List.{AllByRecursion}
 use Rattle.std.specs.List.Sorted.{IsPermutation}
-use Rattle.std.proofs.lemmas.List.Sorted.{length_permutation}
 use Rattle.sqlite_value.specs.declared.keys.Collation.TheVariants.{Binary}
 use Rattle.sqlite_sql.specs.declared.ops.BinaryOp.TheVariants.{Compare}
 use Rattle.sqlite_sql.specs.declared.ops.CompareOp.TheVariants.{Eq}
@@ -18,7 +17,7 @@ use Rattle.hotel_statements.specs.Values.{int}
 use Rattle.hotel_statements.specs.Tables.{IsTable, IsWrittenAs, by_key}
 use Rattle.hotel_statements.proofs.Keys.{equals, and_true}
 use Rattle.hotel_statements.proofs.Answers.{answered, single, env, passes}
-use Rattle.hotel_statements.proofs.Perm.{found_of}
+use Rattle.hotel_statements.proofs.Perm.{found_of, none_permuted}
 use Rattle.hotel_statements.proofs.Statements.Terms.{by_rowid}
 use Rattle.hotel_statements.proofs.Made.Entries.{few}
 
@@ -43,10 +42,6 @@ module _ {X : Type 0} (columns : Row → Row) (of : Row → ℕ × X) (written :
   abbrev outs : ℕ → List Term → Row → Row → Output
   outs tree terms params r = output (single tree by_rowid terms []) (env params r)
 
-  empty : (os : List Output) → IsPermutation [] os → os ≡ []
-  empty [] same = refl
-  empty (o ∷ os) same = absurd (omega (arith, length_permutation _ _ same))
-
   pub sourced : (tree : ℕ) (terms : List Term) (k : ℕ) (more : Row) (db : Trees) (given : List Row)
       → overlay db [] tree ≡ db tree → IsTable (by_key nat_cmp) columns of written (db tree)
       → IsAnswer (single tree by_rowid terms []) (overlay db []) (int k ∷ more) given
@@ -59,7 +54,7 @@ module _ {X : Type 0} (columns : Row → Row) (of : Row → ℕ × X) (written :
       let same = same_filter k more (db tree) was.good in
       elim (few columns of written numbered k (db tree) was.apart) [
         | inl none ↦
-            let ordered : it.ordered ≡ [] = empty it.ordered
+            let ordered : it.ordered ≡ [] = none_permuted it.ordered
             (subst (λ rs. IsPermutation (map (outs tree terms (int k ∷ more)) rs) it.ordered) (same ∙ none) answers) in
             inl (none, it.shown ∙ ap (map (λ o. o.1)) ordered)
         | inr one ↦

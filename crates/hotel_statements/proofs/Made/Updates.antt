@@ -2,7 +2,7 @@
 use Rattle.std.proofs.Common.{if◌then◌else◌, ◌==◌, ◌≡◌, inl, inr, refl, ap, ap₂, subst, ◌∙◌, List, [], ◌∷◌, ℕ, pos}
 use Rattle.std.proofs.Common.{Option, None, Some, Ok, false, Bool, drop, arith, eqb, nat_cmp}
 use Rattle.std.proofs.lemmas.Bool.Decides.{nat_tests}
-use Rattle.sqlite_value.specs.declared.value.Value.TheVariants.{Null, Text}
+use Rattle.sqlite_value.specs.declared.value.Value.TheVariants.{Null}
 use Rattle.sqlite.specs.Order.{Row, column}
 use Rattle.sqlite.specs.Term.{Term, eval_all}
 use Rattle.sqlite.specs.Command.{Command}
@@ -42,12 +42,13 @@ use Rattle.hotel_statements.proofs.Joins.{room_moved}
 use Rattle.hotel_statements.proofs.Answers.{single, env}
 use Rattle.hotel_statements.proofs.Statements.Terms.{Does, by_rowid}
 use Rattle.hotel_statements.proofs.Statements.Changes as changes
-use Rattle.hotel_statements.proofs.Writing.{went, same_value, cast_null, cast_int, cast_maybe}
+use Rattle.hotel_statements.proofs.Writing.{went, same_value}
 use Rattle.hotel_statements.proofs.Made.Desk as desk
 use Rattle.hotel_statements.proofs.Made.Desk.{Changed, changed, steps, rooms_set, stays_set}
 use Rattle.hotel_statements.proofs.Made.Entries.{Updated, update_makes, changed_at, filter_passes}
 use Rattle.hotel_statements.proofs.Made.Sources.{sourced}
-use Rattle.hotel_statements.proofs.Made.Reads.{meta_stored, meta_good, meta_reads, meta_numbered, room_stored}
+use Rattle.hotel_statements.proofs.Made.Reads.{meta_cast, room_cast, stay_cast, meta_stored, meta_good, meta_reads}
+use Rattle.hotel_statements.proofs.Made.Reads.{meta_numbered, room_stored}
 use Rattle.hotel_statements.proofs.Made.Reads.{room_good, room_reads, room_numbered, stay_stored, stay_good, stay_reads}
 use Rattle.hotel_statements.proofs.Made.Reads.{stay_numbered}
 use Rattle.hotel_statements.proofs.Made.Writes.{at_place, IsOn, wrote}
@@ -142,13 +143,12 @@ day_step old new day count h mid =
     let e = λ (r : Row). meta_of (meta_columns r) in
     let stored = λ (r : Row). meta_stored ((e r).0, ((e r).1.0, Some day)) in
     let did = sets meta_columns meta_of meta_written meta_numbered meta_tree meta_table 1 (int day ∷ [])
-    (λ x. (x.0, Some day)) (λ r. int (e r).0 ∷ int (e r).0 ∷ Null ∷ int (e r).1.0 ∷ int day ∷ []) stored old new
-    count refl
+    (λ x. (x.0, Some day)) (λ r. int (e r).0 ∷ stored r) stored old new count refl
     changes.update_day (λ _ does. does)
     (record {
       given = λ r good. ap (λ (v : Row). column v 0 ∷ column v 0 ∷ Null ∷ column v 1 ∷ int day ∷ []) good;
       number = λ r. refl;
-      cast = λ r. rw (cast_null, cast_int (pos (e r).0), cast_int (pos (e r).1.0), cast_int (pos day)) refl;
+      cast = λ r. meta_cast ((e r).0, ((e r).1.0, Some day));
       good = λ r. meta_good ((e r).0, ((e r).1.0, Some day));
       reads = λ r. meta_reads ((e r).0, ((e r).1.0, Some day));
       id = λ r. refl;
@@ -166,28 +166,26 @@ rooms_same k f (e ∷ es) = ap (λ rest. if e.0 == k then (e.0, f e.1) ∷ es el
 abbrev no_fit : FitRow
 no_fit = record { room = 0; fit = 0; place = 0; before = 0 }
 
-rooms_step : {text : List ℕ} {terms : List Term} (room : ℕ) (more : Row) (f : RoomRow → RoomRow)
-    (source : RoomRow → Row) (old new : State) (count : ℕ) → ((x : RoomRow) → (f x).room ≡ x.room)
+rooms_step : {text : List ℕ} {terms : List Term} (room : ℕ) (more : Row) (f : RoomRow → RoomRow) (old new : State)
+    (count : ℕ) → ((x : RoomRow) → (f x).room ≡ x.room)
     → ((last : Option FitRow) (x : RoomRow) → with_last last (f x) ≡ f (with_last last x))
     → Does text (update 2 room_tree terms)
     → IsOn room_tree room_table (statement_of text (understood desk_schema text)) (update 2 room_tree terms) old
     (int room ∷ more)
-    → ((r : Row) → IsWrittenAs room_columns room_of room_written r
-    → eval_all terms (env (int room ∷ more) r) ≡ source (room_of (room_columns r)).1)
-    → ((x : RoomRow) → rowid (source x) ≡ int x.room)
-    → ((x : RoomRow) → cast_row (at_place room_tree room_table) (drop 1 (source x)) ≡ room_stored (f x))
+    → ((r : Row) → IsWrittenAs room_columns room_of room_written r → eval_all terms (env (int room ∷ more) r)
+    ≡ int (room_of (room_columns r)).0 ∷ room_stored (f (room_of (room_columns r)).1))
     → ExecutesInside 0 text (int room ∷ more) old new (Ok count) → IsMidWith AnyRows old
     → MovesRows old new (λ rows. record rows { rooms = room_changed room f rows.rooms })
-rooms_step room more f source old new count same apart does on given number cast h mid =
+rooms_step room more f old new count same apart does on given h mid =
     let was = (mid h.1.was_open).0 in
     let db = old.now.trees in
     let x = λ (r : Row). (room_of (room_columns r)).1 in
-    let did = sets room_columns room_of room_written room_numbered room_tree room_table room more f (λ r. source (x r))
-    (λ r. room_stored (f (x r))) old new count refl does on
+    let did = sets room_columns room_of room_written room_numbered room_tree room_table room more f
+    (λ r. int (x r).room ∷ room_stored (f (x r))) (λ r. room_stored (f (x r))) old new count refl does on
     (record {
       given = given;
-      number = λ r. number (x r);
-      cast = λ r. cast (x r);
+      number = λ r. refl;
+      cast = λ r. room_cast (f (x r));
       good = λ r. room_good (f (x r));
       reads = λ r. room_reads (f (x r)) ∙ ap₂ (λ n row. (n, row)) (same (x r)) (apart (Some no_fit) (x r));
       id = λ r. ap int (same (x r));
@@ -203,77 +201,37 @@ pub issued_step : (old new : State) (room codes party : ℕ) (count : ℕ)
     → ExecutesInside 0 update_issued (int room ∷ int codes ∷ int party ∷ []) old new (Ok count)
     → IsMidWith AnyRows old → MovesRows old new (room_issued room codes party)
 issued_step old new room codes party count =
-    rooms_step room _ (λ x. record x { codes = codes; secured = false; party = Some party })
-    (λ x. int x.room ∷ int x.room ∷ Null ∷ Text x.kind ∷ int x.lock_place ∷ int codes ∷ int 0 ∷ int party ∷ int x.notes
-    ∷ []) old new count (λ x. refl) (λ last x. refl) changes.update_issued (λ _ does. does)
+    rooms_step room _ (λ x. record x { codes = codes; secured = false; party = Some party }) old new count
+    (λ x. refl) (λ last x. refl) changes.update_issued (λ _ does. does)
     (λ r good. ap (λ (v : Row). column v 0 ∷ column v 0 ∷ Null ∷ column v 1 ∷ column v 2 ∷ int codes ∷ int 0 ∷ int party
-    ∷ column v 6 ∷ []) good) (λ x. refl)
-    (λ x. rw (
-      cast_null,
-      cast_int (pos x.room),
-      cast_int (pos x.lock_place),
-      cast_int (pos codes),
-      cast_int (pos 0),
-      cast_int (pos party),
-      cast_int (pos x.notes),
-    ) refl)
+    ∷ column v 6 ∷ []) good)
 
 pub freed_step : (old new : State) (room : ℕ) (count : ℕ)
     → ExecutesInside 0 update_party (int room ∷ []) old new (Ok count) → IsMidWith AnyRows old
     → MovesRows old new (room_freed room)
 freed_step old new room count =
-    rooms_step room _ (λ x. record x { party = None })
-    (λ x. int x.room ∷ int x.room ∷ Null ∷ Text x.kind ∷ int x.lock_place ∷ int x.codes ∷ int (bit_of x.secured) ∷ Null
-    ∷ int x.notes ∷ []) old new count (λ x. refl) (λ last x. refl) changes.update_party (λ _ does. does)
+    rooms_step room _ (λ x. record x { party = None }) old new count
+    (λ x. refl) (λ last x. refl) changes.update_party (λ _ does. does)
     (λ r good. ap (λ (v : Row). column v 0 ∷ column v 0 ∷ Null ∷ column v 1 ∷ column v 2 ∷ column v 3 ∷ column v 4
-    ∷ Null ∷ column v 6 ∷ []) good) (λ x. refl)
-    (λ x. rw (
-      cast_null,
-      cast_int (pos x.room),
-      cast_int (pos x.lock_place),
-      cast_int (pos x.codes),
-      cast_int (pos (bit_of x.secured)),
-      cast_int (pos x.notes),
-    ) refl)
+    ∷ Null ∷ column v 6 ∷ []) good)
 
 pub noted_step : (old new : State) (room lock_place : ℕ) (secured : Bool) (notes : ℕ) (count : ℕ) → ExecutesInside 0
     update_noted (int room ∷ int lock_place ∷ int (bit_of secured) ∷ int notes ∷ []) old new (Ok count)
     → IsMidWith AnyRows old → MovesRows old new (room_noted room lock_place secured notes)
 noted_step old new room lock_place secured notes count =
-    rooms_step room _ (λ x. record x { lock_place = lock_place; secured = secured; notes = notes })
-    (λ x. int x.room ∷ int x.room ∷ Null ∷ Text x.kind ∷ int lock_place ∷ int x.codes ∷ int (bit_of secured)
-    ∷ maybe_int x.party ∷ int notes ∷ []) old new count (λ x. refl) (λ last x. refl) changes.update_noted
-    (λ _ does. does)
+    rooms_step room _ (λ x. record x { lock_place = lock_place; secured = secured; notes = notes }) old new count
+    (λ x. refl) (λ last x. refl) changes.update_noted (λ _ does. does)
     (λ r good. ap (λ (v : Row). column v 0 ∷ column v 0 ∷ Null ∷ column v 1 ∷ int lock_place ∷ column v 3
-    ∷ int (bit_of secured) ∷ column v 5 ∷ int notes ∷ []) good) (λ x. refl)
-    (λ x. rw (
-      cast_null,
-      cast_int (pos x.room),
-      cast_int (pos lock_place),
-      cast_int (pos x.codes),
-      cast_int (pos (bit_of secured)),
-      cast_maybe x.party,
-      cast_int (pos notes),
-    ) refl)
+    ∷ int (bit_of secured) ∷ column v 5 ∷ int notes ∷ []) good)
 
 pub refitted_step : (old new : State) (room lock_place codes : ℕ) (count : ℕ)
     → ExecutesInside 0 update_refitted (int room ∷ int lock_place ∷ int codes ∷ []) old new (Ok count)
     → IsMidWith AnyRows old → MovesRows old new (room_refitted room lock_place codes)
 refitted_step old new room lock_place codes count =
-    rooms_step room _ (λ x. record x { lock_place = lock_place; codes = codes; secured = false })
-    (λ x. int x.room ∷ int x.room ∷ Null ∷ Text x.kind ∷ int lock_place ∷ int codes ∷ int 0 ∷ maybe_int x.party
-    ∷ int x.notes ∷ []) old new count (λ x. refl) (λ last x. refl) changes.update_refitted (λ _ does. does)
+    rooms_step room _ (λ x. record x { lock_place = lock_place; codes = codes; secured = false }) old new count
+    (λ x. refl) (λ last x. refl) changes.update_refitted (λ _ does. does)
     (λ r good. ap (λ (v : Row). column v 0 ∷ column v 0 ∷ Null ∷ column v 1 ∷ int lock_place ∷ int codes ∷ int 0
-    ∷ column v 5 ∷ column v 6 ∷ []) good) (λ x. refl)
-    (λ x. rw (
-      cast_null,
-      cast_int (pos x.room),
-      cast_int (pos lock_place),
-      cast_int (pos codes),
-      cast_int (pos 0),
-      cast_maybe x.party,
-      cast_int (pos x.notes),
-    ) refl)
+    ∷ column v 5 ∷ column v 6 ∷ []) good)
 
 -- ---- how a stay stands
 
@@ -290,21 +248,13 @@ state_step old new party state count h mid =
     let x = λ (r : Row). (stay_of (stay_columns r)).1 in
     let now = int (state_number state) ∷ maybe_int (room_of_state state) ∷ [] in
     let did = sets stay_columns stay_of stay_written stay_numbered stay_tree stay_table party now (now_is state)
-    (λ r. int (x r).party ∷ int (x r).party ∷ Null ∷ Text (x r).guest ∷ Text (x r).kind ∷ int (x r).arrive
-    ∷ int (x r).depart ∷ now) (λ r. stay_stored (now_is state (x r))) old new count refl
+    (λ r. int (x r).party ∷ stay_stored (now_is state (x r))) (λ r. stay_stored (now_is state (x r))) old new count refl
     changes.update_state (λ _ does. does)
     (record {
       given = λ r good. ap
           (λ (v : Row). column v 0 ∷ column v 0 ∷ Null ∷ column v 1 ∷ column v 2 ∷ column v 3 ∷ column v 4 ∷ now) good;
       number = λ r. refl;
-      cast = λ r. rw (
-        cast_null,
-        cast_int (pos (x r).party),
-        cast_int (pos (x r).arrive),
-        cast_int (pos (x r).depart),
-        cast_int (pos (state_number state)),
-        cast_maybe (room_of_state state),
-      ) refl;
+      cast = λ r. stay_cast (now_is state (x r));
       good = λ r. stay_good (now_is state (x r));
       reads = λ r. stay_reads (now_is state (x r));
       id = λ r. refl;
