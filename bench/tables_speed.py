@@ -40,7 +40,9 @@ LOOKS = 20000
 TURNS, OPENINGS = 5, 3
 FIRST, SECOND = 1, 2
 SOURCE = HERE.parent / "crates" / "hotel_statements" / "src" / "texts.rt"
-TEXTS = dict(re.findall(r'const (\w+): &str =\s*"([^"]*)"', SOURCE.read_text()))
+# a text that goes on in the next line ends in a backslash
+CONSTANTS = re.findall(r'const (\w+): &str =\s*"([^"]*)"', SOURCE.read_text())
+TEXTS = {name: re.sub(r"\\\n\s*", "", text) for name, text in CONSTANTS}
 MADE = {FIRST: ["META", "KIND", "ROOM", "STAY", "CODE", "CARD", "INSIDE", "NOTE"]}
 MADE[SECOND] = MADE[FIRST] + ["FIT", "STAY_ROOM", "CARD_PARTY"]
 

@@ -349,8 +349,8 @@ pub const END_OF_CALENDAR_LAST_DAY: &[Step] = &[
 ];
 
 /// A byte order mark, quotes, lines that end in CR and LF, and a last line that is cut.
-pub const CUT_LAST_LINE: &[u8] =
-    b"\xef\xbb\xbfroom,count,kind,card,old,new,at\r\n\"101\",1,in,1,\"A0\",0000000000A1,2031-05-01T15:00:00\r\n101,2,out";
+pub const CUT_LAST_LINE: &[u8] = b"\xef\xbb\xbfroom,count,kind,card,old,new,at\r\n\
+        \"101\",1,in,1,\"A0\",0000000000A1,2031-05-01T15:00:00\r\n101,2,out";
 
 /// Such a file; no lines, no header, a wrong one.
 pub const AUDIT_BYTES: &[Step] = &[

@@ -2,31 +2,68 @@
 
 // The tables.
 
-pub(crate) const CREATE_META: &str =
-    "CREATE TABLE meta (id INTEGER PRIMARY KEY CHECK (id = 1), version INTEGER NOT NULL, day INTEGER CHECK (day BETWEEN 0 AND 36524)) STRICT";
+pub(crate) const CREATE_META: &str = "CREATE TABLE meta (\
+    id INTEGER PRIMARY KEY CHECK (id = 1), \
+    version INTEGER NOT NULL, \
+    day INTEGER CHECK (day BETWEEN 0 AND 36524)) STRICT";
 
 pub(crate) const CREATE_KIND: &str = "CREATE TABLE kind (kind TEXT NOT NULL PRIMARY KEY) STRICT";
 
-pub(crate) const CREATE_ROOM: &str =
-    "CREATE TABLE room (room INTEGER PRIMARY KEY CHECK (room BETWEEN 1 AND 9999), kind TEXT NOT NULL REFERENCES kind, lock_place INTEGER NOT NULL, codes INTEGER NOT NULL CHECK (codes >= 1), secured INTEGER NOT NULL CHECK (secured IN (0, 1)), party INTEGER UNIQUE, notes INTEGER NOT NULL, CHECK (0 <= lock_place AND lock_place < codes)) STRICT";
+pub(crate) const CREATE_ROOM: &str = "CREATE TABLE room (\
+    room INTEGER PRIMARY KEY CHECK (room BETWEEN 1 AND 9999), \
+    kind TEXT NOT NULL REFERENCES kind, \
+    lock_place INTEGER NOT NULL, \
+    codes INTEGER NOT NULL CHECK (codes >= 1), \
+    secured INTEGER NOT NULL CHECK (secured IN (0, 1)), \
+    party INTEGER UNIQUE, \
+    notes INTEGER NOT NULL, \
+    CHECK (0 <= lock_place AND lock_place < codes)) STRICT";
 
-pub(crate) const CREATE_STAY: &str =
-    "CREATE TABLE stay (party INTEGER PRIMARY KEY, guest TEXT NOT NULL, kind TEXT NOT NULL REFERENCES kind, arrive INTEGER NOT NULL, depart INTEGER NOT NULL, state INTEGER NOT NULL CHECK (state BETWEEN 0 AND 3), room INTEGER REFERENCES room, CHECK (arrive < depart)) STRICT";
+pub(crate) const CREATE_STAY: &str = "CREATE TABLE stay (\
+    party INTEGER PRIMARY KEY, \
+    guest TEXT NOT NULL, \
+    kind TEXT NOT NULL REFERENCES kind, \
+    arrive INTEGER NOT NULL, \
+    depart INTEGER NOT NULL, \
+    state INTEGER NOT NULL CHECK (state BETWEEN 0 AND 3), \
+    room INTEGER REFERENCES room, \
+    CHECK (arrive < depart)) STRICT";
 
-pub(crate) const CREATE_CODE: &str =
-    "CREATE TABLE code (code INTEGER PRIMARY KEY CHECK (code BETWEEN 0 AND 281474976710655), room INTEGER NOT NULL REFERENCES room, place INTEGER NOT NULL, UNIQUE (room, place)) STRICT";
+pub(crate) const CREATE_CODE: &str = "CREATE TABLE code (\
+    code INTEGER PRIMARY KEY CHECK (code BETWEEN 0 AND 281474976710655), \
+    room INTEGER NOT NULL REFERENCES room, \
+    place INTEGER NOT NULL, \
+    UNIQUE (room, place)) STRICT";
 
-pub(crate) const CREATE_CARD: &str =
-    "CREATE TABLE card (number INTEGER PRIMARY KEY, party INTEGER NOT NULL REFERENCES stay, old_code INTEGER NOT NULL REFERENCES code, new_code INTEGER NOT NULL REFERENCES code) STRICT";
+pub(crate) const CREATE_CARD: &str = "CREATE TABLE card (\
+    number INTEGER PRIMARY KEY, \
+    party INTEGER NOT NULL REFERENCES stay, \
+    old_code INTEGER NOT NULL REFERENCES code, \
+    new_code INTEGER NOT NULL REFERENCES code) STRICT";
 
-pub(crate) const CREATE_INSIDE: &str =
-    "CREATE TABLE inside (room INTEGER NOT NULL REFERENCES room, card INTEGER NOT NULL REFERENCES card, PRIMARY KEY (room, card)) STRICT";
+pub(crate) const CREATE_INSIDE: &str = "CREATE TABLE inside (\
+    room INTEGER NOT NULL REFERENCES room, \
+    card INTEGER NOT NULL REFERENCES card, \
+    PRIMARY KEY (room, card)) STRICT";
 
-pub(crate) const CREATE_NOTE: &str =
-    "CREATE TABLE note (room INTEGER NOT NULL REFERENCES room, n INTEGER NOT NULL, act INTEGER NOT NULL CHECK (act BETWEEN 0 AND 2), card INTEGER, first_code INTEGER NOT NULL, second_code INTEGER NOT NULL, day INTEGER NOT NULL, second INTEGER NOT NULL, PRIMARY KEY (room, n)) STRICT";
+pub(crate) const CREATE_NOTE: &str = "CREATE TABLE note (\
+    room INTEGER NOT NULL REFERENCES room, \
+    n INTEGER NOT NULL, \
+    act INTEGER NOT NULL CHECK (act BETWEEN 0 AND 2), \
+    card INTEGER, \
+    first_code INTEGER NOT NULL, \
+    second_code INTEGER NOT NULL, \
+    day INTEGER NOT NULL, \
+    second INTEGER NOT NULL, \
+    PRIMARY KEY (room, n)) STRICT";
 
-pub(crate) const CREATE_FIT: &str =
-    "CREATE TABLE fit (room INTEGER NOT NULL REFERENCES room, fit INTEGER NOT NULL, place INTEGER NOT NULL, before INTEGER NOT NULL, PRIMARY KEY (room, fit), UNIQUE (room, place)) STRICT";
+pub(crate) const CREATE_FIT: &str = "CREATE TABLE fit (\
+    room INTEGER NOT NULL REFERENCES room, \
+    fit INTEGER NOT NULL, \
+    place INTEGER NOT NULL, \
+    before INTEGER NOT NULL, \
+    PRIMARY KEY (room, fit), \
+    UNIQUE (room, place)) STRICT";
 
 // The indexes, by which the rows that refer to a changed one are looked for.
 
@@ -99,7 +136,8 @@ pub(crate) const INSERT_CARD: &str =
 pub(crate) const INSERT_INSIDE: &str = "INSERT INTO inside (room, card) VALUES (?1, ?2)";
 
 pub(crate) const INSERT_NOTE: &str =
-    "INSERT INTO note (room, n, act, card, first_code, second_code, day, second) VALUES (?1, ?2, ?3, ?4, ?5, ?6, ?7, ?8)";
+    "INSERT INTO note (room, n, act, card, first_code, second_code, day, second) \
+    VALUES (?1, ?2, ?3, ?4, ?5, ?6, ?7, ?8)";
 
 pub(crate) const INSERT_FIT: &str =
     "INSERT INTO fit (room, fit, place, before) VALUES (?1, ?2, ?3, ?4)";
@@ -127,8 +165,10 @@ pub(crate) const DELETE_INSIDES: &str = "DELETE FROM inside WHERE room = ?1";
 
 // Walks.
 
-pub(crate) const WALK_ARRIVALS: &str =
-    "SELECT party, guest, kind, arrive, depart, state, room FROM stay WHERE state = 0 AND arrive <= ?1 AND ?1 < depart ORDER BY party";
+pub(crate) const WALK_ARRIVALS: &str = "SELECT party, guest, kind, arrive, depart, state, room \
+    FROM stay \
+    WHERE state = 0 AND arrive <= ?1 AND ?1 < depart \
+    ORDER BY party";
 
 pub(crate) const WALK_CHAIN: &str = "SELECT place, code FROM code WHERE room = ?1 ORDER BY place";
 
@@ -136,10 +176,18 @@ pub(crate) const WALK_AUDIT: &str =
     "SELECT room, n, act, card, first_code, second_code, day, second FROM note WHERE room = ?1 ORDER BY n";
 
 pub(crate) const WALK_IN_HOUSE: &str =
-    "SELECT room.room, room.party, stay.guest, stay.kind, stay.depart, room.secured FROM room JOIN stay ON stay.party = room.party ORDER BY room.room";
+    "SELECT room.room, room.party, stay.guest, stay.kind, stay.depart, room.secured \
+    FROM room \
+    JOIN stay ON stay.party = room.party \
+    ORDER BY room.room";
 
 pub(crate) const WALK_LEFT_BEHIND: &str =
-    "SELECT room.room, held.code, last.code, room.lock_place, room.codes FROM room JOIN code AS held ON held.room = room.room AND held.place = room.lock_place JOIN code AS last ON last.room = room.room AND last.place = room.codes - 1 WHERE room.lock_place + 2 < room.codes ORDER BY room.room";
+    "SELECT room.room, held.code, last.code, room.lock_place, room.codes \
+    FROM room \
+    JOIN code AS held ON held.room = room.room AND held.place = room.lock_place \
+    JOIN code AS last ON last.room = room.room AND last.place = room.codes - 1 \
+    WHERE room.lock_place + 2 < room.codes \
+    ORDER BY room.room";
 
 // Whole tables.
 

@@ -37,7 +37,8 @@ struct Exchange {
 
 /// The answer to a head or a body that is malformed or cut.
 const BAD_REQUEST: &[u8] =
-    b"HTTP/1.1 400 Bad Request\r\nContent-Type: text/plain; charset=utf-8\r\nContent-Length: 12\r\nConnection: close\r\n\r\nbad request\n";
+    b"HTTP/1.1 400 Bad Request\r\nContent-Type: text/plain; charset=utf-8\r\n\
+        Content-Length: 12\r\nConnection: close\r\n\r\nbad request\n";
 
 /// A cut body, another method and two hosts begin nothing; then comes a check-in whose client awaits an interim answer.
 static EXCHANGES: [Exchange; 4] = [
@@ -47,15 +48,20 @@ static EXCHANGES: [Exchange; 4] = [
     },
     Exchange {
         request: b"GET /next-day HTTP/1.1\r\nHost: localhost\r\n\r\n",
-        answer: b"HTTP/1.1 405 Method Not Allowed\r\nContent-Type: text/plain; charset=utf-8\r\nContent-Length: 19\r\nAllow: POST\r\nConnection: close\r\n\r\nmethod not allowed\n",
+        answer: b"HTTP/1.1 405 Method Not Allowed\r\nContent-Type: text/plain; charset=utf-8\r\n\
+            Content-Length: 19\r\nAllow: POST\r\nConnection: close\r\n\r\nmethod not allowed\n",
     },
     Exchange {
-        request: b"POST /reservations/1/check-in HTTP/1.1\r\nHost: localhost\r\nHost: localhost\r\nContent-Length: 8\r\n\r\nroom=101",
+        request: b"POST /reservations/1/check-in HTTP/1.1\r\nHost: localhost\r\nHost: localhost\r\n\
+            Content-Length: 8\r\n\r\nroom=101",
         answer: BAD_REQUEST,
     },
     Exchange {
-        request: b"POST /reservations/1/check-in HTTP/1.1\r\nHost: localhost\r\nContent-Length: 8\r\nExpect: 100-continue\r\n\r\nroom=101",
-        answer: b"HTTP/1.1 100 Continue\r\n\r\nHTTP/1.1 200 OK\r\nContent-Type: text/plain; charset=utf-8\r\nContent-Length: 49\r\nConnection: close\r\n\r\ncard 1 party 1 old 0000000000a0 new 0000000000a1\n",
+        request: b"POST /reservations/1/check-in HTTP/1.1\r\nHost: localhost\r\nContent-Length: 8\r\n\
+            Expect: 100-continue\r\n\r\nroom=101",
+        answer: b"HTTP/1.1 100 Continue\r\n\r\nHTTP/1.1 200 OK\r\n\
+            Content-Type: text/plain; charset=utf-8\r\nContent-Length: 49\r\nConnection: close\r\n\
+            \r\ncard 1 party 1 old 0000000000a0 new 0000000000a1\n",
     },
 ];
 
