@@ -14,7 +14,7 @@ pub record KindsOf (kinds : List (List ℕ × ℕ)) (s : Stored) : Type 0 where
   pub read : kinds_read (rows_of s) ≡ true
   pub known : HasKinds kinds (rows_of s).kinds
 
--- What is known beside the kinds is of these rows.
+-- What is known is of these rows.
 pub record IsOfRows (known : Known) (s : Stored) : Type 0 where
   pub places : AreOf known.places s
   pub fits : FitsOf known.fits (plain_fits s)

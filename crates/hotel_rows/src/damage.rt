@@ -27,7 +27,9 @@ mod stays;
 
 use crate::damage::cards::cards_hold;
 use crate::damage::codes::codes_hold;
+use crate::damage::fit_runs::room_fits;
 use crate::damage::fits::{first_fits, fits_hold};
+use crate::damage::found::places_of;
 use crate::damage::insides::insides_hold;
 use crate::damage::kinds::{kinds_hold, meta_holds};
 use crate::damage::known::{Known, known_of};
@@ -90,15 +92,17 @@ fn first_with(
     let Some(kinds) = kinds else {
         return Ok(Some(TableName::Kind));
     };
-    let known = known_of(alloc, stored, kinds, plain)?;
-    let rooms = rooms_hold(alloc, &known, stored)?;
+    let places = places_of(alloc, stored)?;
+    let fits = room_fits(alloc, plain)?;
+    let rooms = rooms_hold(alloc, &kinds, &places, &fits, stored)?;
     if !rooms {
         return Ok(Some(TableName::Room));
     }
-    let stays = stays_hold(alloc, &known, stored)?;
+    let stays = stays_hold(alloc, &kinds, &places, stored)?;
     if !stays {
         return Ok(Some(TableName::Stay));
     }
+    let known = known_of(alloc, stored, places, fits)?;
     first_of_later(alloc, &known, stored, plain)
 }
 

@@ -17,6 +17,9 @@ use keycard_rules::{LAST_DAY, Memory};
 use std::alloc::Global;
 use std::collections::BTreeMap;
 
+/// The kinds of the rows.
+pub(crate) type Kinds = BTreeMap<KindCode, u32>;
+
 /// Whether the rules of meta hold.
 pub(crate) fn meta_holds(stored: &Stored) -> bool
     ensures { result ≡ meta_holds stored.now }
@@ -49,7 +52,7 @@ pub(crate) fn kinds_rise(kinds: &[PlainKind]) -> bool
 pub(crate) fn read_kinds(
     alloc: Global,
     kinds: &[PlainKind],
-) -> Result<Option<BTreeMap<KindCode, u32>>, Memory>
+) -> Result<Option<Kinds>, Memory>
     ensures { IfOk result (λ read. MatchOption read (list_all is_kind (map kind_text kinds.now) ≡ false)
         (λ known. (list_all is_kind (map kind_text kinds.now) ≡ true)
         × HasKinds known.entries (map kind_text kinds.now))) }
@@ -67,7 +70,7 @@ pub(crate) fn read_kinds(
 }
 
 /// Whether a text is one of the kinds.
-pub(crate) fn has_kind(known: &BTreeMap<KindCode, u32>, text: &str) -> bool
+pub(crate) fn has_kind(known: &Kinds, text: &str) -> bool
     ensures { (kinds : List (List ℕ)) → list_all is_kind kinds ≡ true → HasKinds known.now.entries kinds
         → result ≡ list_any (λ k. bytes_eq k text.now) kinds }
 {
@@ -81,7 +84,7 @@ pub(crate) fn has_kind(known: &BTreeMap<KindCode, u32>, text: &str) -> bool
 pub(crate) fn kinds_hold(
     alloc: Global,
     stored: &Stored,
-) -> Result<Option<BTreeMap<KindCode, u32>>, Memory>
+) -> Result<Option<Kinds>, Memory>
     ensures { IfOk result (λ read. MatchOption read (kind_holds stored.now ≡ false)
         (λ known. (kind_holds stored.now ≡ true) × KindsOf known.entries stored.now)) }
 {

@@ -1,43 +1,39 @@
 //! What is known of stored rows, beside them.
 ghost use Rattle.std.specs.Prelude.{◌≡◌, IfOk};
 ghost use Rattle.hotel_rows.specs.Stored.{plain_fits};
-ghost use Rattle.hotel_rows.specs.Known.{KindsOf, IsOfRows};
+ghost use Rattle.hotel_rows.specs.FitRuns.{FitsOf};
+ghost use Rattle.hotel_rows.specs.Known.{IsOfRows};
+ghost use Rattle.hotel_rows.specs.Places.{AreOf};
 
-use crate::damage::fit_runs::{RoomFits, room_fits};
-use crate::damage::found::{Places, places_of};
+use crate::damage::fit_runs::RoomFits;
+use crate::damage::found::Places;
 use crate::damage::placed::{Placed, place_codes};
-use crate::stored::{PlainFit, Stored};
-use hotel_nights::KindCode;
+use crate::stored::Stored;
 use keycard_rules::Memory;
 use std::alloc::Global;
 use std::collections::BTreeMap;
 
-/// The kinds, where the rows stand, the fits of each room, and the codes of each by their places.
+/// Where the rows stand, the fits of each room, and the codes of each by their places.
 #[derive(Drop)]
 pub(crate) struct Known {
-    pub(crate) kinds: BTreeMap<KindCode, u32>,
     pub(crate) places: Places,
     pub(crate) fits: RoomFits,
     pub(crate) placed: BTreeMap<u64, Placed>,
 }
 
-/// What is known of rows with these kinds and fits.
+/// What is known of rows that stand at these places, with these fits.
 pub(crate) fn known_of(
     alloc: Global,
     stored: &Stored,
-    kinds: BTreeMap<KindCode, u32>,
-    plain: &[PlainFit],
+    places: Places,
+    fits: RoomFits,
 ) -> Result<Known, Memory>
-    requires kinds { KindsOf kinds.entries stored.now }
-    requires plain { plain.now ≡ plain_fits stored.now }
-    ensures kinds { IfOk result (λ known. KindsOf known.kinds.entries stored.now) }
-    ensures rows { IfOk result (λ known. IsOfRows known stored.now) }
+    requires places { AreOf places stored.now }
+    requires fits { FitsOf fits (plain_fits stored.now) }
+    ensures { IfOk result (λ known. IsOfRows known stored.now) }
 {
-    let places = places_of(alloc, stored)?;
-    let fits = room_fits(alloc, plain)?;
     let placed = place_codes(alloc, &stored.codes)?;
     Ok(Known {
-        kinds,
         places,
         fits,
         placed,

@@ -12,8 +12,7 @@ ghost use Rattle.hotel_rows.specs.RowTests.{room_fits};
 
 use crate::damage::fit_runs::{RoomFits, ends_with_fit, fits_of_room};
 use crate::damage::found::{Places, room_keys, stay_at};
-use crate::damage::kinds::has_kind;
-use crate::damage::known::Known;
+use crate::damage::kinds::{Kinds, has_kind};
 use crate::damage::numbers::{NO_NUMBER, number, number_if, rise};
 use crate::stored::{PlainRoom, PlainStay, Stored};
 use keycard_rules::{LAST_FIT, LAST_NUMBER, LAST_ROOM, Memory};
@@ -98,10 +97,16 @@ fn has_guest(places: &Places, stored: &Stored, room: &PlainRoom) -> bool
     home == number(room.room) && room.kind.as_str() == stay.kind.as_str()
 }
 
-fn room_fits(known: &Known, stored: &Stored, room: &PlainRoom) -> bool
-    requires kinds { KindsOf known.now.kinds.entries stored.now }
-    requires places { AreOf known.now.places stored.now }
-    requires fits { FitsOf known.now.fits (plain_fits stored.now) }
+fn room_fits(
+    kinds: &Kinds,
+    places: &Places,
+    fits: &RoomFits,
+    stored: &Stored,
+    room: &PlainRoom,
+) -> bool
+    requires kinds { KindsOf kinds.now.entries stored.now }
+    requires places { AreOf places.now stored.now }
+    requires fits { FitsOf fits.now (plain_fits stored.now) }
     ensures { result ≡ room_fits stored.now room.now }
 {
     if !has_columns(room) || !has_number(room) {
@@ -110,26 +115,26 @@ fn room_fits(known: &Known, stored: &Stored, room: &PlainRoom) -> bool
     if number(room.lock_place) >= number(room.codes) {
         return false;
     }
-    if !has_kind(&known.kinds, room.kind.as_str()) {
+    if !has_kind(kinds, room.kind.as_str()) {
         return false;
     }
-    if !has_few_codes(stored, &known.fits, room) {
+    if !has_few_codes(stored, fits, room) {
         return false;
     }
     if number(room.notes) > most_notes(stored) {
         return false;
     }
-    has_guest(&known.places, stored, room) && is_secured_as_due(stored, &known.fits, room)
+    has_guest(places, stored, room) && is_secured_as_due(stored, fits, room)
 }
 
-fn rooms_fit(known: &Known, stored: &Stored) -> bool
-    requires kinds { KindsOf known.now.kinds.entries stored.now }
-    requires places { AreOf known.now.places stored.now }
-    requires fits { FitsOf known.now.fits (plain_fits stored.now) }
+fn rooms_fit(kinds: &Kinds, places: &Places, fits: &RoomFits, stored: &Stored) -> bool
+    requires kinds { KindsOf kinds.now.entries stored.now }
+    requires places { AreOf places.now stored.now }
+    requires fits { FitsOf fits.now (plain_fits stored.now) }
     ensures { result ≡ list_all (room_fits stored.now) stored.now.rooms.items }
 {
     for i in 0..stored.rooms.len() {
-        if !room_fits(known, stored, &stored.rooms[i]) {
+        if !room_fits(kinds, places, fits, stored, &stored.rooms[i]) {
             return false;
         }
     }
@@ -137,15 +142,21 @@ fn rooms_fit(known: &Known, stored: &Stored) -> bool
 }
 
 /// Whether the rules of the table of rooms hold, where those of the kinds do.
-pub(crate) fn rooms_hold(alloc: Global, known: &Known, stored: &Stored) -> Result<bool, Memory>
-    requires kinds { KindsOf known.now.kinds.entries stored.now }
-    requires places { AreOf known.now.places stored.now }
-    requires fits { FitsOf known.now.fits (plain_fits stored.now) }
+pub(crate) fn rooms_hold(
+    alloc: Global,
+    kinds: &Kinds,
+    places: &Places,
+    fits: &RoomFits,
+    stored: &Stored,
+) -> Result<bool, Memory>
+    requires kinds { KindsOf kinds.now.entries stored.now }
+    requires places { AreOf places.now stored.now }
+    requires fits { FitsOf fits.now (plain_fits stored.now) }
     ensures { IfOk result (λ hold. hold ≡ room_holds stored.now) }
 {
     let keys = room_keys(alloc, &stored.rooms)?;
     if !rise(&keys) {
         return Ok(false);
     }
-    Ok(rooms_fit(known, stored))
+    Ok(rooms_fit(kinds, places, fits, stored))
 }

@@ -9,8 +9,7 @@ ghost use Rattle.hotel_rows.specs.Places.{AreOf};
 ghost use Rattle.hotel_rows.specs.RowTests.{are_stay_days, has_home, stay_fits};
 
 use crate::damage::found::{Places, room_at, stay_keys};
-use crate::damage::kinds::has_kind;
-use crate::damage::known::Known;
+use crate::damage::kinds::{Kinds, has_kind};
 use crate::damage::nights::nights_fit;
 use crate::damage::numbers::{are_numbered, number, number_if};
 use crate::damage::rooms::home_of;
@@ -71,12 +70,13 @@ fn is_guest(alloc: Global, text: &str) -> Result<bool, Memory>
 
 fn stay_fits(
     alloc: Global,
-    known: &Known,
+    kinds: &Kinds,
+    places: &Places,
     stored: &Stored,
     stay: &PlainStay,
 ) -> Result<bool, Memory>
-    requires kinds { KindsOf known.now.kinds.entries stored.now }
-    requires places { AreOf known.now.places stored.now }
+    requires kinds { KindsOf kinds.now.entries stored.now }
+    requires places { AreOf places.now stored.now }
     ensures { IfOk result (λ fits. fits ≡ stay_fits stored.now stay.now) }
 {
     if !has_columns(stay) {
@@ -85,23 +85,28 @@ fn stay_fits(
     if !is_guest(alloc, stay.guest.as_str())? {
         return Ok(false);
     }
-    if !has_kind(&known.kinds, stay.kind.as_str()) {
+    if !has_kind(kinds, stay.kind.as_str()) {
         return Ok(false);
     }
     if !has_days(stay) {
         return Ok(false);
     }
-    Ok(has_home(&known.places, stored, stay))
+    Ok(has_home(places, stored, stay))
 }
 
 /// Whether each stay fits by itself.
-pub(crate) fn stays_fit(alloc: Global, known: &Known, stored: &Stored) -> Result<bool, Memory>
-    requires kinds { KindsOf known.now.kinds.entries stored.now }
-    requires places { AreOf known.now.places stored.now }
+pub(crate) fn stays_fit(
+    alloc: Global,
+    kinds: &Kinds,
+    places: &Places,
+    stored: &Stored,
+) -> Result<bool, Memory>
+    requires kinds { KindsOf kinds.now.entries stored.now }
+    requires places { AreOf places.now stored.now }
     ensures { IfOk result (λ fit. fit ≡ list_all (stay_fits stored.now) stored.now.stays.items) }
 {
     for i in 0..stored.stays.len() {
-        if !stay_fits(alloc, known, stored, &stored.stays[i])? {
+        if !stay_fits(alloc, kinds, places, stored, &stored.stays[i])? {
             return Ok(false);
         }
     }
@@ -109,16 +114,21 @@ pub(crate) fn stays_fit(alloc: Global, known: &Known, stored: &Stored) -> Result
 }
 
 /// Whether the rules of the table of stays hold, where those of the kinds do.
-pub(crate) fn stays_hold(alloc: Global, known: &Known, stored: &Stored) -> Result<bool, Memory>
-    requires kinds { KindsOf known.now.kinds.entries stored.now }
-    requires places { AreOf known.now.places stored.now }
+pub(crate) fn stays_hold(
+    alloc: Global,
+    kinds: &Kinds,
+    places: &Places,
+    stored: &Stored,
+) -> Result<bool, Memory>
+    requires kinds { KindsOf kinds.now.entries stored.now }
+    requires places { AreOf places.now stored.now }
     ensures { IfOk result (λ hold. hold ≡ stay_holds stored.now) }
 {
     let keys = stay_keys(alloc, &stored.stays)?;
     if !are_numbered(&keys) {
         return Ok(false);
     }
-    let fit = stays_fit(alloc, known, stored)?;
+    let fit = stays_fit(alloc, kinds, places, stored)?;
     if !fit {
         return Ok(false);
     }
