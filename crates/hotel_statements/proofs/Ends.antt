@@ -1,24 +1,22 @@
 -- The statements of a change, how their transaction ends, and what that leaves of the books.
-use Rattle.std.proofs.Common.{◌≡◌, inl, inr, refl, sym, ap, subst, ◌∙◌, List, [], ℕ, true, false, Ok, Err, Result, OnOk}
-use Rattle.std.proofs.Common.{OnErr, IfErr, IsErr, IsTrue, true≢false, arith}
+use Rattle.std.proofs.Common.{◌≡◌, sym, ap, subst, ◌∙◌, List, ℕ, false, Ok, Err, Result, OnOk, OnErr, IfErr, IsErr}
+use Rattle.std.proofs.Common.{IsTrue, arith}
+use Rattle.std.proofs.lemmas.Result.{on_ok_weaker}
 use Rattle.sqlite.specs.Effect.{Database}
 use Rattle.sqlite.specs.Order.{Row}
-use Rattle.sqlite.specs.State.{State, HasCleanDisk, IsRolledBack, KeepsCommit, Survives, Shows, KeepsCounts}
-use Rattle.sqlite.specs.State.{ExecutesInside}
+use Rattle.sqlite.specs.State.{State, HasCleanDisk, KeepsCommit, Survives, ExecutesInside}
 use Rattle.sqlite.specs.Steps.{FailsToCommit}
 use Rattle.sqlite.specs.declared.error.Error.{Error}
-use Rattle.sqlite.proofs.StateLemmas.{survives_then}
 use Rattle.hotel_model.specs.Rows.{Rows}
-use Rattle.hotel_statements.specs.Tables.{AreTables, rows_in}
-use Rattle.hotel_statements.specs.Books.{IsDesk, IsKept, IsBooks}
+use Rattle.hotel_statements.specs.declared.version.Version.TheVariants.{Second}
+use Rattle.hotel_statements.specs.Tables.{rows_in}
+use Rattle.hotel_statements.specs.Books.{IsKept, IsBooks}
 use Rattle.hotel_core.specs.Refinement.Finds.{AnyRows}
-use Rattle.hotel_statements.specs.Steps.{IsMid, IsMidWith, MovesRows, RunsStatement, MakesRows, IsMadeOf}
+use Rattle.hotel_statements.specs.Steps.{IsMidWith, MovesRows, RunsStatement, MakesRows, IsMadeOf}
+use Rattle.hotel_statements.proofs.Transaction.{Begins, LeavesDesk, Committed, start_kept, start_mid, finished}
+use Rattle.hotel_statements.proofs.Transaction.{none_new, or_committed}
 
 -- ---- statements, one after the other
-
-pub none_new : {a b c : State} → Survives a b (λ _. ⊥) → Survives b c (λ _. ⊥) → Survives a c (λ _. ⊥)
-none_new {a} {b} {c} one two =
-    survives_then a b c (λ _. ⊥) (λ _. ⊥) (λ _. ⊥) (λ _ _ none. none) (λ _ _ none. none) one two
 
 pub commit_then : {a b c : State} → KeepsCommit a b → KeepsCommit b c → KeepsCommit a c
 commit_then one two = record {
@@ -100,41 +98,6 @@ makes_rows {text} {given} {fits} {make} {old} {new} {r} params it step same =
 
 -- ---- the transaction
 
--- the transaction was begun on a connection of books
-pub record Begins (old start : State) : Type 1 where
-  pub books : IsBooks old
-  pub begun : start ≡ record old { in_transaction = true }
-
-start_mid : (old start : State) → Begins old start → HasCleanDisk start → IsTrue start.is_open → IsMid start
-start_mid old start b clean is_open =
-    let kept : IsKept old =
-    (subst (λ (s : State). HasCleanDisk s) b.begun clean, subst (λ (s : State). IsTrue s.is_open) b.begun is_open) in
-    let desk = b.books.desk kept in
-    subst IsMid (sym b.begun) (record { schema = desk.schema; inside = refl; tables = desk.tables })
-
-start_kept : (old start : State) → Begins old start → HasCleanDisk start → IsTrue start.is_open → IsKept old
-start_kept old start b clean is_open =
-    (subst (λ (s : State). HasCleanDisk s) b.begun clean, subst (λ (s : State). IsTrue s.is_open) b.begun is_open)
-
--- the desk as it was, where a state has its committed rows
-restored : (old new : State) → IsDesk old → new.now ≡ old.committed → new.committed ≡ old.committed
-    → IsDesk new × (new.now ≡ old.now)
-restored old new desk now committed =
-    let same : new.now ≡ old.now = now ∙ sym desk.settled in (
-      record {
-        schema = ap (λ (d : Database). d.schema) same ∙ desk.schema;
-        settled = now ∙ sym committed;
-        tables = subst (λ (d : Database). AreTables d.trees) (sym same) desk.tables;
-      },
-      same,
-    )
-
--- what was true of the rows as the change began is true as its transaction does
-fits_start : (old start : State) (P : Rows → Type 0) → Begins old start → (IsKept old → P (rows_in old.now.trees))
-    → HasCleanDisk start → IsTrue start.is_open → P (rows_in start.now.trees)
-fits_start old start P b fits clean is_open =
-    subst (λ (s : State). P (rows_in s.now.trees)) (sym b.begun) (fits (start_kept old start b clean is_open))
-
 -- how a change ends that was made in one transaction
 pub record Ends (make : Rows → Rows) (old new : State) (r : Result (Unit {0}) Error) : Type 0 where
   pub books : IsBooks new
@@ -144,77 +107,46 @@ pub record Ends (make : Rows → Rows) (old new : State) (r : Result (Unit {0}) 
   pub same : IsKept new → OnErr r (new.now ≡ old.now)
   pub crash : Survives old new (IsMadeOf make old.now.trees)
 
-module _ {fits : Rows → Type 0} {make : Rows → Rows} {old start mid : State} {u : Unit {0}} (b : Begins old start)
-    (may : IsKept old → fits (rows_in old.now.trees)) (did : MakesRows fits make start mid (Ok u)) where
+module _ {fits : Rows → Type 0} {make : Rows → Rows} {old start mid : State} {u : Unit {0}}
+    (b : Begins Second old start) (may : IsKept old → fits (rows_in old.now.trees))
+    (did : MakesRows fits make start mid (Ok u)) where
+  -- what was true of the rows as the change began is true as its transaction does
+  fits_start : HasCleanDisk start → IsTrue start.is_open → fits (rows_in start.now.trees)
+  fits_start clean is_open =
+      subst (λ (s : State). fits (rows_in s.now.trees)) (sym b.begun) (may (start_kept b clean is_open))
+
   all_steps : HasCleanDisk mid → MovesRows start mid make
   all_steps clean =
       let before : HasCleanDisk start = omega (arith, did.survives.clean, clean) in
-      did.made clean (λ is_open. (start_mid old start b before is_open, fits_start old start fits b may before is_open))
+      did.made clean (λ is_open. (start_mid b before is_open, fits_start before is_open))
 
-  was_kept : HasCleanDisk mid → IsKept old
-  was_kept clean = start_kept old start b (omega (arith, did.survives.clean, clean)) (all_steps clean).was_open
+  leaves : HasCleanDisk mid → LeavesDesk start mid
+  leaves clean =
+      let all = all_steps clean in record { was_open = all.was_open; committed = all.committed; mid = all.mid }
 
-  start_rows : rows_in start.now.trees ≡ rows_in old.now.trees
-  start_rows = ap (λ (s : State). rows_in s.now.trees) b.begun
+  whole : HasCleanDisk mid → IsMadeOf make old.now.trees mid.now.trees
+  whole clean =
+      let all = all_steps clean in
+      record {
+        tables = all.mid.tables;
+        rows_are = all.rows_are ∙ ap (λ (s : State). make (rows_in s.now.trees)) b.begun;
+      }
 
-  module _ {new : State} (r : Result (Unit {0}) Error) (zero : Survives old start (λ _. ⊥))
-      (committed : new.in_transaction ≡ false)
-      (ok : HasCleanDisk new → OnOk r (IsTrue mid.in_transaction × Shows mid new mid.now mid.now false
-      × KeepsCounts mid new × (new.marks ≡ []))) (err : HasCleanDisk new → IfErr r (FailsToCommit mid new))
-      (two : Survives mid new (λ db. db ≡ mid.now.trees)) where
-    clean_mid : HasCleanDisk new → HasCleanDisk mid
-    clean_mid clean = omega (arith, two.clean, clean)
-
-    abbrev Ended : Result (Unit {0}) Error → Type 0
-    Ended r = IsDesk new × OnOk r (rows_in new.now.trees ≡ make (rows_in old.now.trees)) × OnErr r (new.now ≡ old.now)
-
-    ends : IsKept new → Ended r
-    ends kept = go r (ok kept.0) (err kept.0)
-      where
-        did_all : MovesRows start mid make
-        did_all = all_steps (clean_mid kept.0)
-
-        back : IsRolledBack mid new → IsDesk new × (new.now ≡ old.now)
-        back undone =
-            let done = undone.undone kept.1 in
-            let same = did_all.committed ∙ ap (λ (s : State). s.committed) b.begun in
-            restored old new (b.books.desk (was_kept (clean_mid kept.0))) (done.0 ∙ same) (done.1 ∙ same)
-
-        go : (r : Result (Unit {0}) Error) → OnOk r (IsTrue mid.in_transaction × Shows mid new mid.now mid.now false
-            × KeepsCounts mid new × (new.marks ≡ [])) → IfErr r (FailsToCommit mid new) → Ended r
-        go (Ok u) h k =
-            let now = h.1.now_is in (
-              record {
-                schema = ap (λ (d : Database). d.schema) now ∙ did_all.mid.schema;
-                settled = now ∙ sym h.1.committed_is;
-                tables = subst (λ (d : Database). AreTables d.trees) (sym now) did_all.mid.tables;
-              },
-              ap (λ (d : Database). rows_in d.trees) now ∙ did_all.rows_are ∙ ap make start_rows,
-              tt,
-            )
-        go (Err e) h (inl fails) = let it = back fails.3 in (it.0, tt, it.1)
-        go (Err e) h (inr late) = absurd (true≢false (sym did_all.mid.inside ∙ late.1))
-
-    left_open : (r : Result (Unit {0}) Error) → OnOk r (IsTrue mid.in_transaction × Shows mid new mid.now mid.now false
-        × KeepsCounts mid new × (new.marks ≡ [])) → OnOk r (IsTrue new.is_open)
-    left_open (Ok u) h = h.1.is_open
-    left_open (Err e) h = tt
-
-    pub ended : Ends make old new r
-    ended = record {
-      books = record { autocommit = committed; desk = λ kept. (ends kept).0 };
-      was = λ kept. was_kept (clean_mid kept.0);
-      open_on = λ clean. left_open r (ok clean);
-      made = λ kept. (ends kept).1;
-      same = λ kept. (ends kept).2;
-      crash = survives_then old mid new (λ _. ⊥) (λ db. db ≡ mid.now.trees)
-          (IsMadeOf make old.now.trees) (λ _ db none. absurd none)
-          (λ clean db is.
-          let all = all_steps (clean_mid clean) in
-          record {
-            tables = subst AreTables (sym is) all.mid.tables;
-            rows_are = ap rows_in is ∙ all.rows_are ∙ ap make start_rows;
-          })
-          (survives_then old start mid (λ _. ⊥) (λ _. ⊥) (λ _. ⊥) (λ _ db none. none)
-          (λ _ db none. none) zero did.survives) two;
-    }
+  pub ended : (new : State) (r : Result (Unit {0}) Error) → Survives old start (λ _. ⊥) → new.in_transaction ≡ false
+      → (HasCleanDisk new → Committed mid new r) → (HasCleanDisk new → IfErr r (FailsToCommit mid new))
+      → Survives mid new (λ db. db ≡ mid.now.trees) → Ends make old new r
+  ended new r began autocommit ok err survives =
+      let it = finished b leaves did.survives r autocommit ok err survives in
+      record {
+        books = either r it.books it.left;
+        was = it.was;
+        open_on = it.open_on;
+        made = λ kept. on_ok_weaker r (λ now. ap (λ (d : Database). rows_in d.trees) now
+            ∙ (whole (omega (arith, survives.clean, kept.0))).rows_are) (it.made kept);
+        same = it.same;
+        crash = or_committed began did.survives survives whole;
+      }
+    where
+      either : (r : Result (Unit {0}) Error) → OnOk r (IsBooks new) → OnErr r (IsBooks new) → IsBooks new
+      either (Ok u) books left = books
+      either (Err e) books left = left

@@ -16,8 +16,9 @@ use Rattle.hotel_statements.specs.Steps as step
 use Rattle.hotel_core.specs.Refinement.Finds.{AnyRows}
 use Rattle.hotel_statements.specs.Steps.{IsMidWith, MovesRows}
 use Rattle.hotel_statements.specs.Statements.{Statement, RunsOne, RunsInTurn, RunsStatements, WritesBy, MakesBy}
-use Rattle.hotel_statements.proofs.Ends.{none_new, commit_then, then_makes, then_makes_if, failed, as_made}
+use Rattle.hotel_statements.proofs.Ends.{commit_then, then_makes, then_makes_if, failed, as_made}
 use Rattle.hotel_statements.proofs.Ends.{makes_rows}
+use Rattle.hotel_statements.proofs.Transaction.{none_new}
 
 pub answered : {e : Error} (r : Result (Unit {0}) Error) → IsErrAnd r (λ why. why ≡ e) → r ≡ Err e
 answered (Ok u) is = absurd is

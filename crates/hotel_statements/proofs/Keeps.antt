@@ -1,9 +1,8 @@
 -- What a look-up leaves of the books.
-use Rattle.std.proofs.Common.{◌≡◌, ◌⊎◌, inl, inr, sym, ap, subst, ◌∙◌, List, [], ℕ, false, Option, None, Some, Ok, Err}
+use Rattle.std.proofs.Common.{◌≡◌, ◌⊎◌, inl, inr, sym, subst, ◌∙◌, List, [], ℕ, false, Option, None, Some, Ok, Err}
 use Rattle.std.proofs.Common.{Result, IsTrue, arith}
 use Rattle.sqlite.specs.Order.{Row}
 use Rattle.sqlite.specs.Tree.{Trees}
-use Rattle.sqlite.specs.Effect.{Database}
 use Rattle.sqlite.specs.Listing.{understood}
 use Rattle.sqlite.specs.State.{State, HasCleanDisk, QueriesRow, Shown, FailsToQuery, IsNotRun, IsUnchanged}
 use Rattle.sqlite.specs.State.{IsRolledBack, Survives, ShowsRows, FailsToShow, store_error}
@@ -16,8 +15,8 @@ use Rattle.sqlite_schema.specs.declared.command.Returning.{Returning}
 use Rattle.sqlite_resolve.specs.declared.compiled.Compiled.{Compiled}
 use Rattle.sqlite.proofs.StateLemmas.{survives_then}
 use Rattle.hotel_statements.specs.Books.{IsDesk, IsKept, IsBooks, KeepsRows}
-use Rattle.hotel_statements.specs.Tables.{AreTables}
 use Rattle.hotel_statements.specs.LookUps.{LeavesNoMore}
+use Rattle.hotel_statements.proofs.Books.{desk_shown}
 
 abbrev pub Stays : State → State → Type 0
 Stays old new = IsUnchanged old new ⊎ IsRolledBack old new
@@ -46,24 +45,12 @@ query_stays sql params old new (Err e) plain (inr h) =
 
 desk_stays : (old new : State) → Stays old new → IsDesk old → IsTrue new.is_open → IsDesk new × (new.now ≡ old.now)
 desk_stays old new (inl same) desk is_open =
-    let now = same.0.now_is in (
-      record {
-        schema = ap (λ (d : Database). d.schema) now ∙ desk.schema;
-        settled = now ∙ desk.settled ∙ sym same.0.committed_is;
-        tables = subst (λ (d : Database). AreTables d.trees) (sym now) desk.tables;
-      },
-      now,
-    )
+    let now = same.0.now_is in
+    (desk_shown desk.schema desk.tables now (now ∙ desk.settled ∙ sym same.0.committed_is), now)
 desk_stays old new (inr back) desk is_open =
     let undone = back.undone is_open in
-    let now : new.now ≡ old.now = undone.0 ∙ sym desk.settled in (
-      record {
-        schema = ap (λ (d : Database). d.schema) now ∙ desk.schema;
-        settled = undone.0 ∙ sym undone.1;
-        tables = subst (λ (d : Database). AreTables d.trees) (sym now) desk.tables;
-      },
-      now,
-    )
+    let now : new.now ≡ old.now = undone.0 ∙ sym desk.settled in
+    (desk_shown desk.schema desk.tables now (undone.0 ∙ sym undone.1), now)
 
 -- Whatever the text is, a connection that is open now was open.
 show_opened : (sql : List ℕ) (c : Compiled) (params : Row) (old new : State) (rows : List Row) (how : Option Returning)

@@ -3,6 +3,7 @@ pub mod Perm
 pub mod Joins
 mod Keys
 mod Found
+pub mod Books
 mod Keeps
 mod Unread
 mod LookedInTurn
@@ -26,6 +27,7 @@ mod ReadingsInTurn
 pub mod ReadBack
 pub mod Naturals
 mod Made
+pub mod Transaction
 pub mod Ends
 pub mod InTurn
 pub mod Upgraded

@@ -1,38 +1,35 @@
 -- A desk of the second version made of one of the first: its statements in turn, how their transaction ends, and what
 -- that leaves.
-use Rattle.std.proofs.Common.{◌≡◌, ◌<◌, ◌≤◌, ◌+◌, ◌++◌, inl, inr, refl, sym, ap, ap₂, subst, ◌∙◌, List, [], ◌∷◌, ℕ}
-use Rattle.std.proofs.Common.{zero, suc, take, drop, length, get_or, map, true, false, Ok, Err, Result, OnOk, OnErr}
-use Rattle.std.proofs.Common.{IfErr, IsErr, IsTrue, true≢false, arith, nat_cmp}
+use Rattle.std.proofs.Common.{◌≡◌, ◌<◌, ◌≤◌, ◌+◌, ◌++◌, sym, ap, ap₂, subst, ◌∙◌, List, [], ◌∷◌, ℕ, zero, suc}
+use Rattle.std.proofs.Common.{take, drop, length, get_or, map, false, Ok, Result, OnOk, OnErr, IfErr, IsTrue, arith}
+use Rattle.std.proofs.Common.{nat_cmp}
 use Rattle.std.specs.List.{AllByRecursion}
 use Rattle.std.proofs.lemmas.Bool.Decides.{nat_tests}
 use Rattle.std.proofs.lemmas.List.{take_all, take_more, take-append-drop, map_push, map-append}
 use Rattle.std.proofs.lemmas.Result.{on_ok_weaker}
 use Rattle.sqlite_catalog.specs.Listing.{IsSound}
 use Rattle.sqlite_trees.specs.declared.store.Store.{Ghosts}
-use Rattle.sqlite.specs.Tree.{Trees}
 use Rattle.sqlite.specs.Effect.{Database}
 use Rattle.sqlite.specs.Held.{Held, state}
 use Rattle.sqlite.specs.Order.{Row}
-use Rattle.sqlite.specs.State.{State, HasCleanDisk, IsRolledBack, KeepsCommit, Survives, Shows, KeepsCounts}
-use Rattle.sqlite.specs.State.{ExecutesInside}
+use Rattle.sqlite.specs.State.{State, HasCleanDisk, KeepsCommit, Survives, ExecutesInside}
 use Rattle.sqlite.specs.Steps.{FailsToCommit}
 use Rattle.sqlite.specs.declared.error.Error.{Error}
-use Rattle.sqlite.proofs.StateLemmas.{survives_then}
 use Rattle.hotel_model.specs.declared.rows.FitRow.{FitRow}
 use Rattle.hotel_model.proofs.OfTables.KeysInOrder.{AllAfter, InOrder}
 use Rattle.hotel_rows.specs.Joined.{joined, first_fits, FitEntries}
 use Rattle.hotel_statements.specs.declared.version.Version.TheVariants.{First}
-use Rattle.hotel_statements.specs.Schema.{desk_schema}
-use Rattle.hotel_statements.specs.Tables.{AreTables, AreTablesOf, rows_in, rows_of_version, fits_in, bare_rooms_in}
-use Rattle.hotel_statements.specs.Books.{IsDesk, IsKept, IsBooks}
+use Rattle.hotel_statements.specs.Tables.{rows_in, rows_of_version, fits_in, bare_rooms_in}
+use Rattle.hotel_statements.specs.Books.{IsKept, IsBooks, IsBooksOf}
 use Rattle.hotel_statements.specs.NewDesk.{MakesNew}
 use Rattle.hotel_statements.specs.Statements.{RunsStatements, MakesBy, adds_first_fit, makes_new, makes_second}
 use Rattle.hotel_statements.specs.Statements.{sets_version}
-use Rattle.hotel_statements.specs.Steps.{RunsStatement}
-use Rattle.hotel_statements.specs.Upgrade.{IsFirstDesk, IsFirstBooks, IsFirstMid, IsFirstWith, AreRoomsIn, IsUpgraded}
-use Rattle.hotel_statements.specs.Upgrade.{Upgrades, IsUpgradeOf, IsOutdated, IsBefore, first_of, GivesFits}
+use Rattle.hotel_statements.specs.Steps.{IsMidOf, RunsStatement}
+use Rattle.hotel_statements.specs.Upgrade.{IsFirstWith, AreRoomsIn, IsUpgraded, Upgrades, IsUpgradeOf, IsOutdated}
+use Rattle.hotel_statements.specs.Upgrade.{IsBefore, first_of, GivesFits}
 use Rattle.hotel_statements.proofs.Answers.{fused}
-use Rattle.hotel_statements.proofs.Ends.{none_new}
+use Rattle.hotel_statements.proofs.Transaction.{Begins, LeavesDesk, Committed, start_kept, start_mid, finished}
+use Rattle.hotel_statements.proofs.Transaction.{or_committed}
 use Rattle.hotel_statements.proofs.Risen.{rooms_rise, keys_rise}
 use Rattle.hotel_statements.proofs.Made.Desk.{same_tables, same_bare}
 
@@ -56,7 +53,7 @@ gives_one {g = g} {text = text} {old = old} {new = new} {r = r} params it answer
 -- ---- the tables, and then the version
 
 pub version_then : {a b c : State} → MakesNew a b × KeepsCommit a b → GivesFits IsOutdated [] b c
-    → GivesFits IsFirstMid [] a c
+    → GivesFits (IsMidOf First) [] a c
 version_then {a} {b} made did before =
     let first = made.0 (λ is_open. (before is_open).schema) in
     let was = before first.was_open in
@@ -162,167 +159,52 @@ with_others rooms i = ap (λ more. makes_new ++ (sets_version ∷ more))
 
 -- ---- the transaction
 
--- The transaction was begun on a connection to a desk of the first version, whose rooms are these.
-pub record BeginsFirst (rooms : List ℕ) (old start : State) : Type 1 where
-  pub books : IsFirstBooks old
-  pub rooms_are : IsKept old → AreRoomsIn rooms old.now.trees
-  pub begun : start ≡ record old { in_transaction = true }
-
 -- How an upgrade ends that was made in one transaction.
 pub record Migrates (old new : State) (r : Result (Unit {0}) Error) : Type 0 where
   pub books : OnOk r (IsBooks new)
-  pub left : OnErr r (IsFirstBooks new)
+  pub left : OnErr r (IsBooksOf First new)
   pub was : IsKept new → IsKept old
   pub made : IsKept new → OnOk r (rows_in new.now.trees ≡ rows_of_version First old.now.trees)
   pub same : IsKept new → OnErr r (new.now ≡ old.now)
   pub crash : Survives old new (IsUpgradeOf old.now.trees)
 
-start_kept : {rooms : List ℕ} (old start : State) → BeginsFirst rooms old start → HasCleanDisk start
-    → IsTrue start.is_open → IsKept old
-start_kept old start b clean is_open = (
-  subst (λ (s : State). HasCleanDisk s) b.begun clean,
-  subst (λ (s : State). IsTrue s.is_open) b.begun is_open,
-)
+module _ {rooms : List ℕ} {old start mid : State} (b : Begins First old start)
+    (rooms_are : IsKept old → AreRoomsIn rooms old.now.trees) (did : HasCleanDisk mid → Upgrades rooms start mid)
+    (ran : Survives start mid (λ _. ⊥)) where
+  start_with : HasCleanDisk start → IsTrue start.is_open → IsFirstWith rooms start
+  start_with clean is_open = (
+    start_mid b clean is_open,
+    subst (λ (s : State). AreRoomsIn rooms s.now.trees) (sym b.begun) (rooms_are (start_kept b clean is_open)),
+  )
 
-start_mid : {rooms : List ℕ} (old start : State) → BeginsFirst rooms old start → HasCleanDisk start
-    → IsTrue start.is_open → IsFirstWith rooms start
-start_mid {rooms} old start b clean is_open =
-    let kept = start_kept old start b clean is_open in
-    let desk = b.books.desk kept in
-    subst (IsFirstWith rooms) (sym b.begun) (
-      record { schema = desk.schema; inside = refl; tables = desk.tables },
-      b.rooms_are kept,
-    )
-
--- the desk as it was, where a state has its committed rows
-restored : (old new : State) → IsFirstDesk old → new.now ≡ old.committed → new.committed ≡ old.committed
-    → IsFirstDesk new × (new.now ≡ old.now)
-restored old new desk now committed =
-    let same : new.now ≡ old.now = now ∙ sym desk.settled in (
-      record {
-        schema = ap (λ (d : Database). d.schema) same ∙ desk.schema;
-        settled = now ∙ sym committed;
-        tables = subst (λ (d : Database). AreTablesOf First d.trees) (sym same) desk.tables;
-      },
-      same,
-    )
-
--- a transaction that was given up for a statement that failed
-pub given_up : {rooms : List ℕ} {old start mid new : State} (r : Result (Unit {0}) Error) → IsErr r
-    → BeginsFirst rooms old start → Survives old start (λ _. ⊥) → (HasCleanDisk mid → KeepsCommit start mid)
-    → Survives start mid (λ _. ⊥) → new.in_transaction ≡ false → (HasCleanDisk new → IsRolledBack mid new)
-    → Survives mid new (λ _. ⊥) → Migrates old new r
-given_up (Ok u) is b began commits ran autocommit undone two = absurd cc
-given_up {rooms} {old} {start} {mid} {new} (Err why) is b began commits ran autocommit undone two = record {
-  books = tt;
-  left = record { autocommit = autocommit; desk = λ kept. (back kept).1.0 };
-  was = λ kept. (back kept).0;
-  made = λ kept. tt;
-  same = λ kept. (back kept).1.1;
-  crash = survives_then old mid new (λ _. ⊥) (λ _. ⊥) (IsUpgradeOf old.now.trees) (λ _ _ none. absurd none)
-      (λ _ _ none. absurd none) (none_new began ran) two;
-}
-  where
-    back : IsKept new → IsKept old × (IsFirstDesk new × (new.now ≡ old.now))
-    back kept =
-        let clean_mid : HasCleanDisk mid = omega (arith, two.clean, kept.0) in
-        let clean_start : HasCleanDisk start = omega (arith, ran.clean, clean_mid) in
-        let gone = undone kept.0 in
-        let open_mid = gone.was_open kept.1 in
-        let commit = commits clean_mid in
-        let was = start_kept old start b clean_start (commit.was_open open_mid) in
-        let same = commit.committed open_mid ∙ ap (λ (s : State). s.committed) b.begun in
-        let done = gone.undone kept.1 in
-        (was, restored old new (b.books.desk was) (done.0 ∙ same) (done.1 ∙ same))
-
-module _ {rooms : List ℕ} {old start mid : State} (b : BeginsFirst rooms old start)
-    (did : HasCleanDisk mid → Upgrades rooms start mid) (ran : Survives start mid (λ _. ⊥)) where
   all_steps : HasCleanDisk mid → IsUpgraded start mid
-  all_steps clean =
-      let before : HasCleanDisk start = omega (arith, ran.clean, clean) in did clean (start_mid old start b before)
+  all_steps clean = did clean (start_with (omega (arith, ran.clean, clean)))
 
-  was_kept : HasCleanDisk mid → IsKept old
-  was_kept clean = start_kept old start b (omega (arith, ran.clean, clean)) (all_steps clean).was_open
+  leaves : HasCleanDisk mid → LeavesDesk start mid
+  leaves clean =
+      let all = all_steps clean in record { was_open = all.was_open; committed = all.committed; mid = all.mid }
 
-  start_rows : rows_of_version First start.now.trees ≡ rows_of_version First old.now.trees
-  start_rows = ap (λ (s : State). rows_of_version First s.now.trees) b.begun
-
-  whole : HasCleanDisk mid → (db : Trees) → db ≡ mid.now.trees → IsUpgradeOf old.now.trees db
-  whole clean db is =
+  whole : HasCleanDisk mid → IsUpgradeOf old.now.trees mid.now.trees
+  whole clean =
       let all = all_steps clean in
       record {
-        tables = subst AreTables (sym is) all.mid.tables;
-        sound = subst (IsSound desk_schema) (sym is) (subst (λ s. IsSound s mid.now.trees) all.mid.schema all.sound);
-        rows_are = ap rows_in is ∙ all.rows_are ∙ start_rows;
+        tables = all.mid.tables;
+        sound = subst (λ s. IsSound s mid.now.trees) all.mid.schema all.sound;
+        rows_are = all.rows_are ∙ ap (λ (s : State). rows_of_version First s.now.trees) b.begun;
       }
 
-  abbrev Committed : State → Result (Unit {0}) Error → Type 0
-  Committed new r = OnOk r (IsTrue mid.in_transaction × Shows mid new mid.now mid.now false × KeepsCounts mid new
-      × (new.marks ≡ []))
-
-  module _ {new : State} (r : Result (Unit {0}) Error) (began : Survives old start (λ _. ⊥))
-      (autocommit : new.in_transaction ≡ false) (ok : HasCleanDisk new → Committed new r)
-      (err : HasCleanDisk new → IfErr r (FailsToCommit mid new))
-      (two : Survives mid new (λ db. db ≡ mid.now.trees)) where
-    clean_mid : HasCleanDisk new → HasCleanDisk mid
-    clean_mid clean = omega (arith, two.clean, clean)
-
-    abbrev Ended : Result (Unit {0}) Error → Type 0
-    Ended r = OnOk r (IsDesk new × (rows_in new.now.trees ≡ rows_of_version First old.now.trees))
-        × OnErr r (IsFirstDesk new × (new.now ≡ old.now))
-
-    ends : IsKept new → Ended r
-    ends kept = go r (ok kept.0) (err kept.0)
-      where
-        did_all : IsUpgraded start mid
-        did_all = all_steps (clean_mid kept.0)
-
-        back : IsRolledBack mid new → IsFirstDesk new × (new.now ≡ old.now)
-        back undone =
-            let done = undone.undone kept.1 in
-            let same = did_all.committed ∙ ap (λ (s : State). s.committed) b.begun in
-            restored old new (b.books.desk (was_kept (clean_mid kept.0))) (done.0 ∙ same) (done.1 ∙ same)
-
-        go : (r : Result (Unit {0}) Error) → Committed new r → IfErr r (FailsToCommit mid new) → Ended r
-        go (Ok u) h k =
-            let now = h.1.now_is in (
-              (
-                record {
-                  schema = ap (λ (d : Database). d.schema) now ∙ did_all.mid.schema;
-                  settled = now ∙ sym h.1.committed_is;
-                  tables = subst (λ (d : Database). AreTables d.trees) (sym now) did_all.mid.tables;
-                },
-                ap (λ (d : Database). rows_in d.trees) now ∙ did_all.rows_are ∙ start_rows,
-              ),
-              tt,
-            )
-        go (Err e) h (inl fails) = (tt, back fails.3)
-        go (Err e) h (inr late) = absurd (true≢false (sym did_all.mid.inside ∙ late.1))
-
-    pub migrated : Migrates old new r
-    migrated = record {
-      books = books r ends;
-      left = left r ends;
-      was = λ kept. was_kept (clean_mid kept.0);
-      made = λ kept. made r (ends kept);
-      same = λ kept. same r (ends kept);
-      crash = survives_then old mid new (λ _. ⊥) (λ db. db ≡ mid.now.trees) (IsUpgradeOf old.now.trees)
-          (λ _ db none. absurd none) (λ clean db is. whole (clean_mid clean) db is) (none_new began ran) two;
-    }
-      where
-        books : (r : Result (Unit {0}) Error) → (IsKept new → Ended r) → OnOk r (IsBooks new)
-        books (Ok u) ends = record { autocommit = autocommit; desk = λ kept. (ends kept).0.0 }
-        books (Err e) ends = tt
-
-        left : (r : Result (Unit {0}) Error) → (IsKept new → Ended r) → OnErr r (IsFirstBooks new)
-        left (Ok u) ends = tt
-        left (Err e) ends = record { autocommit = autocommit; desk = λ kept. (ends kept).1.0 }
-
-        made : (r : Result (Unit {0}) Error) → Ended r
-            → OnOk r (rows_in new.now.trees ≡ rows_of_version First old.now.trees)
-        made (Ok u) it = it.0.1
-        made (Err e) it = tt
-
-        same : (r : Result (Unit {0}) Error) → Ended r → OnErr r (new.now ≡ old.now)
-        same (Ok u) it = tt
-        same (Err e) it = it.1.1
+  pub migrated : (new : State) (r : Result (Unit {0}) Error) → Survives old start (λ _. ⊥)
+      → new.in_transaction ≡ false → (HasCleanDisk new → Committed mid new r)
+      → (HasCleanDisk new → IfErr r (FailsToCommit mid new)) → Survives mid new (λ db. db ≡ mid.now.trees)
+      → Migrates old new r
+  migrated new r began autocommit ok err survives =
+      let it = finished b leaves ran r autocommit ok err survives in
+      record {
+        books = it.books;
+        left = it.left;
+        was = it.was;
+        made = λ kept. on_ok_weaker r (λ now. ap (λ (d : Database). rows_in d.trees) now
+            ∙ (whole (omega (arith, survives.clean, kept.0))).rows_are) (it.made kept);
+        same = it.same;
+        crash = or_committed began ran survives whole;
+      }

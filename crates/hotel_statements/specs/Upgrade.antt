@@ -1,5 +1,5 @@
 -- A desk of the first version, and what makes one of the second of it.
-use Rattle.std.specs.Prelude.{◌≡◌, ◌<◌, ℕ, false, List, [], IsTrue}
+use Rattle.std.specs.Prelude.{◌≡◌, ◌<◌, ℕ, List, [], IsTrue}
 use Rattle.std.specs.List.{AllByRecursion}
 use Rattle.std.specs.Map.{keys_of}
 use Rattle.sqlite.specs.Tree.{Trees}
@@ -12,28 +12,10 @@ use Rattle.hotel_model.specs.Refits.{fit_row}
 use Rattle.hotel_rows.specs.Joined.{FitEntries}
 use Rattle.hotel_statements.specs.declared.version.Version.TheVariants.{First}
 use Rattle.hotel_statements.specs.Trees.{fit_tree}
-use Rattle.hotel_statements.specs.Schema.{first_schema, desk_schema}
+use Rattle.hotel_statements.specs.Schema.{desk_schema}
 use Rattle.hotel_statements.specs.Tables.{AreTablesOf, AreTables, bare_rooms_in, fits_in, rows_in, bare_rows_in}
 use Rattle.hotel_statements.specs.Tables.{rows_of_version}
-use Rattle.hotel_statements.specs.Books.{IsKept}
-use Rattle.hotel_statements.specs.Steps.{IsMid}
-
--- The tables are those of a desk of the first version, and nothing is left uncommitted.
-pub record IsFirstDesk (s : State) : Type 0 where
-  pub schema : s.now.schema ≡ first_schema
-  pub settled : s.now ≡ s.committed
-  pub tables : AreTablesOf First s.now.trees
-
--- What is true of the connection to a desk of the first version, whatever has failed.
-pub record IsFirstBooks (s : State) : Type 0 where
-  pub autocommit : s.in_transaction ≡ false
-  pub desk : IsKept s → IsFirstDesk s
-
--- Within a transaction, the tables are those of a desk of the first version.
-pub record IsFirstMid (s : State) : Type 0 where
-  pub schema : s.now.schema ≡ first_schema
-  pub inside : IsTrue s.in_transaction
-  pub tables : AreTablesOf First s.now.trees
+use Rattle.hotel_statements.specs.Steps.{IsMidOf, IsMid}
 
 -- these are the rooms, in order
 abbrev pub AreRoomsIn : List ℕ → Trees → Type 0
@@ -41,7 +23,7 @@ AreRoomsIn rooms db = rooms ≡ keys_of (bare_rooms_in db)
 
 -- within a transaction, the tables are those of a desk of the first version, and these are its rooms
 abbrev pub IsFirstWith : List ℕ → State → Type 0
-IsFirstWith rooms s = IsFirstMid s × AreRoomsIn rooms s.now.trees
+IsFirstWith rooms s = IsMidOf First s × AreRoomsIn rooms s.now.trees
 
 -- Within one transaction, a desk of the first version became one of the second, with its rows.
 pub record IsUpgraded (old new : State) : Type 0 where

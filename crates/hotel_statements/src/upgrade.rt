@@ -1,9 +1,11 @@
 //! The statements that make a desk of the second version of one of the first, within a transaction.
 ghost use Rattle.std.specs.Prelude.{◌≡◌, ◌++◌, [], ◌∷◌};
 ghost use Rattle.sqlite.specs.Held.{state};
+ghost use Rattle.hotel_statements.specs.declared.version.Version.TheVariants.{First};
 ghost use Rattle.hotel_statements.specs.Statements.{MakesBy, adds_first_fit, makes_new, makes_second, sets_version};
 ghost use Rattle.hotel_statements.specs.Tables.{fits_in};
-ghost use Rattle.hotel_statements.specs.Upgrade.{Upgrades, GivesFits, IsOutdated, IsBefore, IsFirstMid, first_of};
+ghost use Rattle.hotel_statements.specs.Steps.{IsMidOf};
+ghost use Rattle.hotel_statements.specs.Upgrade.{Upgrades, GivesFits, IsOutdated, IsBefore, first_of};
 
 use crate::new_desk::make_new;
 use crate::number::{numbered, small};
@@ -41,7 +43,7 @@ fn insert_first_fit<S: Alter>(tx: &mut Transaction<'_, S>, room: RoomNo) -> Resu
 /// Makes the table of fits and the indexes, and has meta tell the second version.
 fn upgrade_tables<S: Alter>(tx: &mut Transaction<'_, S>) -> Result<(), Error>
     ensures same_reference { tx.new.conn.ghost_name ≡ tx.old.conn.ghost_name }
-    ensures makes { MakesBy S.Store (makes_second []) (GivesFits IsFirstMid [])
+    ensures makes { MakesBy S.Store (makes_second []) (GivesFits (IsMidOf First) [])
         tx.old.conn.now tx.new.conn.now result }
 {
     make_new(tx)?;

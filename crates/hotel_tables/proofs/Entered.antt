@@ -14,13 +14,14 @@ use Rattle.hotel_statements.specs.LookUps.{fault_of}
 use Rattle.hotel_statements.specs.declared.version.Version.{Version}
 use Rattle.hotel_statements.specs.declared.version.Version.TheVariants.{First, Second}
 use Rattle.hotel_statements.specs.Schema.{first_schema, desk_schema, schema_of}
-use Rattle.hotel_statements.specs.Tables.{AreTablesOf, AreTables, rows_in, rows_of_version}
-use Rattle.hotel_statements.specs.Books.{IsKept, IsBooks, KeepsRows}
+use Rattle.hotel_statements.specs.Tables.{rows_in, rows_of_version}
+use Rattle.hotel_statements.specs.Books.{IsKept, IsBooks, IsBooksOf, KeepsRows}
 use Rattle.hotel_statements.specs.Statements.{makes_second}
 use Rattle.hotel_statements.specs.WholeTables.{IsOurs, AreRead, ReadsTo}
 use Rattle.hotel_statements.specs.declared.whole_tables.Tables.{Tables}
-use Rattle.hotel_statements.specs.Upgrade.{IsFirstBooks, AreRoomsIn, IsUpgradeOf}
+use Rattle.hotel_statements.specs.Upgrade.{AreRoomsIn, IsUpgradeOf}
 use Rattle.hotel_statements.proofs.SameSchema.{not_both}
+use Rattle.hotel_statements.proofs.Books.{desk_shown}
 use Rattle.hotel_tables.specs.declared.open_fault.OpenFault.{OpenFault}
 use Rattle.hotel_tables.specs.declared.open_fault.OpenFault.TheVariants as fault
 use Rattle.hotel_tables.specs.declared.opening.Found.{Found}
@@ -76,8 +77,7 @@ of_neither second first (First, is) = first is
 of_neither second first (Second, is) = second is
 
 pub sound_of : (s : State) → IsSoundDesk s → IsOfVersion s.now.schema
-sound_of s (First, desk, sound) = (First, desk.schema)
-sound_of s (Second, desk, sound) = (Second, desk.schema)
+sound_of s (version, desk, sound) = (version, desk.schema)
 
 -- ---- an opening that was refused
 
@@ -104,22 +104,23 @@ entered_not {fails} version old new why has read opens = record {
   crash = λ kept. survives_weaker old new _ _ (λ _ db none. absurd (none kept)) opens.crash;
 }
 
+-- ---- a desk that was read
+
+-- its rows are those of a desk of its version
+pub books_read : {version : Version} {found : Found} {old new : State} → old.now.schema ≡ schema_of version
+    → Opens version old new (Ok found) → IsBooksOf version new
+books_read has opens = record {
+  autocommit = opens.ours.autocommit;
+  desk = λ kept. desk_shown has (opens.found kept).tables (opens.keeps kept).1 (opens.ours.tables kept).1;
+}
+
 -- ---- a desk of the second version
 
 pub entered_second : {fails : LookFault → Version → Type 0} {found : Found} (old new : State)
     → old.now.schema ≡ desk_schema → Opens Second old new (Ok found) → Enters fails old new (Ok found.counts)
 entered_second {fails} {found} old new has opens = record {
   autocommit = opens.ours.autocommit;
-  books = record {
-    autocommit = opens.ours.autocommit;
-    desk = λ kept.
-        let same = (opens.keeps kept).1 in
-        record {
-          schema = ap (λ (d : Database). d.schema) same ∙ has;
-          settled = (opens.ours.tables kept).1;
-          tables = subst (λ (d : Database). AreTables d.trees) (sym same) (opens.found kept).tables;
-        };
-  };
+  books = books_read has opens;
   was = λ kept. (opens.keeps kept).0;
   continues = λ kept. inl (has, (opens.keeps kept).1);
   whole = λ first kept. absurd (not_both old.now.schema has first);
@@ -138,19 +139,6 @@ entered_second {fails} {found} old new has opens = record {
 
 module _ {found : Found} {old mid : State} (has : old.now.schema ≡ first_schema)
     (opens : Opens First old mid (Ok found)) where
-  -- its rows were read, and are those of such a desk
-  pub first_books : IsFirstBooks mid
-  first_books = record {
-    autocommit = opens.ours.autocommit;
-    desk = λ kept.
-        let same = (opens.keeps kept).1 in
-        record {
-          schema = ap (λ (d : Database). d.schema) same ∙ has;
-          settled = (opens.ours.tables kept).1;
-          tables = subst (λ (d : Database). AreTablesOf First d.trees) (sym same) (opens.found kept).tables;
-        };
-  }
-
   pub first_rooms : IsKept mid → AreRoomsIn found.rooms.items mid.now.trees
   first_rooms kept =
       subst (λ (d : Database). AreRoomsIn found.rooms.items d.trees) (sym (opens.keeps kept).1) (opens.found kept).rooms
@@ -213,10 +201,8 @@ module _ {found : Found} {old mid : State} (has : old.now.schema ≡ first_schem
 
 pub of_call : (failed : Version → Type 0) (s : State) (why : OpenFault) → FaultFitsIn failed s.now why → IsSoundDesk s
     → IsOfCall why
-of_call failed s why fits (First, desk, sound) =
-    of_a_call (failed First) First s.now.trees why desk.tables sound (fits First desk.schema)
-of_call failed s why fits (Second, desk, sound) =
-    of_a_call (failed Second) Second s.now.trees why desk.tables sound (fits Second desk.schema)
+of_call failed s why fits (version, desk, sound) =
+    of_a_call (failed version) version s.now.trees why desk.tables sound (fits version desk.schema)
 
 module _ {S : Type 0} (g : Ghosts S) where
   -- the making of a desk of the second version failed

@@ -36,15 +36,15 @@ use Rattle.hotel_rows.specs.declared.stored.PlainFit.{PlainFit}
 use Rattle.hotel_rows.specs.declared.stored.PlainInside.{PlainInside}
 use Rattle.hotel_rows.specs.Damage.{first_damaged_of}
 use Rattle.hotel_statements.specs.declared.version.Version.{Version}
-use Rattle.hotel_statements.specs.declared.version.Version.TheVariants.{First, Second}
+use Rattle.hotel_statements.specs.declared.version.Version.TheVariants.{First}
 use Rattle.hotel_statements.specs.Schema.{first_schema, desk_schema, schema_of}
 use Rattle.hotel_statements.specs.Tables.{HasId, AreApart, AreApartIds, AreTablesOf, number_of_version, rows_in}
 use Rattle.hotel_statements.specs.Tables.{rows_of_version}
-use Rattle.hotel_statements.specs.Books.{IsKept, IsBooks, IsDesk, KeepsRows}
+use Rattle.hotel_statements.specs.Books.{IsKept, IsBooks, IsDeskOf, KeepsRows}
 use Rattle.hotel_statements.specs.LookUps.{LeavesNoMore}
 use Rattle.hotel_statements.specs.WholeTables.{IsOurs, AreFitRows, AreRead, ReadsTo}
 use Rattle.hotel_statements.specs.declared.whole_tables.Tables.{Tables}
-use Rattle.hotel_statements.specs.Upgrade.{IsFirstDesk, AreRoomsIn, IsUpgradeOf}
+use Rattle.hotel_statements.specs.Upgrade.{AreRoomsIn, IsUpgradeOf}
 use Rattle.hotel_tables.specs.Applied.{LeavesAll}
 use Rattle.hotel_tables.specs.TableBooks.{IsCounted}
 
@@ -153,11 +153,6 @@ MemoryFitsIn failed old new why =
 -- the tables are those of a desk, of one of the versions
 abbrev pub IsOfVersion : Schema → Type 0
 IsOfVersion schema = (version : Version) × (schema ≡ schema_of version)
-
--- The tables are those of a desk that books of a version left, and nothing is left uncommitted.
-abbrev pub IsDeskOf : Version → State → Type 0
-IsDeskOf First s = IsFirstDesk s
-IsDeskOf Second s = IsDesk s
 
 -- The tables are those of a desk of one of the versions, and what it holds is sound.
 abbrev pub IsSoundDesk : State → Type 0

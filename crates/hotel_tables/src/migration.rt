@@ -5,8 +5,8 @@ ghost use Rattle.sqlite.specs.State.{HasCleanDisk, Survives};
 ghost use Rattle.hotel_statements.specs.declared.version.Version.TheVariants.{First};
 ghost use Rattle.hotel_statements.specs.Statements.{makes_second};
 ghost use Rattle.hotel_statements.specs.Tables.{rows_in, rows_of_version};
-ghost use Rattle.hotel_statements.specs.Books.{IsKept, IsBooks};
-ghost use Rattle.hotel_statements.specs.Upgrade.{IsFirstBooks, AreRoomsIn, IsUpgradeOf};
+ghost use Rattle.hotel_statements.specs.Books.{IsKept, IsBooks, IsBooksOf};
+ghost use Rattle.hotel_statements.specs.Upgrade.{AreRoomsIn, IsUpgradeOf};
 ghost use Rattle.hotel_tables.specs.Applied.{LeavesAll};
 ghost use Rattle.hotel_tables.specs.Causes.{FailsToWrite};
 
@@ -16,10 +16,10 @@ use sqlite::{Alter, Connection, Error};
 
 /// Makes a desk of the second version of one of the first, whole or not at all; its rooms are given.
 pub(crate) fn migrate<S: Alter>(conn: &mut Connection<S>, rooms: &[RoomNo]) -> Result<(), Error>
-    requires books { IsFirstBooks (state S.Store conn.old) }
+    requires books { IsBooksOf First (state S.Store conn.old) }
     requires rooms { IsKept (state S.Store conn.old) → AreRoomsIn rooms.now (state S.Store conn.old).now.trees }
     ensures books { OnOk result (IsBooks (state S.Store conn.new)) }
-    ensures left { OnErr result (IsFirstBooks (state S.Store conn.new)) }
+    ensures left { OnErr result (IsBooksOf First (state S.Store conn.new)) }
     ensures was { IsKept (state S.Store conn.new) → IsKept (state S.Store conn.old) }
     ensures made { IsKept (state S.Store conn.new) → OnOk result
         (rows_in (state S.Store conn.new).now.trees ≡ rows_of_version First (state S.Store conn.old).now.trees) }

@@ -3,7 +3,9 @@ use Rattle.std.specs.Prelude.{IfErr}
 use Rattle.sqlite.specs.Held.{state}
 use Rattle.sqlite.specs.State.{Survives}
 use Rattle.hotel_model.specs.Refinement.Change.{made}
-use Rattle.hotel_statements.proofs.Ends.{Begins, Ends, ended}
+use Rattle.hotel_statements.specs.declared.version.Version.TheVariants.{Second}
+use Rattle.hotel_statements.proofs.Transaction.{Begins}
+use Rattle.hotel_statements.proofs.Ends.{Ends, ended}
 use Rattle.hotel_statements.specs.Statements.{statements_of}
 use Rattle.hotel_statements.proofs.InTurn.{answered}
 use Rattle.hotel_tables.specs.Causes.{FailsToWrite}
@@ -20,15 +22,16 @@ pub returns : goal.returns
 returns g c =
     let old = state g.S.Store c.args.conn.now in
     let start = state g.S.Store c.transaction-tx.result.conn.now in
-    let begins : Begins old start = record {
+    let begins : Begins Second old start = record {
       books = c.requires.books;
       begun = ap (state g.S.Store)
           c.transaction-tx.ensures.begun;
     } in
     let zero : Survives old start (λ _. ⊥) = search rules in
-    let it : Ends (made c.args.change.now) old (state g.S.Store c.commit.new.self.0) c.commit.result =
-    ended begins c.requires.fits c.in_ok-write_change.ensures.makes.rows c.commit.result zero c.commit.ensures.ended
-    c.commit.ensures.ok c.commit.ensures.err c.commit.ensures.survives in
+    let new = state g.S.Store c.commit.new.self.0 in
+    let it : Ends (made c.args.change.now) old new c.commit.result =
+    ended begins c.requires.fits c.in_ok-write_change.ensures.makes.rows new c.commit.result zero
+    c.commit.ensures.ended c.commit.ensures.ok c.commit.ensures.err c.commit.ensures.survives in
     let failed : IfErr c.commit.result (FailsToWrite g.S.Store (statements_of c.args.change.now c.args.known)
     c.args.conn.now c.commit.new.self.0) =
     not_committed g.S.Store c.args.conn.now c.transaction-tx.result.conn.now c.write_change.new.tx.conn.now

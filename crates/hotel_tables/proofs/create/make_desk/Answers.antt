@@ -6,7 +6,7 @@ use Rattle.sqlite.specs.State.{HasCleanDisk, Survives}
 use Rattle.sqlite.proofs.StateLemmas.{survives_weaker}
 use Rattle.hotel_statements.specs.Books.{IsKept}
 use Rattle.hotel_statements.specs.NewDesk.{IsEmptyDesk}
-use Rattle.hotel_statements.proofs.Ends.{none_new}
+use Rattle.hotel_statements.proofs.Transaction.{none_new}
 use Rattle.hotel_statements.proofs.InTurn.{answered}
 use Rattle.hotel_tables.specs.Causes.{FailsToWrite}
 use Rattle.hotel_tables.specs.Exits.{makes_desk}

@@ -5,7 +5,7 @@ use Rattle.hotel_statements.specs.Books.{IsKept}
 use Rattle.hotel_statements.specs.Upgrade.{AreRoomsIn}
 use Rattle.hotel_tables.specs.Opening.{Enters}
 use Rattle.hotel_tables.specs.Exits.{CallFails}
-use Rattle.hotel_tables.proofs.Entered.{first_books, first_rooms, entered_first, entered_not, not_upgraded}
+use Rattle.hotel_tables.proofs.Entered.{books_read, first_rooms, entered_first, entered_not, not_upgraded}
 use Rattle.hotel_tables.proofs.Entered.{upgrade_fails}
 use Rattle.hotel_tables.proofs.entering.enter_first.Goals as goal
 
@@ -15,7 +15,7 @@ returns-in-Err g c =
     c.in-Err.why c.requires.first (λ cause reads. inl reads) c.in-Err.ensures
 
 pub migrate-requires-clause-books : goal.migrate-requires-clause-books
-migrate-requires-clause-books g c = first_books c.requires.first c.in-Ok.ensures
+migrate-requires-clause-books g c = books_read c.requires.first c.in-Ok.ensures
 
 pub migrate-requires-clause-rooms : goal.migrate-requires-clause-rooms
 migrate-requires-clause-rooms g c = λ kept.

@@ -10,7 +10,9 @@ use Rattle.hotel_statements.specs.Statements.{makes_second}
 use Rattle.hotel_tables.specs.Causes.{FailsToWrite}
 use Rattle.hotel_tables.proofs.Causes.{not_run, not_committed}
 use Rattle.hotel_statements.proofs.InTurn.{answered}
-use Rattle.hotel_statements.proofs.Upgraded.{BeginsFirst, Migrates, migrated}
+use Rattle.hotel_statements.specs.declared.version.Version.TheVariants.{First}
+use Rattle.hotel_statements.proofs.Transaction.{Begins}
+use Rattle.hotel_statements.proofs.Upgraded.{Migrates, migrated}
 use Rattle.hotel_tables.proofs.migration.migrate.Goals as goal
 
 pub returns : goal.returns
@@ -18,14 +20,14 @@ returns g c =
     let old = state g.S.Store c.args.conn.now in
     let start = state g.S.Store c.transaction-tx.result.conn.now in
     let new = state g.S.Store c.commit.new.self.0 in
-    let begins : BeginsFirst c.args.rooms.now old start = record {
+    let begins : Begins First old start = record {
       books = c.requires.books;
-      rooms_are = c.requires.rooms;
       begun = ap (state g.S.Store) c.transaction-tx.ensures.begun;
     } in
     let zero : Survives old start (λ _. ⊥) = search rules in
     let it : Migrates old new c.commit.result =
-    migrated begins c.in_ok-upgrade.ensures.makes.made c.in_ok-upgrade.ensures.makes.survives c.commit.result zero
+    migrated begins c.requires.rooms c.in_ok-upgrade.ensures.makes.made c.in_ok-upgrade.ensures.makes.survives
+    new c.commit.result zero
     c.commit.ensures.ended c.commit.ensures.ok c.commit.ensures.err c.commit.ensures.survives in
     let whole : IsKept new → OnOk c.commit.result (LeavesAll new) = λ kept.
     on_ok_weaker c.commit.result
