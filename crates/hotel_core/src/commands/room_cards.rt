@@ -60,7 +60,8 @@ pub(crate) fn issue<B: Books, R: Rng>(
     requires there { B.is_clean books.old → room_at (B.rows books.old) room ≡ Some row.now }
     requires outcome { B.is_clean books.old → IsOutcome (B.rows books.old)
         (issued_on (B.rows books.old) (words MOST_WORDS (R.stream source.old)) party room leaves) }
-    ensures { StepsAs B.Issued B.Books.own (λ rows. issued_on rows (words MOST_WORDS (R.stream source.old)) party room leaves)
+    ensures { StepsAs B.Issued B.Books.own
+        (λ rows. issued_on rows (words MOST_WORDS (R.stream source.old)) party room leaves)
         books.old books.new (R.stream source.old) (R.stream source.new) (reply_of result) }
 {
     let number = next_card(books)?;
