@@ -1,6 +1,6 @@
 -- Tables as sorted lists, whatever the order of their trees.
 use Rattle.std.proofs.Common.{◌≡◌, ◌<◌, not, inl, inr, refl, sym, ap, subst, ◌∙◌, List, [], ◌∷◌, ◌+◌, length, ℕ, zero}
-use Rattle.std.proofs.Common.{suc, false, Bool, cond, map, filter, arith, Ordering, Less, Equal, Greater, is_eq}
+use Rattle.std.proofs.Common.{suc, true, false, Bool, cond, map, filter, arith, Ordering, Less, Equal, Greater, is_eq}
 use Rattle.std.proofs.Common.{is_lt, is_gt, true≢false, get_or, add-one}
 use Rattle.std.specs.Ordering.{match_ordering, ordering_reverse}
 use Rattle.std.specs.Cmp.{IsTotalOrder}
@@ -16,7 +16,7 @@ use Rattle.sqlite_rules.specs.Edit.{is_taken}
 use Rattle.sqlite_keyed.specs.Lists.{insert_sorted, sort_by}
 use Rattle.std.proofs.lemmas.List.Elements.{recursion_from_All, All-from_recursion}
 use Rattle.sqlite_keyed.proofs.ListLemmas.{all_weaker, all-filter, along_permutation, IsPermutation-filter}
-use Rattle.sqlite_keyed.proofs.ListLemmas.{ascending-filter}
+use Rattle.sqlite_keyed.proofs.ListLemmas.{filter_all, ascending-filter}
 use Rattle.hotel_statements.specs.Tables.{IsTableOf, listed, AreApartIds}
 use Rattle.sqlite_keyed.proofs.SortLemmas.{HasNoTies, sorted_is-sort_by, sorted_unique, IsPermutation-sort_by}
 
@@ -176,8 +176,7 @@ found_of P p xs x all is = (subst (AllByRecursion P) is (all-filter P p xs all))
 -- where none passes, none is left out
 pub all_left : {A : Type 0} (p : A → Bool) (xs : List A)
     → AllByRecursion (λ x. p x ≡ false) xs → filter (λ x. not (p x)) xs ≡ xs
-all_left p [] none = refl
-all_left p (x ∷ xs) none = rw none.0 (ap (λ rest. x ∷ rest) (all_left p xs none.1))
+all_left p xs none = filter_all _ xs (all_weaker _ (λ x. not (p x) ≡ true) (λ x other. ap not other) xs none)
 
 pub apart_filtered : (p : Row → Bool) (rows : List Row) → AreApartIds rows → AreApartIds (filter p rows)
 apart_filtered p rows apart = ascending-filter _ p rows apart

@@ -6,14 +6,13 @@ use Rattle.std.specs.Cmp.{IsTotalOrder}
 use Rattle.std.proofs.lemmas.List.Sorted.{IsPermutation-map, IsPermutation-sym}
 use Rattle.sqlite.specs.Order.{Row}
 use Rattle.sqlite.specs.Tree.{IsAscending}
-use Rattle.sqlite_keyed.proofs.ListLemmas.{all_unmap, ascending_weaker}
+use Rattle.sqlite_keyed.proofs.ListLemmas.{map-map, all_unmap, ascending_weaker}
 use Rattle.sqlite_keyed.proofs.SortLemmas.{sorted_is-sort_by}
 use Rattle.hotel_model.specs.SoundRooms.{are_in_order}
 use Rattle.hotel_model.proofs.OfTables.KeysInOrder.{AllAfter, InOrder}
 use Rattle.hotel_model.proofs.Starts.StartOrder.{in_order_from}
 use Rattle.hotel_statements.specs.Tables.{IsTable, IsWrittenAs, AreApart, listed}
 use Rattle.hotel_statements.specs.PlainRows.{ArePlainRows}
-use Rattle.hotel_statements.proofs.Answers.{fused}
 use Rattle.hotel_statements.proofs.Perm.{every_shuffled, sorted_rises, apart_permuted}
 
 -- ---- keys that pass the test of order
@@ -75,10 +74,10 @@ module _ {L X : Type 0} (cmp : X → X → Ordering) (total : IsTotalOrder cmp) 
       let first : IsPermutation (map of (map columns rows)) (map of (map shown plain_rows)) =
       IsPermutation-map of _ _ same in
       let moved : IsPermutation (map (λ r. of (columns r)) rows) (map of (map shown plain_rows)) =
-      subst (λ xs. IsPermutation xs (map of (map shown plain_rows))) (fused of columns rows) first in
+      subst (λ xs. IsPermutation xs (map of (map shown plain_rows))) (map-map of columns rows) first in
       let mapped : IsPermutation (map (λ r. of (columns r)) rows) (map entry plain_rows) =
       subst (λ ys. IsPermutation (map (λ r. of (columns r)) rows) ys)
-      (fused of shown plain_rows ∙ entries plain_rows all) moved in
+      (map-map of shown plain_rows ∙ entries plain_rows all) moved in
       let apart : AreApart cmp (map entry plain_rows) =
       ascending_weaker _ _ (λ a b less. ap is_eq less) (map entry plain_rows) up in
       let own = apart_permuted cmp total _ _ (IsPermutation-sym _ _ mapped) apart in (

@@ -43,23 +43,21 @@ module _ {X : Type 0} (columns : Row → Row) (of : Row → ℕ × X) (written :
   outs tree terms params r = output (single tree by_rowid terms []) (env params r)
 
   pub sourced : (tree : ℕ) (terms : List Term) (k : ℕ) (more : Row) (db : Trees) (given : List Row)
-      → overlay db [] tree ≡ db tree → IsTable (by_key nat_cmp) columns of written (db tree)
+      → IsTable (by_key nat_cmp) columns of written (db tree)
       → IsAnswer (single tree by_rowid terms []) (overlay db []) (int k ∷ more) given
       → ((filter (λ r. eqb (of (columns r)).0 k) (db tree) ≡ []) × (given ≡ []))
       ⊎ ((r : Row) × Sourced terms k more (db tree) given r)
-  sourced tree terms k more db given bare was a =
-      let it = answered tree by_rowid terms [] (overlay db []) (int k ∷ more) given a in
-      let answers = subst (λ rs. IsPermutation
-      (map (outs tree terms (int k ∷ more)) (filter (passes by_rowid (int k ∷ more)) rs)) it.ordered) bare it.same in
+  sourced tree terms k more db given was a =
+      let it = answered tree by_rowid terms [] db (int k ∷ more) given a in
       let same = same_filter k more (db tree) was.good in
       elim (few columns of written numbered k (db tree) was.apart) [
         | inl none ↦
             let ordered : it.ordered ≡ [] = none_permuted it.ordered
-            (subst (λ rs. IsPermutation (map (outs tree terms (int k ∷ more)) rs) it.ordered) (same ∙ none) answers) in
+            (subst (λ rs. IsPermutation (map (outs tree terms (int k ∷ more)) rs) it.ordered) (same ∙ none) it.same) in
             inl (none, it.shown ∙ ap (map (λ o. o.1)) ordered)
         | inr one ↦
             let ordered : it.ordered ≡ outs tree terms (int k ∷ more) one.0 ∷ [] = one_permutation _ it.ordered
-            (subst (λ rs. IsPermutation (map (outs tree terms (int k ∷ more)) rs) it.ordered) (same ∙ one.1) answers) in
+            (subst (λ rs. IsPermutation (map (outs tree terms (int k ∷ more)) rs) it.ordered) (same ∙ one.1) it.same) in
             inr (
               one.0,
               record {

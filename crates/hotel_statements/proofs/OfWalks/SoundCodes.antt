@@ -1,13 +1,14 @@
 -- The codes of sound rows: each is found by its number and at its place, and no other code stands there.
 use Rattle.std.proofs.Common.{ℕ, ◌≡◌, Bool, true, false, cond, Option, Some, None, List, [], ◌∷◌, length, map, filter}
-use Rattle.std.proofs.Common.{inl, inr, refl, ap, ap₂, sym, ◌∙◌, subst, arith, Less, nat_cmp, true≢false}
+use Rattle.std.proofs.Common.{refl, ap, ap₂, sym, ◌∙◌, subst, arith, Less, nat_cmp, true≢false}
 use Rattle.std.specs.Prelude.{◌&&◌, ◌==◌}
 use Rattle.std.specs.List.{AllByRecursion}
 use Rattle.std.specs.Option.{option_to_list}
 use Rattle.std.specs.BTreeMap.{is_at}
-use Rattle.std.proofs.lemmas.Bool.{cases_Bool}
 use Rattle.std.proofs.lemmas.Bool.Decides.{nat_tests}
 use Rattle.std.proofs.lemmas.Cmp.{nat_cmp_total}
+use Rattle.std.proofs.lemmas.List.Elements.{filter_passes, recursion_from_All}
+use Rattle.sqlite_keyed.proofs.ListLemmas.{all_both}
 use Rattle.sqlite.specs.Tree.{IsAscending}
 use Rattle.hotel_model.specs.declared.rows.CodeRow.{CodeRow}
 use Rattle.hotel_model.specs.declared.rows.RoomRow.{RoomRow}
@@ -23,12 +24,6 @@ use Rattle.hotel_model.proofs.Starts.StartSplits.{SplitsAt, split_at, length_val
 use Rattle.hotel_model.proofs.Starts.StartSearch.{found_is_row, found_at_start}
 use Rattle.hotel_statements.specs.Tables.{by_key}
 use Rattle.hotel_statements.proofs.{Found.one_entry, Lists.stands_at}
-
--- what is known of each two, each two of which are so
-pub all_both : {X : Type 0} (P Q R : X → Type 0) → ((x : X) → P x → Q x → R x) → (xs : List X)
-    → AllByRecursion P xs → AllByRecursion Q xs → AllByRecursion R xs
-all_both P Q R both [] p q = tt
-all_both P Q R both (x ∷ xs) p q = (both x p.0 q.0, all_both P Q R both xs p.1 q.1)
 
 -- each entry is found by its key
 pub finds_itself : {V : Type 0} (es : List (ℕ × V))
@@ -50,11 +45,7 @@ filter_all p q [] same = refl
 filter_all p q (x ∷ xs) same = ap₂ (λ b ys. cond b (x ∷ ys) ys) same.0 (filter_all p q xs same.1)
 
 pub filter_passing : {X : Type 0} (p : X → Bool) (xs : List X) → AllByRecursion (λ x. p x ≡ true) (filter p xs)
-filter_passing p [] = tt
-filter_passing p (x ∷ xs) = elim (cases_Bool (p x)) [
-  | inl is ↦ rw is (is, filter_passing p xs)
-  | inr other ↦ rw other (filter_passing p xs)
-]
+filter_passing p xs = recursion_from_All _ _ (filter_passes p xs)
 
 module _ (rows : Rows) (sound : IsSound rows) (rises : IsAscending (λ a b. by_key nat_cmp a b ≡ Less) rows.codes) where
   abbrev Placed : Type 0
