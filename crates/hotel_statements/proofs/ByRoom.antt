@@ -8,7 +8,7 @@ use Rattle.std.specs.BTreeMap.{is_at}
 use Rattle.std.proofs.lemmas.Bool.{cases_Bool}
 use Rattle.std.proofs.lemmas.Bool.Decides.{nat_tests}
 use Rattle.std.proofs.lemmas.List.Sorted.{IsPermutation-refl}
-use Rattle.sqlite_keyed.proofs.ListLemmas.{all-map, map-map, all-filter}
+use Rattle.sqlite_keyed.proofs.ListLemmas.{all_weaker, all-map, map-map, all-filter}
 use Rattle.sqlite_value.specs.declared.keys.Key.{Key}
 use Rattle.sqlite.specs.Order.{Row, column}
 use Rattle.sqlite.specs.Query.{Query, IsAnswer}
@@ -29,6 +29,7 @@ use Rattle.hotel_statements.specs.Tables.{AreTables, IsTable, IsWrittenAs, by_ke
 use Rattle.hotel_statements.specs.Tables.{bare_notes_in}
 use Rattle.hotel_statements.specs.LookUps.{AnswersAll, numbered_fit}
 use Rattle.hotel_statements.specs.Walks.{note_under}
+use Rattle.hotel_statements.proofs.Found.{map_all}
 use Rattle.hotel_statements.proofs.Answers.{single, env}
 use Rattle.hotel_statements.proofs.Statements.Terms.{column_is, columns, all_eight}
 use Rattle.hotel_statements.proofs.Keys.{and_true}
@@ -136,10 +137,8 @@ notes_said db t room fits are all a =
     (λ r good. ap (λ v. column v 1) good) (λ r. refl) t.note a.0 a.1 in
     let reads = all-filter _ (is_in room) es (reads_back pair_cmp pair_cmp_total note_columns note_of note_written
     note_row_of (λ v. refl) (db note_tree) t.note) in
-    a.2 ∙ ap (map (note_under fits)) rows ∙ map-map (note_under fits) note_written fs ∙ each fs reads
+    a.2 ∙ ap (map (note_under fits)) rows ∙ map-map (note_under fits) note_written fs
+    ∙ map_all (λ e. note_under fits (note_written e)) (noted fits) fs
+    (all_weaker (λ (e : (ℕ × ℕ) × Note). note_row_of (note_written e) ≡ e.1) _
+    (λ e read. ap (with_count (fit_of_number fits e.0.1) e.0.1) read) fs reads)
     ∙ ap (λ f. map (noted f) fs) are ∙ notes_listed (fits_in db) room es
-  where
-    each : (fs : List ((ℕ × ℕ) × Note)) → AllByRecursion (λ (e : (ℕ × ℕ) × Note). note_row_of (note_written e) ≡ e.1)
-        fs → map (λ e. note_under fits (note_written e)) fs ≡ map (noted fits) fs
-    each [] reads = refl
-    each (e ∷ fs) reads = ap₂ (λ n ns. with_count (fit_of_number fits e.0.1) e.0.1 n ∷ ns) reads.0 (each fs reads.1)

@@ -1,5 +1,5 @@
 -- The walk over the rooms with a registered party.
-use Rattle.std.proofs.Common.{if◌then◌else◌, ◌≡◌, ◌∙◌, refl, sym, ap, ap₂, subst, List, [], ◌∷◌, ◌++◌, ℕ, Bool, true}
+use Rattle.std.proofs.Common.{if◌then◌else◌, ◌≡◌, ◌∙◌, refl, sym, ap, ap₂, subst, List, [], ◌∷◌, ℕ, Bool, true}
 use Rattle.std.proofs.Common.{false, Option, Some, None, map, flat_map, Less, nat_cmp, eqb}
 use Rattle.std.specs.Prelude.{filter_map, option_map, ◌==◌}
 use Rattle.std.specs.List.{list_all}
@@ -8,7 +8,8 @@ use Rattle.std.specs.BTreeMap.{is_at}
 use Rattle.std.specs.List.Sorted.{IsPermutation}
 use Rattle.std.proofs.lemmas.Cmp.{nat_cmp_total}
 use Rattle.std.proofs.lemmas.List.Concat.{flat_map_single}
-use Rattle.sqlite_keyed.proofs.ListLemmas.{ascending-map, map-map, ascending_weaker, all_weaker, flat_map_none}
+use Rattle.sqlite_keyed.proofs.ListLemmas.{map-map, all_weaker, ascending-map, ascending_weaker, flat_map_none}
+use Rattle.sqlite_keyed.proofs.ListLemmas.{flat_map_same_on}
 use Rattle.sqlite_value.specs.declared.value.Value.TheVariants.{Text}
 use Rattle.sqlite_value.specs.declared.keys.Collation.TheVariants.{Binary}
 use Rattle.sqlite_value.specs.declared.keys.Key.{Key}
@@ -141,20 +142,14 @@ module _ (db : Trees) (t : AreTables db) (sound : IsSound (rows_in db)) where
   of_party : (e : Room) (k : ℕ) → flat_map (λ (x : ℕ × Stay). if eqb x.0 k then shown (e, x.1) ∷ [] else []) rows.stays
       ≡ map shown (option_to_list (option_map (λ stay. (e, stay)) (stay_at rows k)))
   of_party e k =
-      same_tests rows.stays
+      flat_map_same_on _ _ (λ (x : ℕ × Stay). ap (λ b. if b then shown (e, x.1) ∷ [] else []) (sym (is_key k x.0)))
+      rows.stays
       ∙ where_it_passes (λ (x : ℕ × Stay). is_at (nat_cmp k) x.0) (λ x. shown (e, x.1) ∷ []) rows.stays
       ∙ flat_map_single (λ (x : ℕ × Stay). shown (e, x.1)) _
       ∙ sym (map-map (λ stay. shown (e, stay)) (λ (x : ℕ × Stay). x.1) _)
       ∙ ap (map (λ stay. shown (e, stay))) (one_entry nat_cmp nat_cmp_total k rows.stays (stays_rise db t))
       ∙ mapped (stay_at rows k)
     where
-      same_tests : (xs : List (ℕ × Stay))
-          → flat_map (λ (x : ℕ × Stay). if eqb x.0 k then shown (e, x.1) ∷ [] else []) xs
-          ≡ flat_map (λ (x : ℕ × Stay). if is_at (nat_cmp k) x.0 then shown (e, x.1) ∷ [] else []) xs
-      same_tests [] = refl
-      same_tests (x ∷ xs) =
-          ap₂ (λ b os. (if b then shown (e, x.1) ∷ [] else []) ++ os) (sym (is_key k x.0)) (same_tests xs)
-
       mapped : (o : Option Stay) → map (λ stay. shown (e, stay)) (option_to_list o)
           ≡ map shown (option_to_list (option_map (λ stay. (e, stay)) o))
       mapped None = refl
@@ -167,11 +162,7 @@ module _ (db : Trees) (t : AreTables db) (sound : IsSound (rows_in db)) where
   paired_by e (Some k) = of_party e k
 
   all_pairs : (es : List Room) → flat_map pairs_of es ≡ map shown (filter_map pair es)
-  all_pairs es = each es ∙ made_of_each pair shown es
-    where
-      each : (es : List Room) → flat_map pairs_of es ≡ flat_map (λ e. map shown (option_to_list (pair e))) es
-      each [] = refl
-      each (e ∷ es) = ap₂ (λ a b. a ++ b) (paired_by e e.1.party) (each es)
+  all_pairs es = flat_map_same_on _ _ (λ e. paired_by e e.1.party) es ∙ made_of_each pair shown es
 
   of_room : (e : Room) (y : Housed) → pair e ≡ Some y → y.0 ≡ e
   of_room e y is = by e.1.party is
