@@ -1,5 +1,6 @@
 //! The texts of lines' answers, and of an import that was stopped.
 ghost use Rattle.std.specs.Prelude.{◌≡◌, ◌++◌, ◌+◌, ◌≤◌, length};
+ghost use Rattle.hotel_core.specs.declared.reply_texts.TheConstants.{REPLY_BYTES};
 ghost use Rattle.hotel_core.specs.Texts.{reply_text};
 ghost use Rattle.hotel_audit.specs.declared.texts.TheConstants.{ANSWER_BYTES};
 ghost use Rattle.hotel_audit.specs.Answers.{answer_text, cause_name, cause_text, stopped_text};
@@ -16,7 +17,7 @@ const ANSWER_BYTES: usize = 85;
 pub type AnswerText = ShortText<ANSWER_BYTES>;
 
 fn push_reply(text: &mut AnswerText, reply: &Reply)
-    requires { length text.old + 64 ≤ ANSWER_BYTES }
+    requires { length text.old + REPLY_BYTES ≤ ANSWER_BYTES }
     ensures { text.new ≡ text.old ++ reply_text reply.now }
 {
     text.push(reply_text(reply).as_bytes());

@@ -2,16 +2,20 @@
 ghost use Rattle.std.specs.Prelude.{◌≡◌, [], ◌++◌, ◌+◌, ◌≤◌, length};
 ghost use Rattle.keycard_rules.specs.Numerals.{code_text};
 ghost use Rattle.hotel_model.specs.declared.reply.Reply.TheVariants as reply;
+ghost use Rattle.hotel_core.specs.declared.reply_texts.TheConstants.{REPLY_BYTES};
 ghost use Rattle.hotel_core.specs.Texts.{refusal_name, reply_line, reply_text};
 
 use hotel_model::{Refusal, Reply};
 use keycard_rules::{Card, Code, ShortText};
 
-/// The text of a reply: at most 64 bytes, the line feed included.
-pub type ReplyText = ShortText<64>;
+/// The most bytes of the text of a reply, the line feed included.
+pub const REPLY_BYTES: usize = 64;
+
+/// The text of a reply.
+pub type ReplyText = ShortText<REPLY_BYTES>;
 
 fn push_code(text: &mut ReplyText, code: &Code)
-    requires { length text.old + 12 ≤ 64 }
+    requires { length text.old + 12 ≤ REPLY_BYTES }
     ensures text { text.new ≡ text.old ++ code_text code.now }
     ensures len { length text.new ≡ length text.old + 12 }
 {

@@ -2,6 +2,7 @@
 
 ghost use Rattle.std.specs.Prelude.{◌≡◌, ◌≤◌, length};
 ghost use Rattle.hotel_lists.specs.Bytes.{Writes};
+ghost use Rattle.hotel_core.specs.declared.reply_texts.TheConstants.{REPLY_BYTES};
 ghost use Rattle.hotel_http.specs.declared.answer.Media.TheVariants.{Plain};
 ghost use Rattle.hotel_http.specs.Answer.{media_type, allow_field, status_line, head_text, answer_text};
 ghost use Rattle.hotel_http.specs.Answer.{rejection_status, rejection_body, allowed_by, rejection_answer, reply_status};
@@ -82,7 +83,7 @@ pub fn write_short<W: Write>(
     body: &[u8],
     calls: &mut IoCalls,
 ) -> Result<(), WriteFailed>
-    requires { length body.now ≤ 64 }
+    requires { length body.now ≤ REPLY_BYTES }
     ensures writes { Writes (W.contents writer.old) (W.contents writer.new) (answer_text status Plain allow body.now)
         calls.old calls.new result }
 {
@@ -94,7 +95,7 @@ pub fn write_short<W: Write>(
 /// The text of the reply that there was no memory.
 pub fn memory_text() -> &'static [u8]
     ensures same { result.now ≡ memory_text }
-    ensures short { length result.now ≤ 64 }
+    ensures short { length result.now ≤ REPLY_BYTES }
 {
     b"refused 29 Memory\n"
 }
@@ -116,7 +117,7 @@ pub fn rejection_status(why: Rejection) -> Status
 
 fn rejection_body(why: Rejection) -> &'static [u8]
     ensures same { result.now ≡ rejection_body why }
-    ensures short { length result.now ≤ 64 }
+    ensures short { length result.now ≤ REPLY_BYTES }
 {
     match why {
         Rejection::BadRequest => b"bad request\n",

@@ -3,6 +3,7 @@
 ghost use Rattle.std.specs.Prelude.{◌≡◌, ◌≤◌, length};
 ghost use Rattle.hotel_lists.specs.Bytes.{Writes};
 ghost use Rattle.hotel_audit.specs.{Answers.answers_text};
+ghost use Rattle.hotel_core.specs.declared.reply_texts.TheConstants.{REPLY_BYTES};
 ghost use Rattle.hotel_http.specs.AuditAnswer.{lines_answer, fault_status, fault_body, fault_answer};
 
 use crate::answer::{Media, head_text, memory_text, write_short};
@@ -53,7 +54,7 @@ pub fn fault_status(why: &ImportFault) -> Status
 
 fn fault_body(why: &ImportFault) -> HeadText
     ensures same { result ≡ fault_body why.now }
-    ensures short { length result ≤ 64 }
+    ensures short { length result ≤ REPLY_BYTES }
 {
     let mut text = HeadText::new();
     match why {

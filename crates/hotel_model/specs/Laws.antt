@@ -2,6 +2,7 @@
 use Rattle.std.specs.Prelude.{ℕ, ◌≡◌, ◌≤◌, false, List, [], ◌∷◌, ◌++◌, All, length}
 use Rattle.rand_core.specs.Stream.{Stream}
 use Rattle.keycard_rules.specs.Draw.{words}
+use Rattle.keycard_rules.specs.declared.draw.TheConstants.{MOST_WORDS}
 use Rattle.hotel_model.specs.declared.command.Command.{Command}
 use Rattle.hotel_model.specs.declared.reply.Reply.{Reply}
 use Rattle.hotel_model.specs.Rows.{Rows}
@@ -49,7 +50,8 @@ abbrev pub IsRun : History → Stream → List Command → Ran → Type 0
 IsRun h s commands ran = (s' : Stream) × (left : ℕ) × Runs h s commands ran.replies ran.history s'
     × (ran.ahead ≡ words left s') × NoneFailed ran.replies
 
--- The run that is computed of commands and a source's next words is a run, where 64 of these are left at its end.
+-- The run that is computed of commands and a source's next words is a run, where at its end as many of these are left
+-- as a draw may examine.
 abbrev pub RunsCompute : Type 0
 RunsCompute = (h : History) (s : Stream) (n : ℕ) (commands : List Command)
-    → 64 ≤ length (run_on h (words n s) commands).ahead → IsRun h s commands (run_on h (words n s) commands)
+    → MOST_WORDS ≤ length (run_on h (words n s) commands).ahead → IsRun h s commands (run_on h (words n s) commands)

@@ -13,6 +13,7 @@ use Rattle.hotel_model.specs.Event.{Event}
 use Rattle.hotel_model.specs.Ranges.{InRange}
 use Rattle.hotel_model.specs.RowsOf.{rows_of}
 use Rattle.keycard_rules.specs.Draw.{words, past, MovedAtMost}
+use Rattle.keycard_rules.specs.declared.draw.TheConstants.{MOST_WORDS}
 use Rattle.hotel_model.specs.Outcome.{Outcome, grown}
 use Rattle.hotel_model.specs.Answer.{answer_to}
 
@@ -29,7 +30,7 @@ StandsFor h rows = Reached h × (rows ≡ rows_of h)
 
 -- the answer to a command at a source
 abbrev pub answered : History → Stream → Command → Outcome Event
-answered h source command = answer_to h (words 64 source) command
+answered h source command = answer_to h (words MOST_WORDS source) command
 
 -- memory or the store failed
 abbrev pub is_failed : Reply → Bool
@@ -85,9 +86,10 @@ first_reply reply ran = record ran { replies = reply ∷ ran.replies }
 abbrev pub go_on : Outcome Event → (Outcome Event → Ran) → Ran
 go_on outcome later = first_reply outcome.reply (later outcome)
 
--- The run of commands in which nothing fails, where these are the source's words; each command is given the next 64.
+-- The run of commands in which nothing fails, where these are the source's words; each command is given as many of the
+-- next as a draw may examine.
 abbrev pub run_on : History → List ℕ → List Command → Ran
 run_on h ahead [] = record { history = h; ahead = ahead; replies = [] }
 run_on h ahead (command ∷ commands) =
-    go_on (answer_to h (take 64 ahead) command) (λ outcome. run_on (grown h outcome.happens)
+    go_on (answer_to h (take MOST_WORDS ahead) command) (λ outcome. run_on (grown h outcome.happens)
     (drop outcome.examined ahead) commands)

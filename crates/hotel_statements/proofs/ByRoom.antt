@@ -1,20 +1,17 @@
 -- The rows of a room in a table by room and number, in the order of the numbers: its fits, and its notes with their
 -- fits.
-use Rattle.std.proofs.Common.{◌≡◌, inl, inr, refl, sym, ap, ap₂, subst, ◌∙◌, List, [], ◌∷◌, ℕ, true}
-use Rattle.std.proofs.Common.{Bool, cond, Some, map, filter, arith, Less, Equal, nat_cmp, eqb}
+use Rattle.std.proofs.Common.{◌≡◌, inl, inr, refl, sym, ap, ap₂, ◌∙◌, List, [], ◌∷◌, ℕ}
+use Rattle.std.proofs.Common.{Bool, cond, Some, map, filter, arith, Less, eqb}
 use Rattle.std.specs.List.{AllByRecursion}
 use Rattle.std.specs.Map.{lookup}
 use Rattle.std.specs.BTreeMap.{is_at}
-use Rattle.std.specs.Ordering.{ordering_then}
 use Rattle.std.proofs.lemmas.Bool.{cases_Bool}
 use Rattle.std.proofs.lemmas.Bool.Decides.{nat_tests}
 use Rattle.std.proofs.lemmas.List.Sorted.{IsPermutation-refl}
-use Rattle.sqlite_keyed.proofs.ListLemmas.{all-filter, ascending_weaker}
-use Rattle.sqlite_value.specs.declared.keys.Collation.TheVariants.{Binary}
+use Rattle.sqlite_keyed.proofs.ListLemmas.{all_weaker, all-map, map-map, all-filter}
 use Rattle.sqlite_value.specs.declared.keys.Key.{Key}
-use Rattle.sqlite_value.specs.Keys.{ascending}
 use Rattle.sqlite.specs.Order.{Row, column}
-use Rattle.sqlite.specs.Query.{Query, IsAnswer, Output, output_cmp}
+use Rattle.sqlite.specs.Query.{Query, IsAnswer}
 use Rattle.sqlite.specs.Program.{overlay}
 use Rattle.sqlite.specs.Term.{Term, col, eval_all}
 use Rattle.sqlite.specs.Tree.{Trees, IsAscending}
@@ -32,52 +29,19 @@ use Rattle.hotel_statements.specs.Tables.{AreTables, IsTable, IsWrittenAs, by_ke
 use Rattle.hotel_statements.specs.Tables.{bare_notes_in}
 use Rattle.hotel_statements.specs.LookUps.{AnswersAll, numbered_fit}
 use Rattle.hotel_statements.specs.Walks.{note_under}
-use Rattle.hotel_statements.proofs.Answers.{single, env, fused}
+use Rattle.hotel_statements.proofs.Found.{map_all}
+use Rattle.hotel_statements.proofs.Answers.{single, env}
 use Rattle.hotel_statements.proofs.Statements.Terms.{column_is, columns, all_eight}
 use Rattle.hotel_statements.proofs.Keys.{and_true}
 use Rattle.hotel_statements.proofs.Perm.{sort_rises}
 use Rattle.hotel_statements.proofs.Keyed.{key_total, column_equals}
-use Rattle.hotel_statements.proofs.Lists.{map_rises}
-use Rattle.hotel_statements.proofs.Ordered.{ordered_rows, all_listed, int_order, then_nothing, map_all}
-
--- what the books write of each entry reads as its value
-pub read_back : {K V : Type 0} (columns : Row → Row) (of : Row → K × V) (written : K × V → Row) (read : Row → V)
-    → ((v : Row) → read v ≡ (of v).1) → (rows : List Row)
-    → AllByRecursion (IsWrittenAs columns of written) rows
-    → AllByRecursion (λ (e : K × V). read (written e) ≡ e.1) (map (λ r. of (columns r)) rows)
-read_back columns of written read says [] good = tt
-read_back columns of written read says (r ∷ rows) good =
-    (ap read (sym good.0) ∙ says (columns r), read_back columns of written read says rows good.1)
+use Rattle.hotel_statements.proofs.Ordered.{numbered_rows, all_listed, rising, room_rises, reads_back, values_read}
 
 abbrev pub by_count : List (Term × Key)
-by_count = (col 1 2, ascending Binary) ∷ []
+by_count = rising (col 1 2)
 
-same_room : (room : ℕ) (a b : ℕ × ℕ) → eqb a.0 room ≡ true → eqb b.0 room ≡ true → pair_cmp a b ≡ Less
-    → nat_cmp a.1 b.1 ≡ Less
-same_room room a b p q less =
-    let same : nat_cmp a.0 b.0 ≡ Equal = grind (arith, nat_tests, p, q) in
-    subst (λ o. ordering_then o (nat_cmp a.1 b.1) ≡ Less) same less
-
-module _ {V : Type 0} where
-  abbrev pub is_in : ℕ → (ℕ × ℕ) × V → Bool
-  is_in room e = eqb e.0.0 room
-
-  above : (room : ℕ) (e : (ℕ × ℕ) × V) (es : List ((ℕ × ℕ) × V)) → is_in room e ≡ true
-      → AllByRecursion (λ y. by_key pair_cmp e y ≡ Less) es
-      → AllByRecursion (λ (y : (ℕ × ℕ) × V). nat_cmp e.0.1 y.0.1 ≡ Less) (filter (is_in room) es)
-  above room e [] is up = tt
-  above room e (x ∷ xs) is up = elim (cases_Bool (is_in room x)) [
-    | inl at ↦ rw at (same_room room e.0 x.0 is at up.0, above room e xs is up.1)
-    | inr other ↦ rw other (above room e xs is up.1)
-  ]
-
-  counts_rise : (room : ℕ) (es : List ((ℕ × ℕ) × V)) → IsAscending (λ x y. by_key pair_cmp x y ≡ Less) es
-      → IsAscending (λ (x y : (ℕ × ℕ) × V). nat_cmp x.0.1 y.0.1 ≡ Less) (filter (is_in room) es)
-  counts_rise room [] up = tt
-  counts_rise room (e ∷ es) up = elim (cases_Bool (is_in room e)) [
-    | inl is ↦ rw is (above room e es is up.0, counts_rise room es up.1)
-    | inr other ↦ rw other (counts_rise room es up.1)
-  ]
+abbrev is_in : {V : Type 0} → ℕ → (ℕ × ℕ) × V → Bool
+is_in room e = eqb e.0.0 room
 
 -- the rows of a room, in order, as a query of one table shows them
 module _ {V : Type 0} (tree : ℕ) (project : List Term) (columns : Row → Row) (of : Row → (ℕ × ℕ) × V)
@@ -85,9 +49,6 @@ module _ {V : Type 0} (tree : ℕ) (project : List Term) (columns : Row → Row)
     (first : (r : Row) → IsWrittenAs columns of written r → column r 1 ≡ int (of (columns r)).0.0)
     (second : (r : Row) → IsWrittenAs columns of written r → column r 2 ≡ int (of (columns r)).0.1)
     (shows : (r : Row) → eval_all project (env (int room ∷ []) r) ≡ columns r) where
-  abbrev shown : (ℕ × ℕ) × V → Output
-  shown e = (int e.0.1 ∷ [], written e)
-
   pub in_order : IsTable (by_key pair_cmp) columns of written (db tree) → (rows : List Row)
       → IsAnswer (single tree (column_is 1 0 ∷ []) project by_count) (overlay db []) (int room ∷ []) rows
       → rows ≡ map written (filter (is_in room) (listed (by_key pair_cmp) (λ r. of (columns r)) (db tree)))
@@ -96,14 +57,11 @@ module _ {V : Type 0} (tree : ℕ) (project : List Term) (columns : Row → Row)
       let rises : IsAscending (λ x y. by_key pair_cmp x y ≡ Less) es = sort_rises (by_key pair_cmp)
       (key_total pair_cmp_total) _ table.apart in
       let fs = filter (is_in room) es in
-      let up : IsAscending (λ x y. output_cmp (single tree (column_is 1 0 ∷ []) project by_count) x y ≡ Less)
-      (map shown fs) =
-      map_rises shown _ fs (ascending_weaker _ _ (λ x y less. then_nothing _ ∙ int_order x.0.1 y.0.1 ∙ less) fs
-      (counts_rise room es rises)) in
-      ordered_rows (by_key pair_cmp) (key_total pair_cmp_total) (IsWrittenAs columns of written) (λ r. of (columns r))
-      tree (column_is 1 0 ∷ []) project by_count (int room ∷ []) (is_in room) shown db rows fs
-      table (λ r good. and_true _ ∙ column_equals (column r 1) _ room (first r good))
-      (λ r good. ap₂ (λ v w. (v ∷ [], w)) (second r good) (shows r ∙ good)) (IsPermutation-refl fs) up answer
+      numbered_rows (by_key pair_cmp) (key_total pair_cmp_total) (IsWrittenAs columns of written)
+      (λ r. of (columns r)) tree (column_is 1 0 ∷ []) project (col 1 2) (int room ∷ []) (is_in room) (λ e. e.0.1)
+      written db rows fs table (λ r good. and_true _ ∙ column_equals (column r 1) _ room (first r good))
+      (λ r good. ap₂ (λ v w. (v ∷ [], w)) (second r good) (shows r ∙ good)) (IsPermutation-refl fs)
+      (room_rises (λ (e : (ℕ × ℕ) × V). e.0) room es rises) answer
 
 -- ---- the fits of a room
 
@@ -126,19 +84,11 @@ fits_find db t room all a =
     let rows : a.0 ≡ map fit_written fs =
     in_order fit_tree (columns (1 ∷ 2 ∷ 3 ∷ 4 ∷ [])) fit_columns fit_of fit_written room db
     (λ r good. ap (λ v. column v 0) good) (λ r good. ap (λ v. column v 1) good) (λ r. refl) t.fit a.0 a.1 in
-    let reads = all-filter _ (is_in room) es (all_listed (by_key pair_cmp) (key_total pair_cmp_total)
-    (IsWrittenAs fit_columns fit_of fit_written)
-    (λ r. fit_of (fit_columns r)) (λ e. fit_row_of (fit_written e) ≡ e.1) (db fit_tree)
-    (read_back fit_columns fit_of fit_written fit_row_of (λ v. refl) (db fit_tree) t.fit.good)) in
-    a.2 ∙ ap (map fit_row_of) rows ∙ fused fit_row_of fit_written fs
-    ∙ map_all (λ e. fit_row_of (fit_written e)) (λ e. e.1) fs reads ∙ fits_listed room es
+    a.2 ∙ ap (map fit_row_of) rows
+    ∙ values_read pair_cmp pair_cmp_total fit_columns fit_of fit_written fit_row_of (λ v. refl) (db fit_tree) t.fit
+    (is_in room) ∙ fits_listed room es
 
 -- a fit of a room by its number is the first of the room's that has it
-keyed : (rows : List Row) → AllByRecursion (λ (e : (ℕ × ℕ) × FitRow). e.1.fit ≡ e.0.1)
-    (map (λ r. fit_of (fit_columns r)) rows)
-keyed [] = tt
-keyed (r ∷ rows) = (refl, keyed rows)
-
 numbered : (room number : ℕ) (es : FitEntries)
     → AllByRecursion (λ (e : (ℕ × ℕ) × FitRow). e.1.fit ≡ e.0.1) es → lookup (is_at (pair_cmp (room, number))) es
     ≡ numbered_fit (fits_at es room) number
@@ -155,7 +105,7 @@ pub fit_numbered : (db : Trees) (room number : ℕ) → fit_at (rows_in db) room
 fit_numbered db room number =
     numbered room number (fits_in db) (all_listed (by_key pair_cmp) (key_total pair_cmp_total)
     (IsWrittenAs fit_columns fit_of fit_written) (λ r. fit_of (fit_columns r)) (λ e. e.1.fit ≡ e.0.1) (db fit_tree)
-    (keyed (db fit_tree)))
+    (all-map _ (λ r. fit_of (fit_columns r)) (λ r. refl) (db fit_tree)))
 
 -- ---- the notes of a room
 
@@ -185,14 +135,10 @@ notes_said db t room fits are all a =
     let rows : a.0 ≡ map note_written fs =
     in_order note_tree all_eight note_columns note_of note_written room db (λ r good. ap (λ v. column v 0) good)
     (λ r good. ap (λ v. column v 1) good) (λ r. refl) t.note a.0 a.1 in
-    let reads = all-filter _ (is_in room) es (all_listed (by_key pair_cmp) (key_total pair_cmp_total)
-    (IsWrittenAs note_columns note_of note_written)
-    (λ r. note_of (note_columns r)) (λ e. note_row_of (note_written e) ≡ e.1) (db note_tree)
-    (read_back note_columns note_of note_written note_row_of (λ v. refl) (db note_tree) t.note.good)) in
-    a.2 ∙ ap (map (note_under fits)) rows ∙ fused (note_under fits) note_written fs ∙ each fs reads
+    let reads = all-filter _ (is_in room) es (reads_back pair_cmp pair_cmp_total note_columns note_of note_written
+    note_row_of (λ v. refl) (db note_tree) t.note) in
+    a.2 ∙ ap (map (note_under fits)) rows ∙ map-map (note_under fits) note_written fs
+    ∙ map_all (λ e. note_under fits (note_written e)) (noted fits) fs
+    (all_weaker (λ (e : (ℕ × ℕ) × Note). note_row_of (note_written e) ≡ e.1) _
+    (λ e read. ap (with_count (fit_of_number fits e.0.1) e.0.1) read) fs reads)
     ∙ ap (λ f. map (noted f) fs) are ∙ notes_listed (fits_in db) room es
-  where
-    each : (fs : List ((ℕ × ℕ) × Note)) → AllByRecursion (λ (e : (ℕ × ℕ) × Note). note_row_of (note_written e) ≡ e.1)
-        fs → map (λ e. note_under fits (note_written e)) fs ≡ map (noted fits) fs
-    each [] reads = refl
-    each (e ∷ fs) reads = ap₂ (λ n ns. with_count (fit_of_number fits e.0.1) e.0.1 n ∷ ns) reads.0 (each fs reads.1)

@@ -1,6 +1,6 @@
 -- What each look-up of the books finds in its table.
-use Rattle.std.proofs.Common.{◌≡◌, ◌&&◌, ◌||◌, refl, ap, ap₂, ◌∙◌, List, [], ◌∷◌, ℕ, Bool, None, Some, Option, not, eqb}
-use Rattle.std.proofs.Common.{is_eq, nat_cmp, inl, inr}
+use Rattle.std.proofs.Common.{◌≡◌, ◌&&◌, refl, ap, ap₂, ◌∙◌, List, [], ◌∷◌, ℕ, None, Some, Option, not, eqb}
+use Rattle.std.proofs.Common.{nat_cmp, inl, inr}
 use Rattle.std.specs.Prelude.{is_some, unwrap_or, option_map, bytes_eq}
 use Rattle.std.specs.List.{list_any}
 use Rattle.std.specs.Cmp.Lexicographic.{slice_cmp}
@@ -9,6 +9,8 @@ use Rattle.std.specs.BTreeMap.{is_at}
 use Rattle.std.proofs.lemmas.Map.Made.{is_some-lookup}
 use Rattle.std.proofs.lemmas.Bool.{cases_Bool}
 use Rattle.std.proofs.lemmas.Cmp.{nat_list_cmp_total}
+use Rattle.sqlite_keyed.proofs.SliceLemmas.{list_any_same}
+use Rattle.sqlite_keyed.proofs.ListLemmas.{all_of}
 use Rattle.sqlite_value.specs.declared.value.Value.TheVariants.{Text}
 use Rattle.sqlite_value.specs.declared.keys.Collation.TheVariants.{Binary}
 use Rattle.sqlite_sql.specs.declared.ops.BinaryOp.TheVariants.{Compare}
@@ -45,16 +47,9 @@ use Rattle.hotel_statements.proofs.Found.{found_rows, some_found}
 use Rattle.hotel_statements.proofs.Keyed.{by_number, by_two, same_option, column_equals}
 
 -- a code was issued where it is found
-same_any : (p q : ℕ → Bool) → ((n : ℕ) → p n ≡ q n) → (ns : List ℕ) → list_any p ns ≡ list_any q ns
-same_any p q same [] = refl
-same_any p q same (n ∷ ns) = ap₂ (λ x y. x || y) (same n) (same_any p q same ns)
-
-turned : (k n : ℕ) → is_eq (nat_cmp k n) ≡ eqb n k
-turned k n = is_key k n
-
 pub issued_where_found : (k : ℕ) (rows : Rows) → is_some (code_place rows k) ≡ is_one_of k (codes_in rows)
 issued_where_found k rows = is_some-lookup (is_at (nat_cmp k)) rows.codes
-    ∙ same_any (is_at (nat_cmp k)) (λ m. eqb m k) (turned k) (codes_in rows)
+    ∙ list_any_same (is_at (nat_cmp k)) (λ m. eqb m k) (codes_in rows) (all_of _ (is_key k) (codes_in rows))
 
 module _ (db : Trees) (t : AreTables db) where
   -- a room, a note and a fit, as their tables have them

@@ -1,11 +1,11 @@
 -- What the look-ups of a room and of a note find, by the row of its table and the fits of the room.
-use Rattle.std.proofs.Common.{◌≡◌, ◌+◌, ◌==◌, refl, sym, ap, ◌∙◌, List, [], ◌∷◌, ℕ, cond, Option, None, Some, map}
+use Rattle.std.proofs.Common.{◌≡◌, ◌+◌, ◌==◌, refl, sym, ap, ap₂, ◌∙◌, List, [], ◌∷◌, ℕ, cond, Option, None, Some}
 use Rattle.std.proofs.Common.{is_eq, Ordering, Less, Equal, Greater}
 use Rattle.std.specs.Prelude.{option_map, if◌then◌else◌}
 use Rattle.std.specs.List.{AllByRecursion}
 use Rattle.std.specs.Map.{lookup}
 use Rattle.std.specs.BTreeMap.{is_at}
-use Rattle.sqlite.specs.Order.{Row}
+use Rattle.sqlite_keyed.proofs.ListLemmas.{all-map}
 use Rattle.sqlite.specs.Tree.{Trees}
 use Rattle.keycard_rules.specs.Note.{Note}
 use Rattle.hotel_model.specs.declared.rows.RoomRow.{RoomRow}
@@ -50,12 +50,14 @@ known_are db k = by (at_number (bare_rooms_in db) k)
 
 -- ---- a note
 
--- the count of a note, as its table has it, is its number
-numbers : (rows : List Row) → AllByRecursion (λ (e : (ℕ × ℕ) × Note). e.1.count ≡ e.0.1)
-    (map (λ r. note_of (note_columns r)) rows)
-numbers [] = tt
-numbers (r ∷ rows) = (refl, numbers rows)
+-- the number of a note of a fit that is among those of its room
+pub note_number : (fits : List FitRow) (fit count : ℕ) (of : FitRow) (before more : ℕ)
+    → before ≡ of.before → more ≡ count → Some of ≡ numbered_fit fits fit
+    → Some (before + more) ≡ option_map (λ (f : FitRow). f.before + count) (numbered_fit fits fit)
+note_number fits fit count of before more first last there =
+    ap₂ (λ a b. Some (a + b)) first last ∙ ap (option_map (λ (f : FitRow). f.before + count)) there
 
+-- the count of a note, as its table has it, is its number
 number_is : (k : ℕ × ℕ) (es : List ((ℕ × ℕ) × Note)) → AllByRecursion (λ (e : (ℕ × ℕ) × Note). e.1.count ≡ e.0.1) es
     → (note : Note) → lookup (is_at (pair_cmp k)) es ≡ Some note → note.count ≡ k.1
 number_is k [] all note found = absurd cc
@@ -106,7 +108,7 @@ module _ (db : Trees) (room fit count : ℕ) (fits : List FitRow) (are : fits �
     note_is bare note there with =
         let all = all_listed (by_key pair_cmp) (key_total pair_cmp_total)
         (IsWrittenAs note_columns note_of note_written) (λ r. note_of (note_columns r)) (λ e. e.1.count ≡ e.0.1)
-        (db note_tree) (numbers (db note_tree)) in
+        (db note_tree) (all-map _ (λ r. note_of (note_columns r)) (λ r. refl) (db note_tree)) in
         let count_is : bare.count ≡ number = number_is (room, number) (bare_notes_in db) all bare (sym there) in
         let read : note ≡ joined_at (fits_in db) room number bare = with
         ∙ ap (λ n. with_count (fit_of_number fits n) n bare) count_is

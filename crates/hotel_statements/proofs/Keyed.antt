@@ -27,7 +27,8 @@ use Rattle.hotel_statements.specs.Values.{number_of, int}
 use Rattle.hotel_statements.specs.Tables.{IsTable, IsWrittenAs, listed, by_key, rows_in, AreTables}
 use Rattle.hotel_statements.specs.Books.{IsKept, IsBooks, KeepsRows}
 use Rattle.hotel_statements.specs.LookUps.{Asks, AnswersFirst, LooksUp, Finds, HasCause, LeavesNoMore}
-use Rattle.hotel_statements.proofs.Answers.{single, env, passes, fused}
+use Rattle.sqlite_keyed.proofs.ListLemmas.{map-map}
+use Rattle.hotel_statements.proofs.Answers.{single, env, passes}
 use Rattle.hotel_statements.proofs.Statements.Terms.{by_rowid, by_pair}
 use Rattle.hotel_statements.proofs.Keys.{equals, is_key, and_true}
 use Rattle.hotel_statements.proofs.Perm.{sort_rises}
@@ -65,7 +66,7 @@ module _ {V A : Type 0} (tree : ℕ) (project : List Term) (columns : Row → Ro
       sort_rises (by_key nat_cmp) (key_total nat_cmp_total) _ table.apart in
       let one : map (λ (e : ℕ × V). shown e.1) (filter (λ (e : ℕ × V). is_at (nat_cmp k) e.0) es)
       ≡ option_to_list (option_map shown (at_number es k)) =
-      sym (fused shown (λ (e : ℕ × V). e.1) _)
+      sym (map-map shown (λ (e : ℕ × V). e.1) _)
       ∙ ap (map shown) (one_entry nat_cmp nat_cmp_total k es rises) ∙ mapped (at_number es k) in
       first_found out (single tree by_rowid project []) (int k ∷ []) db (option_map shown (at_number es k))
       (λ rows answer. subst (IsPermutation (map out rows)) one

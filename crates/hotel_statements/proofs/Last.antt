@@ -1,6 +1,6 @@
 -- The last number of a table whose rows are numbered from 1 on.
 use Rattle.std.proofs.Common.{◌≡◌, ◌≤◌, ◌+◌, ◌&&◌, ◌==◌, refl, sym, ap, subst, ◌∙◌, List, [], ◌∷◌}
-use Rattle.std.proofs.Common.{length, ℕ, true, Bool, None, Some, Option, map, filter, arith, Less, Ordering, nat_cmp}
+use Rattle.std.proofs.Common.{length, ℕ, true, Bool, None, Some, Option, map, arith, Less, Ordering, nat_cmp}
 use Rattle.std.specs.Prelude.{unwrap_or}
 use Rattle.std.specs.Map.{keys_of}
 use Rattle.std.specs.List.{AllByRecursion}
@@ -10,7 +10,7 @@ use Rattle.std.proofs.lemmas.Bool.Decides.{nat_tests}
 use Rattle.std.proofs.lemmas.Cmp.{nat_cmp_total, back_total}
 use Rattle.std.proofs.lemmas.List.Sorted.{length_permutation, IsPermutation-sym, IsPermutation-trans}
 use Rattle.sqlite_keyed.specs.Lists.{sort_by}
-use Rattle.sqlite_keyed.proofs.ListLemmas.{all_weaker, ascending_weaker}
+use Rattle.sqlite_keyed.proofs.ListLemmas.{all_of, filter_all, ascending-map, all_weaker, ascending_weaker}
 use Rattle.sqlite_keyed.proofs.RuleLemmas.{first_of_both, second_of_both}
 use Rattle.sqlite_keyed.proofs.SortLemmas.{IsPermutation-sort_by}
 use Rattle.sqlite_value.specs.declared.keys.Collation.TheVariants.{Binary}
@@ -29,7 +29,6 @@ use Rattle.hotel_statements.proofs.Statements.Terms.{columns}
 use Rattle.hotel_statements.proofs.Perm.{sort_rises, same_tie, every_shuffled}
 use Rattle.hotel_statements.proofs.Keyed.{key_total}
 use Rattle.hotel_statements.proofs.Ordered.{ordered_rows, int_order, then_nothing}
-use Rattle.hotel_statements.proofs.Lists.{map_rises}
 
 module _ (V : Type 0) where
   abbrev Entry : Type 0
@@ -63,10 +62,6 @@ module _ (V : Type 0) where
 
   abbrev flipped : Entry → Entry → Ordering
   flipped = flip_args (by_key nat_cmp)
-
-  all_pass : (es : List Entry) → filter (λ _. true) es ≡ es
-  all_pass [] = refl
-  all_pass (e ∷ es) = ap (λ xs. e ∷ xs) (all_pass es)
 
   abbrev shown : Entry → Output
   shown e = (int e.0 ∷ [], int e.0 ∷ [])
@@ -104,8 +99,8 @@ module _ (V : Type 0) where
         (λ _. true) shown db rows mine
         table (λ r good. refl)
         (λ r good. ap (λ v. (v ∷ [], v ∷ [])) (sym (first r) ∙ ap (λ v. column v 0) good ∙ keyed (of (project r))))
-        (subst (λ xs. IsPermutation xs mine) (sym (all_pass es)) same)
-        (map_rises shown _ mine
+        (subst (λ xs. IsPermutation xs mine) (sym (filter_all (λ (_ : Entry). true) es (all_of _ (λ _. refl) es))) same)
+        (ascending-map _ shown mine
         (ascending_weaker _ _ (λ x y less. then_nothing _ ∙ int_order y.0 x.0 ∙ less) mine falls)) answer
 
     pub last_finds : count_up 1 (keys_of es) ≡ true → (o : Option ℕ)

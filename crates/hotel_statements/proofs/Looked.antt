@@ -69,43 +69,55 @@ first_unread : (IsReadable : Row → Type 0) (row first : Row) (more : List Row)
     → ¬ All IsReadable (first ∷ more)
 first_unread IsReadable row first more is unread all = unread (subst IsReadable (sym is) (all 0 first (omega arith)))
 
-module _ (text : List ℕ) (params : Row) (old new : State) (r : Result Row Error) (books : IsBooks old)
-    (asked : (q : Query) × Asks text q)
-    (runs : HasCleanDisk new → QueriesRow text params old new r)
-    (mode : old.in_transaction ≡ false → new.in_transaction ≡ false)
-    (survives : Survives old new (CommitsShowing text params old)) where
+-- A statement that a desk understands was asked for its first row, on a connection from old to new.
+pub record AsksRow (text : List ℕ) (params : Row) (old new : State) (r : Result Row Error) : Type 0 where
+  pub books : IsBooks old
+  pub asked : (q : Query) × Asks text q
+  pub runs : HasCleanDisk new → QueriesRow text params old new r
+  pub mode : old.in_transaction ≡ false → new.in_transaction ≡ false
+  pub survives : Survives old new (CommitsShowing text params old)
+
+module _ {text : List ℕ} {params : Row} {old new : State} {r : Result Row Error} where
+  pub asks_row : IsBooks old → (q : Query) × Asks text q → (HasCleanDisk new → QueriesRow text params old new r)
+      → (old.in_transaction ≡ false → new.in_transaction ≡ false) → Survives old new (CommitsShowing text params old)
+      → AsksRow text params old new r
+  asks_row books asked runs mode survives =
+      record { books = books; asked = asked; runs = runs; mode = mode; survives = survives }
+
+module _ {text : List ℕ} {params : Row} {old new : State} {r : Result Row Error}
+    (it : AsksRow text params old new r) where
   stays : HasCleanDisk new → IsDesk old → Stays old new
-  stays clean desk = query_stays text params old new r (plain_in text asked.0 old asked.1 desk) (runs clean)
+  stays clean desk = query_stays text params old new r (plain_in text it.asked.0 old it.asked.1 desk) (it.runs clean)
 
   opened : HasCleanDisk new → IsTrue new.is_open → IsTrue old.is_open
-  opened clean = query_opened text params old new r (runs clean)
+  opened clean = query_opened text params old new r (it.runs clean)
 
   look_keeps : KeepsRows old new
-  look_keeps = keeps_rows old new _ books mode survives stays opened
+  look_keeps = keeps_rows old new _ it.books it.mode it.survives stays opened
 
   pub looked : IsBooks new × KeepsRows old new × LeavesNoMore old new
   looked = (
-    keeps_books old new _ books mode survives stays opened,
+    keeps_books old new _ it.books it.mode it.survives stays opened,
     look_keeps,
     survives_weaker old new _ _ (λ _ db commits kept. never_commits text params old db
-        (plain_in text asked.0 old asked.1 (books.desk kept)) commits) survives,
+        (plain_in text it.asked.0 old it.asked.1 (it.books.desk kept)) commits) it.survives,
   )
 
   pub look_found : {A : Type 0} (out : Row → A) (row : Row) (x : A)
       → r ≡ Ok row → x ≡ out row → IsKept new → (q : Query) → Asks text q
       → AnswersFirst out q params old.now.trees (Some x)
   look_found out row x is reads kept q asks =
-      let desk = books.desk (look_keeps kept).0 in
+      let desk = it.books.desk (look_keeps kept).0 in
       let got =
       (first_as text params old new desk_schema desk.schema _ (command_is q _ asks.query).1 asks.plain asks.listing row
-      (subst (QueriesRow text params old new) is (runs kept.0))).1 in
+      (subst (QueriesRow text params old new) is (it.runs kept.0))).1 in
       (row, got.0, got.1 Null, reads)
 
   pub look_lost : {A : Type 0} (out : Row → A) → r ≡ Err QueryReturnedNoRows → IsKept new → (q : Query)
       → Asks text q → AnswersFirst out q params old.now.trees None
   unfolding QueriesRow
   look_lost out is kept q asks =
-      go (books.desk (look_keeps kept).0) (subst (QueriesRow text params old new) is (runs kept.0))
+      go (it.books.desk (look_keeps kept).0) (subst (QueriesRow text params old new) is (it.runs kept.0))
     where
       go : IsDesk old → QueriesRow text params old new (Err QueryReturnedNoRows)
           → AnswersFirst out q params old.now.trees None
@@ -115,21 +127,21 @@ module _ (text : List ℕ) (params : Row) (old new : State) (r : Result Row Erro
 
   look_open : (row : Row) → r ≡ Ok row → HasCleanDisk new → IsTrue new.is_open
   look_open row is clean =
-      first_is_open text params old new row (subst (QueriesRow text params old new) is (runs clean))
+      first_is_open text params old new row (subst (QueriesRow text params old new) is (it.runs clean))
 
   none_open : r ≡ Err QueryReturnedNoRows → HasCleanDisk new → IsTrue new.is_open
-  none_open is clean = none_is_open text params old new (subst (QueriesRow text params old new) is (runs clean))
+  none_open is clean = none_is_open text params old new (subst (QueriesRow text params old new) is (it.runs clean))
 
   plain_then : HasCleanDisk new → IsTrue new.is_open → IsPlain (understood old.now.schema text)
-  plain_then clean is_open = plain_in text asked.0 old asked.1 (books.desk (look_keeps (clean, is_open)).0)
+  plain_then clean is_open = plain_in text it.asked.0 old it.asked.1 (it.books.desk (look_keeps (clean, is_open)).0)
 
   pub look_unchanged : (row : Row) → r ≡ Ok row → HasCleanDisk new → IsUnchanged old new
   look_unchanged row is clean = first_unchanged text params old new row (plain_then clean (look_open row is clean))
-      (subst (QueriesRow text params old new) is (runs clean))
+      (subst (QueriesRow text params old new) is (it.runs clean))
 
   pub none_unchanged : r ≡ Err QueryReturnedNoRows → HasCleanDisk new → IsUnchanged old new
   unfolding QueriesRow
-  none_unchanged is clean = go (subst (QueriesRow text params old new) is (runs clean))
+  none_unchanged is clean = go (subst (QueriesRow text params old new) is (it.runs clean))
     where
       plain : IsPlain (understood old.now.schema text)
       plain = plain_then clean (none_open is clean)
@@ -144,7 +156,7 @@ module _ (text : List ℕ) (params : Row) (old new : State) (r : Result Row Erro
       → fault_of e ≢ why.Memory
       → HasCleanDisk new → FailsAt IsReadable text params old new
   unfolding QueriesRow
-  look_failed IsReadable e is other cause clean = go (subst (QueriesRow text params old new) is (runs clean))
+  look_failed IsReadable e is other cause clean = go (subst (QueriesRow text params old new) is (it.runs clean))
     where
       go : QueriesRow text params old new (Err e) → FailsAt IsReadable text params old new
       go (inl h) = inl (e, is_store (fault_of e) cause, h)
@@ -154,10 +166,10 @@ module _ (text : List ℕ) (params : Row) (old new : State) (r : Result Row Erro
       → FailsAt IsReadable text params old new
   look_unread IsReadable row is unread clean =
       let kept : IsKept new = (clean, look_open row is clean) in
-      let got = look_found (λ v. v) row row is refl kept asked.0 asked.1 in
+      let got = look_found (λ v. v) row row is refl kept it.asked.0 it.asked.1 in
       inr (
         (look_keeps kept).0,
-        (asked.0, asked.1, got.0 ∷ got.1, got.2, first_unread IsReadable row got.0 got.1 got.3 unread),
+        (it.asked.0, it.asked.1, got.0 ∷ got.1, got.2, first_unread IsReadable row got.0 got.1 got.3 unread),
       )
 
 -- ---- all rows of an answer

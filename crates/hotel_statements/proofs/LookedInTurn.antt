@@ -1,7 +1,8 @@
 -- Look-ups that are made of a statement or of others, one or two in turn.
-use Rattle.std.proofs.Common.{◌≡◌, Result, Ok, Err}
+use Rattle.std.proofs.Common.{◌≡◌, ◌∙◌, ap, Result, Ok, Err}
 use Rattle.std.specs.Prelude.{IsTrue}
 use Rattle.std.specs.Result.{IsErr}
+use Rattle.sqlite.specs.Effect.{Database}
 use Rattle.sqlite.specs.Tree.{Trees}
 use Rattle.sqlite.specs.State.{State, HasCleanDisk, IsUnchanged}
 use Rattle.keycard_rules.specs.declared.issued.LookFault.{LookFault}
@@ -60,6 +61,14 @@ then_answered {old} {mid} {new} first second = record {
       then_unchanged old mid new (clean_before mid new second.crash) first.unchanged first.crash second.unchanged;
   crash = then_survives old mid new first.open_on first.crash second.crash;
 }
+
+-- what the second finds in the tables is in those before the first
+pub then_found : {R : Type 0} {old mid new : State} {answer : R} (first : IsAnswered old mid)
+    (second : IsAnswered mid new) (wanted : Trees → R) → (IsKept new → answer ≡ wanted mid.now.trees)
+    → IsKept new → IsKept mid × (answer ≡ wanted old.now.trees)
+then_found first second wanted found kept =
+    let before = second.keeps kept in
+    (before.0, found kept ∙ ap (λ (d : Database). wanted d.trees) (first.keeps before.0).1)
 
 -- what is made of that answer, where it is what is wanted
 pub answers_so : {A R : Type 0} {Fails : State → State → Type 0} {said : R → A} {wanted : Rows → A} {old new : State}

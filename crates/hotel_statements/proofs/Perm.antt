@@ -1,7 +1,7 @@
 -- Tables as sorted lists, whatever the order of their trees.
-use Rattle.std.proofs.Common.{◌≡◌, ◌<◌, not, inl, inr, refl, sym, ap, subst, ◌∙◌, List, [], ◌∷◌, ◌+◌, length, ℕ, zero}
-use Rattle.std.proofs.Common.{suc, false, Bool, cond, map, filter, arith, Ordering, Less, Equal, Greater, is_eq}
-use Rattle.std.proofs.Common.{is_lt, is_gt, true≢false, get_or, add-one}
+use Rattle.std.proofs.Common.{◌≡◌, ◌<◌, not, inl, inr, refl, sym, ap, ap₂, subst, ◌∙◌, List, [], ◌∷◌, ◌+◌, length, ℕ}
+use Rattle.std.proofs.Common.{zero, suc, true, false, Bool, cond, map, filter, arith, Ordering, Less, Equal, Greater}
+use Rattle.std.proofs.Common.{is_eq, is_lt, is_gt, true≢false, get_or, add-one}
 use Rattle.std.specs.Ordering.{match_ordering, ordering_reverse}
 use Rattle.std.specs.Cmp.{IsTotalOrder}
 use Rattle.std.specs.List.{AllByRecursion}
@@ -15,14 +15,20 @@ use Rattle.sqlite_trees.specs.Tree.{IsAscending, rowid, put_row}
 use Rattle.sqlite_rules.specs.Edit.{is_taken}
 use Rattle.sqlite_keyed.specs.Lists.{insert_sorted, sort_by}
 use Rattle.std.proofs.lemmas.List.Elements.{recursion_from_All, All-from_recursion}
-use Rattle.sqlite_keyed.proofs.ListLemmas.{all_weaker, all-filter, along_permutation, IsPermutation-filter}
-use Rattle.sqlite_keyed.proofs.ListLemmas.{ascending-filter}
+use Rattle.sqlite_keyed.proofs.ListLemmas.{filter-map, all_weaker, all-filter, along_permutation, IsPermutation-filter}
+use Rattle.sqlite_keyed.proofs.ListLemmas.{filter_all, ascending-filter}
 use Rattle.hotel_statements.specs.Tables.{IsTableOf, listed, AreApartIds}
 use Rattle.sqlite_keyed.proofs.SortLemmas.{HasNoTies, sorted_is-sort_by, sorted_unique, IsPermutation-sort_by}
 
 pub every_shuffled : {X : Type 0} (P : X → Type 0) (xs ys : List X)
     → IsPermutation xs ys → AllByRecursion P xs → AllByRecursion P ys
 every_shuffled P xs ys same all = recursion_from_All P ys (All-permutation P xs ys same (All-from_recursion P xs all))
+
+-- two tests that agree on each element
+pub filter_alike : {X : Type 0} (p q : X → Bool) (xs : List X)
+    → AllByRecursion (λ x. p x ≡ q x) xs → filter p xs ≡ filter q xs
+filter_alike p q [] same = refl
+filter_alike p q (x ∷ xs) same = ap₂ (λ b ys. cond b (x ∷ ys) ys) same.0 (filter_alike p q xs same.1)
 
 pub none_permuted : {X : Type 0} (xs : List X) → IsPermutation [] xs → xs ≡ []
 none_permuted [] same = refl
@@ -150,11 +156,8 @@ module _ {X : Type 0} (cmp : X → X → Ordering) (total : IsTotalOrder cmp) wh
 
     pub filter_mapped : (p : Row → Bool) (q : X → Bool) (rows : List Row)
         → AllByRecursion (λ r. p r ≡ q (of r)) rows → map of (filter p rows) ≡ filter q (map of rows)
-    filter_mapped p q [] all = refl
-    filter_mapped p q (r ∷ rows) all = elim (cases_Bool (q (of r))) [
-      | inl is ↦ rw (all.0, is, filter_mapped p q rows all.1) refl
-      | inr other ↦ rw (all.0, other, filter_mapped p q rows all.1) refl
-    ]
+    filter_mapped p q rows all =
+        ap (map of) (filter_alike p (λ r. q (of r)) rows all) ∙ sym (filter-map q of rows)
 
     pub filter_makes : (p : Row → Bool) (q : X → Bool) (rows : List Row)
         → IsTableOf cmp Good of rows → AllByRecursion (λ r. p r ≡ q (of r)) rows
@@ -176,8 +179,7 @@ found_of P p xs x all is = (subst (AllByRecursion P) is (all-filter P p xs all))
 -- where none passes, none is left out
 pub all_left : {A : Type 0} (p : A → Bool) (xs : List A)
     → AllByRecursion (λ x. p x ≡ false) xs → filter (λ x. not (p x)) xs ≡ xs
-all_left p [] none = refl
-all_left p (x ∷ xs) none = rw none.0 (ap (λ rest. x ∷ rest) (all_left p xs none.1))
+all_left p xs none = filter_all _ xs (all_weaker _ (λ x. not (p x) ≡ true) (λ x other. ap not other) xs none)
 
 pub apart_filtered : (p : Row → Bool) (rows : List Row) → AreApartIds rows → AreApartIds (filter p rows)
 apart_filtered p rows apart = ascending-filter _ p rows apart

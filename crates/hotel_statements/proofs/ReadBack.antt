@@ -1,37 +1,23 @@
 -- What the rows of a table are, where its plain rows are such as the books write.
-use Rattle.std.proofs.Common.{◌≡◌, refl, sym, ap, subst, ◌∙◌, List, [], ◌∷◌, map, true, Less, Ordering, is_eq}
+use Rattle.std.proofs.Common.{◌≡◌, sym, ap, subst, ◌∙◌, List, [], ◌∷◌, map, true, Less, Ordering, is_eq}
 use Rattle.std.specs.List.{AllByRecursion}
 use Rattle.std.specs.List.Sorted.{IsPermutation}
 use Rattle.std.specs.Cmp.{IsTotalOrder}
 use Rattle.std.proofs.lemmas.List.Sorted.{IsPermutation-map, IsPermutation-sym}
 use Rattle.sqlite.specs.Order.{Row}
 use Rattle.sqlite.specs.Tree.{IsAscending}
-use Rattle.sqlite_keyed.proofs.ListLemmas.{all_unmap, ascending_weaker}
+use Rattle.sqlite_keyed.proofs.ListLemmas.{map-map, all_weaker, all_map, all_unmap}
+use Rattle.sqlite_keyed.proofs.ListLemmas.{ascending_from_map, ascending_weaker}
 use Rattle.sqlite_keyed.proofs.SortLemmas.{sorted_is-sort_by}
 use Rattle.hotel_model.specs.SoundRooms.{are_in_order}
 use Rattle.hotel_model.proofs.OfTables.KeysInOrder.{AllAfter, InOrder}
 use Rattle.hotel_model.proofs.Starts.StartOrder.{in_order_from}
 use Rattle.hotel_statements.specs.Tables.{IsTable, IsWrittenAs, AreApart, listed}
 use Rattle.hotel_statements.specs.PlainRows.{ArePlainRows}
-use Rattle.hotel_statements.proofs.Answers.{fused}
+use Rattle.hotel_statements.proofs.Found.{map_all}
 use Rattle.hotel_statements.proofs.Perm.{every_shuffled, sorted_rises, apart_permuted}
 
 -- ---- keys that pass the test of order
-
-all_above : {K X : Type 0} (cmp : K → K → Ordering) (key : X → K) (k : K) (xs : List X)
-    → AllAfter cmp k (map key xs) → AllByRecursion (λ x. cmp k (key x) ≡ Less) xs
-all_above cmp key k [] h = tt
-all_above cmp key k (x ∷ xs) h = (h.0, all_above cmp key k xs h.1)
-
-ascend : {K X : Type 0} (cmp : K → K → Ordering) (key : X → K) (xs : List X)
-    → InOrder cmp (map key xs) → IsAscending (λ a b. cmp (key a) (key b) ≡ Less) xs
-ascend cmp key [] h = tt
-ascend cmp key (x ∷ xs) h = (all_above cmp key (key x) xs h.0, ascend cmp key xs h.1)
-
-pub tested_keys : {K X : Type 0} (cmp : K → K → Ordering) (total : IsTotalOrder cmp) (key : X → K) (xs : List X)
-    → are_in_order cmp (map key xs) ≡ true
-    → IsAscending (λ a b. cmp (key a) (key b) ≡ Less) xs
-tested_keys cmp total key xs e = ascend cmp key xs (in_order_from cmp total (map key xs) e)
 
 order : {K : Type 0} (cmp : K → K → Ordering) (xs : List K) → InOrder cmp xs → IsAscending (λ a b. cmp a b ≡ Less) xs
 order cmp [] h = tt
@@ -45,6 +31,11 @@ pub tested_order : {K : Type 0} (cmp : K → K → Ordering) (total : IsTotalOrd
     → are_in_order cmp xs ≡ true → IsAscending (λ a b. cmp a b ≡ Less) xs
 tested_order cmp total xs e = order cmp xs (in_order_from cmp total xs e)
 
+pub tested_keys : {K X : Type 0} (cmp : K → K → Ordering) (total : IsTotalOrder cmp) (key : X → K) (xs : List X)
+    → are_in_order cmp (map key xs) ≡ true
+    → IsAscending (λ a b. cmp (key a) (key b) ≡ Less) xs
+tested_keys cmp total key xs e = ascending_from_map _ key xs (tested_order cmp total (map key xs) e)
+
 -- ---- the rows of a table
 
 module _ {L X : Type 0} (cmp : X → X → Ordering) (total : IsTotalOrder cmp) (columns : Row → Row) (of : Row → X)
@@ -53,17 +44,6 @@ module _ {L X : Type 0} (cmp : X → X → Ordering) (total : IsTotalOrder cmp) 
   abbrev pub IsGood : L → Type 0
   IsGood l = (shown l ≡ written (entry l)) × (of (shown l) ≡ entry l)
 
-  shown_all : (plain_rows : List L)
-      → AllByRecursion IsGood plain_rows → AllByRecursion (λ v. v ≡ written (of v)) (map shown plain_rows)
-  shown_all [] all = tt
-  shown_all (l ∷ plain_rows) all = (all.0.0 ∙ ap written (sym all.0.1), shown_all plain_rows all.1)
-
-  entries : (plain_rows : List L)
-      → AllByRecursion IsGood plain_rows → map (λ l. of (shown l)) plain_rows ≡ map entry plain_rows
-  entries [] all = refl
-  entries (l ∷ plain_rows) all = ap (λ e. e ∷ map (λ (k : L). of (shown k)) plain_rows) all.0.1
-      ∙ ap (λ es. entry l ∷ es) (entries plain_rows all.1)
-
   pub read_back : (plain_rows : List L) (rows : List Row)
       → ArePlainRows columns shown plain_rows rows → AllByRecursion IsGood plain_rows
       → IsAscending (λ a b. cmp a b ≡ Less) (map entry plain_rows)
@@ -71,14 +51,16 @@ module _ {L X : Type 0} (cmp : X → X → Ordering) (total : IsTotalOrder cmp) 
   read_back plain_rows rows same all up =
       let good : AllByRecursion (IsWrittenAs columns of written) rows = all_unmap (λ v. v ≡ written (of v)) columns rows
       (every_shuffled (λ v. v ≡ written (of v)) (map shown plain_rows) (map columns rows) (IsPermutation-sym _ _ same)
-      (shown_all plain_rows all)) in
+      (all_map _ shown plain_rows
+      (all_weaker IsGood _ (λ l good. good.0 ∙ ap written (sym good.1)) plain_rows all))) in
       let first : IsPermutation (map of (map columns rows)) (map of (map shown plain_rows)) =
       IsPermutation-map of _ _ same in
       let moved : IsPermutation (map (λ r. of (columns r)) rows) (map of (map shown plain_rows)) =
-      subst (λ xs. IsPermutation xs (map of (map shown plain_rows))) (fused of columns rows) first in
+      subst (λ xs. IsPermutation xs (map of (map shown plain_rows))) (map-map of columns rows) first in
       let mapped : IsPermutation (map (λ r. of (columns r)) rows) (map entry plain_rows) =
       subst (λ ys. IsPermutation (map (λ r. of (columns r)) rows) ys)
-      (fused of shown plain_rows ∙ entries plain_rows all) moved in
+      (map-map of shown plain_rows ∙ map_all (λ l. of (shown l)) entry plain_rows
+      (all_weaker IsGood _ (λ l good. good.1) plain_rows all)) moved in
       let apart : AreApart cmp (map entry plain_rows) =
       ascending_weaker _ _ (λ a b less. ap is_eq less) (map entry plain_rows) up in
       let own = apart_permuted cmp total _ _ (IsPermutation-sym _ _ mapped) apart in (

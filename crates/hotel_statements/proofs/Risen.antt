@@ -8,13 +8,20 @@ use Rattle.hotel_model.specs.Words.{pair_cmp}
 use Rattle.hotel_model.proofs.OfTables.Pairs.{pair_cmp_total}
 use Rattle.hotel_model.proofs.OfTables.KeysInOrder.{AllAfter, InOrder}
 use Rattle.hotel_statements.specs.declared.version.Version.{Version}
-use Rattle.hotel_statements.specs.Tables.{AreTables, AreTablesOf, by_key, fits_in, bare_rooms_in, bare_notes_in}
+use Rattle.hotel_statements.specs.Tables.{AreTables, AreTablesOf, by_key, rows_in, fits_in, bare_rooms_in}
+use Rattle.hotel_statements.specs.Tables.{bare_notes_in}
 use Rattle.hotel_statements.proofs.Perm.{sort_rises}
 use Rattle.hotel_statements.proofs.Keyed.{key_total}
 
 pub rooms_rise : {version : Version} (db : Trees)
     → AreTablesOf version db → IsAscending (λ a b. by_key nat_cmp a b ≡ Less) (bare_rooms_in db)
 rooms_rise db t = sort_rises (by_key nat_cmp) (key_total nat_cmp_total) _ t.room.apart
+
+pub stays_rise : (db : Trees) → AreTables db → IsAscending (λ a b. by_key nat_cmp a b ≡ Less) (rows_in db).stays
+stays_rise db t = sort_rises (by_key nat_cmp) (key_total nat_cmp_total) _ t.stay.apart
+
+pub codes_rise : (db : Trees) → AreTables db → IsAscending (λ a b. by_key nat_cmp a b ≡ Less) (rows_in db).codes
+codes_rise db t = sort_rises (by_key nat_cmp) (key_total nat_cmp_total) _ t.code.apart
 
 pub notes_rise : (db : Trees) → AreTables db → IsAscending (λ a b. by_key pair_cmp a b ≡ Less) (bare_notes_in db)
 notes_rise db t = sort_rises (by_key pair_cmp) (key_total pair_cmp_total) _ t.note.apart

@@ -1,12 +1,12 @@
 -- What the reading of a whole table answers.
-use Rattle.std.proofs.Common.{◌≡◌, refl, sym, ap, subst, ◌∙◌, List, [], ◌∷◌, ℕ, map, filter}
+use Rattle.std.proofs.Common.{◌≡◌, refl, ap, subst, ◌∙◌, List, [], ◌∷◌, ℕ, map, filter}
 use Rattle.std.specs.List.Sorted.{IsPermutation}
-use Rattle.std.proofs.lemmas.List.Sorted.{IsPermutation-map}
+use Rattle.sqlite_keyed.proofs.ListLemmas.{all_of, filter_all, map_same}
 use Rattle.sqlite_value.specs.declared.keys.Collation.TheVariants.{Binary}
 use Rattle.sqlite_value.specs.declared.keys.Key.{Key}
 use Rattle.sqlite_value.specs.Keys.{ascending}
 use Rattle.sqlite.specs.Order.{Row}
-use Rattle.sqlite.specs.Query.{IsAnswer, Output, output}
+use Rattle.sqlite.specs.Query.{IsAnswer}
 use Rattle.sqlite.specs.Program.{overlay}
 use Rattle.sqlite.specs.Term.{Term, col, eval_all}
 use Rattle.sqlite.specs.Tree.{Trees}
@@ -22,8 +22,7 @@ use Rattle.hotel_statements.specs.declared.version.Version.TheVariants.{Second}
 use Rattle.hotel_statements.specs.WholeTables.{IsWhole}
 use Rattle.hotel_statements.proofs.Statements.Terms.{columns, all_seven, all_eight}
 use Rattle.hotel_statements.proofs.Statements.Reads as reads
-use Rattle.hotel_statements.proofs.Answers.{answered, single, env, passes, fused}
-use Rattle.hotel_statements.proofs.Found.{same_tree, map_same}
+use Rattle.hotel_statements.proofs.Answers.{single, env, passes, made_of_shown}
 
 abbrev pub by_rowid : List (Term × Key)
 by_rowid = (col 1 0, ascending Binary) ∷ []
@@ -34,10 +33,6 @@ by_first = (col 1 1, ascending Binary) ∷ []
 abbrev pub by_two : List (Term × Key)
 by_two = (col 1 1, ascending Binary) ∷ (col 1 2, ascending Binary) ∷ []
 
-all_pass : (rows : List Row) → filter (passes [] []) rows ≡ rows
-all_pass [] = refl
-all_pass (r ∷ rows) = ap (λ rs. r ∷ rs) (all_pass rows)
-
 -- the rows that are shown are those of the tree, in some order
 pub all_rows : (tree : ℕ) (project : List Term) (order : List (Term × Key)) (columns cut : Row → Row)
     → ((r : Row) → eval_all project (env [] r) ≡ columns r)
@@ -45,19 +40,10 @@ pub all_rows : (tree : ℕ) (project : List Term) (order : List (Term × Key)) (
     → IsAnswer (single tree [] project order) (overlay db []) [] rows
     → IsPermutation (map columns (db tree)) (map cut rows)
 all_rows tree project order columns cut shows whole db rows a =
-    let it = answered tree [] project order (overlay db []) [] rows a in
-    let o : Row → Output = λ r. output (single tree [] project order) (env [] r) in
-    let all : IsPermutation (map o (db tree)) it.ordered =
-    subst (λ rs. IsPermutation (map o rs) it.ordered) (all_pass _ ∙ same_tree db tree) it.same in
-    let mapped : IsPermutation (map (λ (x : Output). cut x.1) (map o (db tree)))
-    (map (λ (x : Output). cut x.1) it.ordered) =
-    IsPermutation-map (λ (x : Output). cut x.1) _ _ all in
-    let left : map (λ (x : Output). cut x.1) (map o (db tree)) ≡ map columns (db tree) =
-    fused (λ (x : Output). cut x.1) o (db tree) ∙ map_same _ columns (λ r. ap cut (shows r) ∙ whole r) (db tree) in
-    let right : map (λ (x : Output). cut x.1) it.ordered ≡ map cut rows =
-    sym (fused cut (λ (x : Output). x.1) it.ordered) ∙ ap (map cut) (sym it.shown) in
-    subst (λ ys. IsPermutation (map columns (db tree)) ys) right
-    (subst (λ xs. IsPermutation xs (map (λ (x : Output). cut x.1) it.ordered)) left mapped)
+    subst (λ xs. IsPermutation xs (map cut rows))
+    (map_same _ columns (λ r. ap cut (shows r) ∙ whole r) (filter (passes [] []) (db tree))
+    ∙ ap (map columns) (filter_all (passes [] []) (db tree) (all_of _ (λ r. refl) (db tree))))
+    (made_of_shown tree [] project order db [] rows cut a)
 
 -- ---- the tables that both versions have
 

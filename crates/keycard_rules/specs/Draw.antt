@@ -4,6 +4,7 @@ use Rattle.std.specs.Prelude.{Ok, Err, if◌then◌else◌}
 use Rattle.rand_core.specs.Stream.{Stream, next_u64}
 use Rattle.keycard_rules.specs.Words.{is_one_of}
 use Rattle.keycard_rules.specs.declared.draw.DrawFault.{DrawFault}
+use Rattle.keycard_rules.specs.declared.draw.TheConstants.{MOST_WORDS}
 use Rattle.keycard_rules.specs.declared.draw.DrawFault.TheVariants.{NoFreshCode, Memory, Store}
 use Rattle.keycard_rules.specs.declared.issued.LookFault.{LookFault}
 use Rattle.keycard_rules.specs.declared.issued.LookFault.TheVariants as look
@@ -38,15 +39,15 @@ draw_from issued (word ∷ later) =
     if is_one_of (code_of word) issued then one_more (draw_from issued later)
     else record { code = Some (code_of word); examined = 1 }
 
--- the same of the next 64 words of a source
+-- the same of the next words of a source, as many as a draw may examine
 unfoldable pub drawn : List ℕ → Stream → Draw
-drawn issued source = draw_from issued (words 64 source)
+drawn issued source = draw_from issued (words MOST_WORDS source)
 
 -- the source has moved by at most n words
 abbrev pub MovedAtMost : ℕ → Stream → Stream → Type 0
 MovedAtMost n source later = (k : ℕ) × (k ≤ n) × (later ≡ past k source)
 
--- What a draw answers, and where it leaves the source: the code that is drawn, or none where all 64 are issued.
+-- What a draw answers, and where it leaves the source: the code that is drawn, or none where all are issued.
 abbrev pub Draws : List ℕ → Stream → Result ℕ DrawFault → Stream → Type 0
 Draws issued source (Ok code) later =
     ((drawn issued source).code ≡ Some code) × (later ≡ past (drawn issued source).examined source)

@@ -2,16 +2,20 @@
 ghost use Rattle.std.specs.Prelude.{◌≡◌, false, Err, IfOk, IfSome, None};
 ghost use Rattle.keycard_rules.specs.{Words.is_one_of, Draw.words, Draw.past, Draw.MovedAtMost, Draw.Draws};
 ghost use Rattle.keycard_rules.specs.{Since.Since};
+ghost use Rattle.keycard_rules.specs.declared.draw.TheConstants.{MOST_WORDS};
 ghost use Rattle.keycard_rules.specs.{Draw.AllIssued, Draw.fault_in, Rise.HasRisen};
 
 use crate::code::Code;
 use crate::issued::{Issued, LookFault};
 use rand_core::Rng;
 
+/// The most words of a source that one draw examines.
+pub const MOST_WORDS: u32 = 64;
+
 /// Why no code was drawn.
 #[derive(Clone, Copy, Debug, PartialEq, Eq)]
 pub enum DrawFault {
-    /// The codes of all 64 words were issued.
+    /// The codes of all `MOST_WORDS` words were issued.
     NoFreshCode,
     /// A look-up answered want of memory.
     Memory,
@@ -19,20 +23,21 @@ pub enum DrawFault {
     Store,
 }
 
-/// Draws a code that wasn't issued: the first such one among the codes of the source's next 64 words.
+/// Draws a code that wasn't issued: the first such one among the codes of the source's next `MOST_WORDS`
+/// words.
 ///
 /// A word's code is its upper 48 bits. The source moves by the words that were examined, and on a fault of a look-up by
-/// no more
-/// than without it. Takes no memory of its own.
+/// no more than without it. Takes no memory of its own.
 pub fn draw_fresh<R: Rng, I: Issued>(source: &mut R, issued: &mut I) -> Result<Code, DrawFault>
     ensures drawn { I.is_honest issued.new → Draws (I.issued issued.old) (R.stream source.old) result
         (R.stream source.new) }
     ensures fresh { I.is_clean issued.new → IfOk result (λ code. is_one_of code (I.issued issued.old) ≡ false) }
     ensures none_fresh { I.is_clean issued.new → result ≡ Err DrawFault.NoFreshCode
-        → AllIssued (I.issued issued.old) (words 64 (R.stream source.old)) }
+        → AllIssued (I.issued issued.old) (words MOST_WORDS (R.stream source.old)) }
 
-    ensures moved { MovedAtMost 64 (R.stream source.old) (R.stream source.new) }
-    ensures none_moved { result ≡ Err DrawFault.NoFreshCode → R.stream source.new ≡ past 64 (R.stream source.old) }
+    ensures moved { MovedAtMost MOST_WORDS (R.stream source.old) (R.stream source.new) }
+    ensures none_moved { result ≡ Err DrawFault.NoFreshCode → R.stream source.new
+        ≡ past MOST_WORDS (R.stream source.old) }
 
     ensures kept { I.is_clean issued.new → I.is_kept issued.old issued.new }
     ensures since { Since I.is_clean I.is_honest I.failures issued.old issued.new }
@@ -40,7 +45,7 @@ pub fn draw_fresh<R: Rng, I: Issued>(source: &mut R, issued: &mut I) -> Result<C
     ensures fault { IfSome (fault_in result) (λ why. HasRisen (I.failures issued.old why) (I.failures issued.new why)) }
     ensures sure { I.never_fails → fault_in result ≡ None }
 {
-    for _ in 0..64u32 {
+    for _ in 0..MOST_WORDS {
         let code = Code::of_word(source.next_u64());
         match issued.is_issued(code) {
             Ok(false) => return Ok(code),

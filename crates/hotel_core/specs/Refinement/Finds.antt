@@ -1,6 +1,7 @@
 -- What a part of a step finds in the books: what stands there, or a refusal where nothing does.
 use Rattle.std.specs.Prelude.{ℕ, ◌≡◌, Bool, true, false, List, [], ◌∷◌, Option, Some, None, Result, Ok, Err}
 use Rattle.rand_core.specs.Stream.{Stream}
+use Rattle.keycard_rules.specs.declared.draw.TheConstants.{MOST_WORDS}
 use Rattle.keycard_rules.specs.{Draw.Draw, Draw.words, Draw.past, Draw.draw_from, Draw.MovedAtMost, Rise.HasRisen}
 use Rattle.keycard_rules.specs.{Since.Since}
 use Rattle.keycard_rules.specs.{declared.issued.LookFault.LookFault}
@@ -75,12 +76,12 @@ Drew draw source rest (Err why) = DrewNone (is_failed (reply.Refused why)) draw 
 -- A draw over books, which changes no row.
 pub record DrawsCode {S : Type 0} (I : IssuedOf S) (B : BooksOf S) (old new : S) (source rest : Stream)
     (result : Result ℕ Refusal) : Type 0 where
-  pub answer : I.is_clean new → Drew (draw_from (codes_in (B.rows old)) (words 64 source)) source rest result
+  pub answer : I.is_clean new → Drew (draw_from (codes_in (B.rows old)) (words MOST_WORDS source)) source rest result
   pub same : I.is_clean new → B.rows new ≡ B.rows old
   pub since : Since I.is_clean I.is_honest I.failures old new
   pub vouched : I.is_honest new → has_failed result ≡ false → I.is_clean new
   pub moved : I.is_honest new → has_failed result ≡ true
-      → MovedAtMost (draw_from (codes_in (B.rows old)) (words 64 source)).examined source rest
+      → MovedAtMost (draw_from (codes_in (B.rows old)) (words MOST_WORDS source)).examined source rest
   pub fault : (cause : LookFault) → result ≡ Err (refusal_of cause)
       → HasRisen (I.failures old cause) (I.failures new cause)
   pub sure : I.never_fails → has_failed result ≡ true → ⊥

@@ -1,6 +1,7 @@
 -- One step over books: it goes as the outcome says, or it fails and changes nothing.
 use Rattle.std.specs.Prelude.{◌⊎◌, ◌≡◌, true, false}
 use Rattle.keycard_rules.specs.{declared.issued.LookFault.LookFault, Draw.MovedAtMost, Draw.words, Rise.HasRisen}
+use Rattle.keycard_rules.specs.declared.draw.TheConstants.{MOST_WORDS}
 use Rattle.keycard_rules.specs.{Since.Since}
 use Rattle.rand_core.specs.Stream.{Stream}
 use Rattle.hotel_model.specs.{declared.command.Command.Command, declared.change.Change.Change}
@@ -34,7 +35,7 @@ StepsWithoutWords I B outcome old new answer = (source : Stream) → StepsAs I B
 abbrev pub CarriesOut : {S : Type 0} → IssuedOf S → BooksOf S → Command → (old new : S) → (source rest : Stream)
     → Reply → Type 0
 CarriesOut I B command old new source rest answer =
-    StepsAs I B (λ rows. outcome_on rows (words 64 source) command) old new source rest answer
+    StepsAs I B (λ rows. outcome_on rows (words MOST_WORDS source) command) old new source rest answer
 
 -- The same of a command that draws nothing: whatever the source, it stays where it is.
 abbrev pub CarriesOutWithoutWords : {S : Type 0} → IssuedOf S → BooksOf S → Command → (old new : S) → Reply → Type 0

@@ -1,6 +1,7 @@
 //! Cards of new codes.
 ghost use Rattle.std.specs.Prelude.{◌≡◌, ◌<◌, ◌-◌, ◌^◌, Option, Some, IsSome, OnOk};
 ghost use Rattle.keycard_rules.specs.Draw.{words};
+ghost use Rattle.keycard_rules.specs.declared.draw.TheConstants.{MOST_WORDS};
 ghost use Rattle.hotel_model.specs.Refinement.Answered.{IsOutcome};
 ghost use Rattle.hotel_core.specs.{Refinement.Finds.Finds, Refinement.Finds.reply_of, Refinement.StepOnRows.StepsAs};
 ghost use Rattle.hotel_model.specs.Refinement.CardsOnRows.{issued_on, HasCurrent, HasLink};
@@ -58,8 +59,9 @@ pub(crate) fn issue<B: Books, R: Rng>(
 ) -> Result<Reply, Refusal>
     requires there { B.is_clean books.old → room_at (B.rows books.old) room ≡ Some row.now }
     requires outcome { B.is_clean books.old → IsOutcome (B.rows books.old)
-        (issued_on (B.rows books.old) (words 64 (R.stream source.old)) party room leaves) }
-    ensures { StepsAs B.Issued B.Books.own (λ rows. issued_on rows (words 64 (R.stream source.old)) party room leaves)
+        (issued_on (B.rows books.old) (words MOST_WORDS (R.stream source.old)) party room leaves) }
+    ensures { StepsAs B.Issued B.Books.own
+        (λ rows. issued_on rows (words MOST_WORDS (R.stream source.old)) party room leaves)
         books.old books.new (R.stream source.old) (R.stream source.new) (reply_of result) }
 {
     let number = next_card(books)?;

@@ -5,6 +5,7 @@ use Rattle.hotel_model.specs.declared.reply.Reply.{Reply}
 use Rattle.hotel_model.specs.declared.reply.Reply.TheVariants as reply
 use Rattle.hotel_model.specs.declared.reply.Refusal.{Refusal}
 use Rattle.hotel_model.specs.declared.reply.Refusal.TheVariants.{NoFreshCode}
+use Rattle.keycard_rules.specs.declared.draw.TheConstants.{MOST_WORDS}
 use Rattle.keycard_rules.specs.Note.{Note}
 use Rattle.hotel_nights.specs.declared.stay.Stay.{Stay}
 use Rattle.hotel_model.specs.declared.list_rows.ChainRow.{ChainRow}
@@ -52,11 +53,11 @@ abbrev pub chain_line : Bool → ℕ → List ChainRow → Line
 chain_line true room rows = Chain room rows
 chain_line false room rows = NoChain room
 
--- The lines with the answers that the model gives, where these are the source's words; a draw looks at the next 64 of
--- them.
+-- The lines with the answers that the model gives, where these are the source's words; a draw is given as many of the
+-- next as it may examine.
 abbrev pub play : History → List ℕ → List Line → Played
 play h ahead [] = record { lines = []; history = h; ahead = ahead }
-play h ahead ((command ⇒ _) ∷ lines) = go_on command (answer_to h (take 64 ahead) command)
+play h ahead ((command ⇒ _) ∷ lines) = go_on command (answer_to h (take MOST_WORDS ahead) command)
     (λ outcome. play (grown h outcome.happens) (drop outcome.examined ahead) lines)
 play h ahead (Arrivals day _ ∷ lines) = first_line (Arrivals day (arrivals h day)) (play h ahead lines)
 play h ahead (InHouse _ ∷ lines) = first_line (InHouse (in_house h)) (play h ahead lines)
@@ -67,7 +68,7 @@ play h ahead (NoChain room ∷ lines) = first_line (chain_line (is_room h room) 
 
 -- the words that give these codes, and then the code that comes for ever
 abbrev pub source : List ℕ → ℕ → List ℕ
-source codes last = map (λ code. code * 65536) (codes ++ replicate 64 last)
+source codes last = map (λ code. code * 65536) (codes ++ replicate MOST_WORDS last)
 
 -- The lines are answered so; the change of each event makes the rows; and what the headline says is kept throughout.
 abbrev pub AreAnswered : List Line → Played → Type 0
@@ -87,8 +88,9 @@ AreRefused before lines = play before.history before.ahead lines ≡ record befo
 abbrev pub IsRefused : History → List ℕ → Command → Refusal → Type 0
 IsRefused h ahead command refusal = answer_to h ahead command ≡ refused refusal
 
--- After what was played all other checks pass, and the draw examines 64 words, each of which gives an issued code.
+-- After what was played all other checks pass, and the draw examines all the words that it may, each of which gives an
+-- issued code.
 abbrev pub FindsNoCode : Played → Command → Type 0
 FindsNoCode before command =
     answer_to before.history before.ahead command
-    ≡ record { reply = reply.Refused NoFreshCode; happens = None; examined = 64 }
+    ≡ record { reply = reply.Refused NoFreshCode; happens = None; examined = MOST_WORDS }

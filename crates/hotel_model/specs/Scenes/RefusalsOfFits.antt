@@ -4,6 +4,7 @@
 -- NoFit, Conflict), and isn't new under an earlier one (Conflict, OldFit).
 use Rattle.std.specs.Prelude.{ℕ, ◌≡◌, ◌==◌, ◌&&◌, Bool, true, not, List, [], ◌∷◌, ◌++◌, is_some, map, take}
 use Rattle.std.specs.List.{list_all}
+use Rattle.keycard_rules.specs.declared.draw.TheConstants.{MOST_WORDS}
 use Rattle.keycard_rules.specs.declared.numbers.TheConstants.{LAST_FIT}
 use Rattle.hotel_model.specs.declared.rows.RoomRow.{RoomRow}
 use Rattle.hotel_model.specs.declared.reply.Refusal.TheVariants.{NoRoom, RoomTaken, Conflict, Gap, NoCard}
@@ -74,7 +75,7 @@ abbrev pub is_idle : Outcome Event → Bool
 is_idle outcome = not (is_some outcome.happens) && (outcome.examined == 0)
 
 abbrev pub leaves_all : Played → Line → Bool
-leaves_all before (command ⇒ reply) = is_idle (answer_to before.history (take 64 before.ahead) command)
+leaves_all before (command ⇒ reply) = is_idle (answer_to before.history (take MOST_WORDS before.ahead) command)
 leaves_all before _ = true
 
 -- Each line is refused so, or seen, after what was played before: nothing happens, and no word is examined.

@@ -49,10 +49,7 @@ pub(crate) fn kinds_rise(kinds: &[PlainKind]) -> bool
 }
 
 /// The kinds, where each reads as one.
-pub(crate) fn read_kinds(
-    alloc: Global,
-    kinds: &[PlainKind],
-) -> Result<Option<Kinds>, Memory>
+pub(crate) fn read_kinds(alloc: Global, kinds: &[PlainKind]) -> Result<Option<Kinds>, Memory>
     ensures { IfOk result (λ read. MatchOption read (list_all is_kind (map kind_text kinds.now) ≡ false)
         (λ known. (list_all is_kind (map kind_text kinds.now) ≡ true)
         × HasKinds known.entries (map kind_text kinds.now))) }
@@ -81,10 +78,7 @@ pub(crate) fn has_kind(known: &Kinds, text: &str) -> bool
 }
 
 /// The kinds, where the rules of their table hold.
-pub(crate) fn kinds_hold(
-    alloc: Global,
-    stored: &Stored,
-) -> Result<Option<Kinds>, Memory>
+pub(crate) fn kinds_hold(alloc: Global, stored: &Stored) -> Result<Option<Kinds>, Memory>
     ensures { IfOk result (λ read. MatchOption read (kind_holds stored.now ≡ false)
         (λ known. (kind_holds stored.now ≡ true) × KindsOf known.entries stored.now)) }
 {

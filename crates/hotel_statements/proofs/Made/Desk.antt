@@ -145,41 +145,42 @@ steps {tree} {rows} old new make shown did now =
 
 -- ---- which list moves
 
--- The rows are those of a table, and say this list.
-abbrev pub Say : {X : Type 0} → (X → X → Ordering) → (Row → Row) → (Row → X) → (X → Row) → List Row → List X → Type 0
-Say cmp columns of written rows list =
+-- The rows are those of a table, whose entries in order are this list.
+abbrev pub AreRowsOf : {X : Type 0} → (X → X → Ordering) → (Row → Row) → (Row → X) → (X → Row) → List Row → List X
+    → Type 0
+AreRowsOf cmp columns of written rows list =
     IsTable cmp columns of written rows × (listed cmp (λ r. of (columns r)) rows ≡ list)
 
 -- Each `assumption` is the record of the nine tables: that of these rows, and those of the other trees as they were.
 module _ {db : Trees} {rows : List Row} (was : AreTables db) where
-  pub kinds_set : {list : List (List ℕ)} → Say (slice_cmp nat_cmp) kind_columns kind_of kind_written rows list
+  pub kinds_set : {list : List (List ℕ)} → AreRowsOf (slice_cmp nat_cmp) kind_columns kind_of kind_written rows list
       → IsDeskWith db kind_tree rows (record (rows_in db) { kinds = list })
   kinds_set said =
       (assumption, ap (λ kinds. record (rows_in db) { kinds = kinds }) said.1)
 
-  pub rooms_set : {list : List (ℕ × RoomRow)} → Say (by_key nat_cmp) room_columns room_of room_written rows list
+  pub rooms_set : {list : List (ℕ × RoomRow)} → AreRowsOf (by_key nat_cmp) room_columns room_of room_written rows list
       → IsDeskWith db room_tree rows (record (rows_in db) { rooms = map (with_fit (fits_in db)) list })
   rooms_set said = (
     assumption,
     ap (λ rooms. record (rows_in db) { rooms = map (with_fit (fits_in db)) rooms }) said.1,
   )
 
-  pub stays_set : {list : List (ℕ × Stay)} → Say (by_key nat_cmp) stay_columns stay_of stay_written rows list
+  pub stays_set : {list : List (ℕ × Stay)} → AreRowsOf (by_key nat_cmp) stay_columns stay_of stay_written rows list
       → IsDeskWith db stay_tree rows (record (rows_in db) { stays = list })
   stays_set said =
       (assumption, ap (λ stays. record (rows_in db) { stays = stays }) said.1)
 
-  pub codes_set : {list : List (ℕ × CodeRow)} → Say (by_key nat_cmp) code_columns code_of code_written rows list
+  pub codes_set : {list : List (ℕ × CodeRow)} → AreRowsOf (by_key nat_cmp) code_columns code_of code_written rows list
       → IsDeskWith db code_tree rows (record (rows_in db) { codes = list })
   codes_set said =
       (assumption, ap (λ codes. record (rows_in db) { codes = codes }) said.1)
 
-  pub cards_set : {list : List (ℕ × Card)} → Say (by_key nat_cmp) card_columns card_of card_written rows list
+  pub cards_set : {list : List (ℕ × Card)} → AreRowsOf (by_key nat_cmp) card_columns card_of card_written rows list
       → IsDeskWith db card_tree rows (record (rows_in db) { cards = list })
   cards_set said =
       (assumption, ap (λ cards. record (rows_in db) { cards = cards }) said.1)
 
-  pub insides_set : {list : List (ℕ × ℕ)} → Say pair_cmp inside_columns inside_of inside_written rows list
+  pub insides_set : {list : List (ℕ × ℕ)} → AreRowsOf pair_cmp inside_columns inside_of inside_written rows list
       → AllByRecursion HasId rows → AreApartIds rows
       → IsDeskWith db inside_tree rows (record (rows_in db) { inside = list })
   insides_set said numbered apart = (
@@ -187,14 +188,15 @@ module _ {db : Trees} {rows : List Row} (was : AreTables db) where
     ap (λ inside. record (rows_in db) { inside = inside }) said.1,
   )
 
-  pub notes_set : {list : List ((ℕ × ℕ) × Note)} → Say (by_key pair_cmp) note_columns note_of note_written rows list
+  pub notes_set : {list : List ((ℕ × ℕ) × Note)}
+      → AreRowsOf (by_key pair_cmp) note_columns note_of note_written rows list
       → IsDeskWith db note_tree rows (record (rows_in db) { notes = map (under_fit (fits_in db)) list })
   notes_set said = (
     assumption,
     ap (λ notes. record (rows_in db) { notes = map (under_fit (fits_in db)) notes }) said.1,
   )
 
-  pub fits_set : {list : FitEntries} → Say (by_key pair_cmp) fit_columns fit_of fit_written rows list
+  pub fits_set : {list : FitEntries} → AreRowsOf (by_key pair_cmp) fit_columns fit_of fit_written rows list
       → IsDeskWith db fit_tree rows (record (rows_in db) {
         rooms = map (with_fit list) (bare_rooms_in db);
         notes = map (under_fit list) (bare_notes_in db);
@@ -210,15 +212,15 @@ module _ {db : Trees} {rows : List Row} (was : AreTables db) where
   )
 
   pub day_set : {day : Option ℕ}
-      → Say (by_key nat_cmp) meta_columns meta_of meta_written rows ((1, (2, day)) ∷ [])
+      → AreRowsOf (by_key nat_cmp) meta_columns meta_of meta_written rows ((1, (2, day)) ∷ [])
       → IsDeskWith db meta_tree rows (record (rows_in db) { day = day })
   day_set {day} said =
       let row : (day : Option ℕ) × (metas_in (with_tree db meta_tree rows) ≡ (1, (2, day)) ∷ []) = (day, said.1) in
       (assumption, rw said.1 refl)
 
 -- the version of meta, where there are no fits
-pub version_set : {db : Trees} {rows : List Row} (was : AreTablesOf First db) → db fit_tree ≡ [] → AreMetas rows
-    × (listed (by_key nat_cmp) (λ r. meta_of (meta_columns r)) rows ≡ (1, (2, was.meta_row.0)) ∷ [])
+pub version_set : {db : Trees} {rows : List Row} (was : AreTablesOf First db) → db fit_tree ≡ []
+    → AreRowsOf (by_key nat_cmp) meta_columns meta_of meta_written rows ((1, (2, was.meta_row.0)) ∷ [])
     → AreTables (with_tree db meta_tree rows) × (bare_rows_in (with_tree db meta_tree rows) ≡ bare_rows_in db)
     × (fits_in (with_tree db meta_tree rows) ≡ [])
 version_set {db} {rows} was empty made =

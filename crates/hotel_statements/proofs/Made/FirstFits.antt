@@ -1,6 +1,6 @@
 -- What the statements of an upgrade make of the tables.
-use Rattle.std.proofs.Common.{◌≡◌, ◌<◌, ◌==◌, ◌++◌, refl, sym, ap, subst, ◌∙◌, List, [], ◌∷◌, ℕ, pos, Ok, true, false}
-use Rattle.std.proofs.Common.{arith, nat_cmp, Greater, IsTrue}
+use Rattle.std.proofs.Common.{◌≡◌, ◌<◌, ◌==◌, ◌++◌, refl, sym, ap, subst, ◌∙◌, List, [], ◌∷◌, ℕ, Ok, true, false}
+use Rattle.std.proofs.Common.{Option, arith, nat_cmp, Greater, IsTrue}
 use Rattle.std.specs.List.{AllByRecursion, list_all}
 use Rattle.std.specs.BTreeMap.{insert_entry}
 use Rattle.std.proofs.lemmas.Bool.Decides.{nat_tests}
@@ -13,22 +13,17 @@ use Rattle.hotel_model.specs.declared.rows.FitRow.{FitRow}
 use Rattle.hotel_model.specs.Words.{pair_cmp}
 use Rattle.hotel_model.specs.Refits.{fit_row}
 use Rattle.hotel_rows.specs.Joined.{FitEntries}
-use Rattle.hotel_statements.specs.Trees.{meta_tree}
-use Rattle.hotel_statements.specs.Schema.{meta_table}
 use Rattle.hotel_statements.specs.Texts.{update_version, insert_fit}
-use Rattle.hotel_statements.specs.Values.{int, maybe_int}
-use Rattle.hotel_statements.specs.Columns.{meta_columns, meta_of, meta_written}
+use Rattle.hotel_statements.specs.Values.{int}
 use Rattle.hotel_statements.specs.Tables.{AreTables, bare_rows_in, fits_in}
 use Rattle.hotel_statements.specs.Steps.{is_below}
 use Rattle.hotel_statements.specs.Upgrade.{IsOutdated, IsBefore, HasFits, first_of}
 use Rattle.hotel_statements.proofs.Statements.Changes as changes
-use Rattle.hotel_statements.proofs.Writing.{cast_null, cast_int, cast_maybe}
 use Rattle.hotel_statements.proofs.Made.Desk.{Changed, same_desk, same_bare, same_fits, front_of, fits_set, version_set}
 use Rattle.hotel_statements.proofs.Made.Entries.{changed_at}
-use Rattle.hotel_statements.proofs.Made.Reads.{meta_stored, meta_good, meta_reads, meta_numbered}
 use Rattle.hotel_statements.proofs.Made.Writes.{left_sound}
 use Rattle.hotel_statements.proofs.Made.Inserts.{puts_fit}
-use Rattle.hotel_statements.proofs.Made.Updates.{sets}
+use Rattle.hotel_statements.proofs.Made.Updates.{sets_meta}
 
 -- a statement wrote one table, and this is what its rows make of the desk
 has_fits : {tree : ℕ} {rows : List Row} {fits : FitEntries} (old new : State) → Shows old new new.now old.committed true
@@ -59,25 +54,13 @@ pub version_step : (old new : State) (count : ℕ)
     → (IsTrue old.is_open → IsOutdated old) → HasFits [] old new
 version_step old new count h before =
     let was = before h.1.was_open in
-    let e = λ (r : Row). meta_of (meta_columns r) in
-    let stored = λ (r : Row). meta_stored ((e r).0, (2, (e r).1.1)) in
-    let did = sets meta_columns meta_of meta_written meta_numbered meta_tree meta_table 1 (int 2 ∷ []) (λ x. (2, x.1))
-    (λ r. int (e r).0 ∷ int (e r).0 ∷ Null ∷ int 2 ∷ maybe_int (e r).1.1 ∷ []) stored old new count refl
-    changes.update_version (λ _ does. does)
-    (record {
-      given = λ r good. ap (λ (v : Row). column v 0 ∷ column v 0 ∷ Null ∷ int 2 ∷ column v 2 ∷ []) good;
-      number = λ r. refl;
-      cast = λ r. rw (cast_null, cast_int (pos (e r).0), cast_int (pos 2), cast_maybe (e r).1.1) refl;
-      good = λ r. meta_good ((e r).0, (2, (e r).1.1));
-      reads = λ r. meta_reads ((e r).0, (2, (e r).1.1));
-      id = λ r. refl;
-    }) was.schema was.tables.meta h.0 in
+    let f : ℕ × Option ℕ → ℕ × Option ℕ = λ x. (2, x.1) in
+    let did = sets_meta (int 2 ∷ []) f old new count changes.update_version (λ _ does. does)
+    (λ r good. ap (λ (v : Row). column v 0 ∷ column v 0 ∷ Null ∷ int 2 ∷ column v 2 ∷ []) good)
+    was.schema was.tables.meta h.0 in
     has_fits old new h.1 did.changes
     (left_sound old new update_version _ _ count changes.update_version (λ w. w) was.schema h.0)
-    (version_set was.tables was.empty (
-      did.made.0,
-      did.made.1 ∙ ap (changed_at 1 (λ x. (2, x.1))) was.tables.meta_row.1,
-    ))
+    (version_set was.tables was.empty (did.made.0, did.made.1 ∙ ap (changed_at 1 f) was.tables.meta_row.1))
 
 -- ---- the first fit of a room, behind those of the rooms before it
 

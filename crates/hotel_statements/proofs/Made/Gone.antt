@@ -1,20 +1,20 @@
 -- What a DELETE of cards inside a room makes of the rows of a desk: those are gone that pass its test.
-use Rattle.std.proofs.Common.{◌≡◌, ◌||◌, not, inl, inr, refl, sym, ap, subst, ◌∙◌, List, [], ◌∷◌, ℕ, ℤ, true, false}
+use Rattle.std.proofs.Common.{◌≡◌, ◌||◌, not, inl, inr, refl, sym, ap, ◌∙◌, List, [], ◌∷◌, ℕ, ℤ, true, false}
 use Rattle.std.proofs.Common.{Bool, cond, Ok, map, filter, is_eq}
 use Rattle.std.specs.List.{AllByRecursion, list_any}
 use Rattle.std.specs.List.Sorted.{IsPermutation}
 use Rattle.std.proofs.lemmas.Bool.{cases_Bool}
 use Rattle.std.proofs.lemmas.Cmp.{tied_itself}
-use Rattle.std.proofs.lemmas.List.Sorted.{IsPermutation-map, IsPermutation-sym, list_any-IsPermutation}
+use Rattle.std.proofs.lemmas.List.Sorted.{IsPermutation-sym, list_any-IsPermutation}
 use Rattle.sqlite_keyed.proofs.SortLemmas.{IsPermutation-sort_by}
-use Rattle.sqlite_keyed.proofs.ListLemmas.{all_weaker, all-filter, filter_same}
+use Rattle.sqlite_keyed.proofs.ListLemmas.{all_of, filter_all, all_weaker, all-filter, filter_same}
 use Rattle.sqlite_rules.specs.Calls.{ids_of}
 use Rattle.sqlite_rules.specs.Edit.{id_in, without_all}
 use Rattle.sqlite_trees.specs.Tree.{rowid, has_rowid, without_rowid}
 use Rattle.sqlite_value.proofs.OrderLemmas.{value_cmp_total}
 use Rattle.sqlite_value.specs.declared.value.Value.TheVariants.{Null}
 use Rattle.sqlite.specs.Order.{Row, value_cmp}
-use Rattle.sqlite.specs.Query.{Query, IsAnswer, Output, output}
+use Rattle.sqlite.specs.Query.{Query, IsAnswer}
 use Rattle.sqlite.specs.Program.{overlay}
 use Rattle.sqlite.specs.Command.TheVariants.{Delete}
 use Rattle.sqlite.specs.Table.{Table}
@@ -36,31 +36,30 @@ use Rattle.hotel_statements.specs.Schema.{desk_schema, inside_table, at_tree}
 use Rattle.hotel_statements.specs.Columns.{inside_columns, inside_of, inside_written}
 use Rattle.hotel_statements.specs.Tables.{IsWrittenAs, AreApart, AreApartIds, HasId, rows_in}
 use Rattle.hotel_statements.specs.Steps.{IsMidWith, MovesRows}
-use Rattle.hotel_statements.proofs.Answers.{answered, single, env, passes, fused}
+use Rattle.hotel_statements.proofs.Answers.{single, passes, made_of_shown}
 use Rattle.hotel_statements.proofs.Perm.{same_tie, apart_filtered, apart_permuted, filter_makes}
 use Rattle.hotel_statements.proofs.Writing.{went, same_value}
 use Rattle.hotel_statements.proofs.Made.Desk.{changed, steps, insides_set}
 use Rattle.hotel_statements.proofs.Statements.Terms.{Does}
 use Rattle.hotel_statements.proofs.Made.Writes.{IsOn, wrote}
 
+-- a row is as the books write a card inside a room
 abbrev pub Good : Row → Type 0
 Good = IsWrittenAs inside_columns inside_of inside_written
 
+-- the room and the card that a row says
 abbrev pub read : Row → ℕ × ℕ
 read r = inside_of (inside_columns r)
 
--- the number of a row, and whether a row has one of some
+-- the number of a row
 abbrev own : Row → ℤ
 own r = id_in (rowid r)
 
+-- a row has one of these numbers
 abbrev has_any : List ℤ → Row → Bool
 has_any ids r = list_any (λ id. has_rowid id r) ids
 
 -- ---- rows without those of some numbers
-
-all_kept : (rows : List Row) → filter (λ r. not (has_any [] r)) rows ≡ rows
-all_kept [] = refl
-all_kept (r ∷ rows) = ap (λ rs. r ∷ rs) (all_kept rows)
 
 filter_twice : (p q : Row → Bool) (rows : List Row) → filter (λ r. not (q r)) (filter (λ r. not (p r)) rows)
     ≡ filter (λ r. not (p r || q r)) rows
@@ -74,7 +73,7 @@ filter_twice p q (r ∷ rows) = elim (cases_Bool (p r)) [
 ]
 
 gone_each : (ids : List ℤ) (rows : List Row) → without_all rows ids ≡ filter (λ r. not (has_any ids r)) rows
-gone_each [] rows = sym (all_kept rows)
+gone_each [] rows = sym (filter_all (λ r. not (has_any [] r)) rows (all_of _ (λ r. refl) rows))
 gone_each (id ∷ ids) rows = gone_each ids (without_rowid id rows) ∙ filter_twice (has_rowid id) (has_any ids) rows
 
 -- ---- the numbers of the rows that pass a test
@@ -136,18 +135,12 @@ module _ (tests : List Term) (params : Row) where
       → edited db (edit_of db table (ids_of rows) Given 0 [])
       ≡ filter (λ r. not (passes tests params r)) (db inside_tree)
   shown_left db rows keyed ids a =
-      let it = answered inside_tree tests (col 1 0 ∷ []) [] (overlay db []) params rows a in
-      let outs : Row → Output = λ r. output (query tests) (env params r) in
-      let number : Output → ℤ = λ o. own o.1 in
       let some = filter (passes tests params) (db inside_tree) in
-      let same : IsPermutation (map own some) (map number it.ordered) = subst
-      (λ xs. IsPermutation xs (map number it.ordered)) (fused number outs some)
-      (IsPermutation-map number (map outs some) it.ordered it.same) in
-      let shown : ids_of rows ≡ map number it.ordered =
-      ap ids_of it.shown ∙ fused own (λ (o : Output). o.1) it.ordered in
-      ap (without_all (db inside_tree)) shown ∙ gone_each (map number it.ordered) (db inside_tree)
-      ∙ filter_same (λ r. not (has_any (map number it.ordered) r)) (λ r. not (has_any (map own some) r))
-      (λ r. ap not (sym (list_any-IsPermutation (λ id. has_rowid id r) (map own some) (map number it.ordered) same)))
+      let same : IsPermutation (map own some) (ids_of rows) =
+      made_of_shown inside_tree tests (col 1 0 ∷ []) [] db params rows own a in
+      gone_each (ids_of rows) (db inside_tree)
+      ∙ filter_same (λ r. not (has_any (ids_of rows) r)) (λ r. not (has_any (map own some) r))
+      (λ r. ap not (sym (list_any-IsPermutation (λ id. has_rowid id r) (map own some) (ids_of rows) same)))
       (db inside_tree)
       ∙ passing (passes tests params) (db inside_tree) ids keyed
 

@@ -50,7 +50,7 @@ use Rattle.hotel_statements.specs.Columns.{room_columns, room_of, room_written, 
 use Rattle.hotel_statements.specs.Columns.{code_columns, code_of, code_written, card_columns, card_of, card_written}
 use Rattle.hotel_statements.specs.Columns.{fit_columns, fit_of, fit_written}
 use Rattle.hotel_rows.specs.Joined.{with_last, with_fit, with_count, under_fit, fit_of_number}
-use Rattle.hotel_statements.specs.Tables.{AreFits, IsWrittenAs, by_key, listed, rows_in, fits_in, bare_rooms_in}
+use Rattle.hotel_statements.specs.Tables.{IsWrittenAs, by_key, rows_in, fits_in, bare_rooms_in}
 use Rattle.hotel_statements.specs.Tables.{bare_notes_in}
 use Rattle.hotel_core.specs.Refinement.Finds.{AnyRows}
 use Rattle.hotel_statements.specs.Steps.{IsMid, IsMidWith, IsNewNote, IsNextFit, IsWithoutFit, MovesRows}
@@ -66,8 +66,8 @@ use Rattle.hotel_statements.proofs.Perm.{same_tie}
 use Rattle.hotel_rows.proofs.OfJoined.{joined_at, room_put, note_joined, note_put}
 use Rattle.hotel_statements.proofs.Joins.{rooms_fitted, notes_kept, noted_bare}
 use Rattle.hotel_statements.proofs.Risen.{rooms_rise, fits_rise, keys_rise}
-use Rattle.hotel_statements.proofs.Made.Desk.{Changed, changed, steps, rooms_set, stays_set, codes_set, cards_set}
-use Rattle.hotel_statements.proofs.Made.Desk.{kinds_set, notes_set, fits_set}
+use Rattle.hotel_statements.proofs.Made.Desk.{Changed, AreRowsOf, changed, steps, rooms_set, stays_set, codes_set}
+use Rattle.hotel_statements.proofs.Made.Desk.{cards_set, kinds_set, notes_set, fits_set}
 use Rattle.hotel_statements.proofs.Made.Entries.{insert_makes, put_keyed, entry_put, key_put}
 use Rattle.hotel_statements.proofs.Keyed.{key_total}
 use Rattle.hotel_statements.proofs.Made.Reads.{room_cast, stay_cast, room_stored, room_good, room_reads}
@@ -297,8 +297,8 @@ none_at room number (e ∷ es) later =
 pub record PutsFit (fit : FitRow) (old new : State) : Type 0 where
   pub rows : List Row
   pub changes : Changed fit_tree rows old new
-  pub made : AreFits rows × (listed (by_key pair_cmp) (λ r. fit_of (fit_columns r)) rows
-      ≡ insert_entry pair_cmp (fits_in old.now.trees) (fit.room, fit.fit) fit)
+  pub made : AreRowsOf (by_key pair_cmp) fit_columns fit_of fit_written rows
+      (insert_entry pair_cmp (fits_in old.now.trees) (fit.room, fit.fit) fit)
 
 -- one whose number no fit of the room has reached
 pub puts_fit : (old new : State) (fit : FitRow) (count : ℕ)

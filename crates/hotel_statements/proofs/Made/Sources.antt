@@ -1,7 +1,6 @@
 -- The one row, or none, that an UPDATE by the number of the row finds.
-use Rattle.std.proofs.Common.{◌≡◌, ◌⊎◌, inl, inr, refl, ap, subst, ◌∙◌, List, [], ◌∷◌, ℕ, map, filter, eqb}
+use Rattle.std.proofs.Common.{◌≡◌, ◌⊎◌, inl, inr, ap, subst, ◌∙◌, List, [], ◌∷◌, ℕ, map, filter, eqb}
 use Rattle.std.proofs.Common.{nat_cmp}
-use Rattle.std.specs.List.{AllByRecursion}
 use Rattle.std.specs.List.Sorted.{IsPermutation}
 use Rattle.sqlite_value.specs.declared.keys.Collation.TheVariants.{Binary}
 use Rattle.sqlite_sql.specs.declared.ops.BinaryOp.TheVariants.{Compare}
@@ -15,9 +14,10 @@ use Rattle.sqlite.specs.Tree.{Trees}
 use Rattle.sqlite.proofs.Callers.{one_permutation}
 use Rattle.hotel_statements.specs.Values.{int}
 use Rattle.hotel_statements.specs.Tables.{IsTable, IsWrittenAs, by_key}
+use Rattle.sqlite_keyed.proofs.ListLemmas.{all_weaker}
 use Rattle.hotel_statements.proofs.Keys.{equals, and_true}
 use Rattle.hotel_statements.proofs.Answers.{answered, single, env, passes}
-use Rattle.hotel_statements.proofs.Perm.{found_of, none_permuted}
+use Rattle.hotel_statements.proofs.Perm.{filter_alike, found_of, none_permuted}
 use Rattle.hotel_statements.proofs.Statements.Terms.{by_rowid}
 use Rattle.hotel_statements.proofs.Made.Entries.{few}
 
@@ -27,11 +27,6 @@ module _ {X : Type 0} (columns : Row → Row) (of : Row → ℕ × X) (written :
       → IsWrittenAs columns of written r → passes by_rowid (int k ∷ more) r ≡ eqb (of (columns r)).0 k
   tested k more r good = and_true _
       ∙ ap (λ v. is_true (binary (Compare Eq Binary) v (int k))) (numbered r good) ∙ equals (of (columns r)).0 k
-
-  same_filter : (k : ℕ) (more : Row) (rows : List Row) → AllByRecursion (IsWrittenAs columns of written) rows
-      → filter (passes by_rowid (int k ∷ more)) rows ≡ filter (λ r. eqb (of (columns r)).0 k) rows
-  same_filter k more [] good = refl
-  same_filter k more (r ∷ rows) good = rw (tested k more r good.0, same_filter k more rows good.1) refl
 
   -- the rows with the number, and what the query of the statement gives for them
   pub record Sourced (terms : List Term) (k : ℕ) (more : Row) (rows given : List Row) (r : Row) : Type 0 where
@@ -43,23 +38,22 @@ module _ {X : Type 0} (columns : Row → Row) (of : Row → ℕ × X) (written :
   outs tree terms params r = output (single tree by_rowid terms []) (env params r)
 
   pub sourced : (tree : ℕ) (terms : List Term) (k : ℕ) (more : Row) (db : Trees) (given : List Row)
-      → overlay db [] tree ≡ db tree → IsTable (by_key nat_cmp) columns of written (db tree)
+      → IsTable (by_key nat_cmp) columns of written (db tree)
       → IsAnswer (single tree by_rowid terms []) (overlay db []) (int k ∷ more) given
       → ((filter (λ r. eqb (of (columns r)).0 k) (db tree) ≡ []) × (given ≡ []))
       ⊎ ((r : Row) × Sourced terms k more (db tree) given r)
-  sourced tree terms k more db given bare was a =
-      let it = answered tree by_rowid terms [] (overlay db []) (int k ∷ more) given a in
-      let answers = subst (λ rs. IsPermutation
-      (map (outs tree terms (int k ∷ more)) (filter (passes by_rowid (int k ∷ more)) rs)) it.ordered) bare it.same in
-      let same = same_filter k more (db tree) was.good in
+  sourced tree terms k more db given was a =
+      let it = answered tree by_rowid terms [] db (int k ∷ more) given a in
+      let same = filter_alike (passes by_rowid (int k ∷ more)) (λ r. eqb (of (columns r)).0 k) (db tree)
+      (all_weaker _ _ (tested k more) (db tree) was.good) in
       elim (few columns of written numbered k (db tree) was.apart) [
         | inl none ↦
             let ordered : it.ordered ≡ [] = none_permuted it.ordered
-            (subst (λ rs. IsPermutation (map (outs tree terms (int k ∷ more)) rs) it.ordered) (same ∙ none) answers) in
+            (subst (λ rs. IsPermutation (map (outs tree terms (int k ∷ more)) rs) it.ordered) (same ∙ none) it.same) in
             inl (none, it.shown ∙ ap (map (λ o. o.1)) ordered)
         | inr one ↦
             let ordered : it.ordered ≡ outs tree terms (int k ∷ more) one.0 ∷ [] = one_permutation _ it.ordered
-            (subst (λ rs. IsPermutation (map (outs tree terms (int k ∷ more)) rs) it.ordered) (same ∙ one.1) answers) in
+            (subst (λ rs. IsPermutation (map (outs tree terms (int k ∷ more)) rs) it.ordered) (same ∙ one.1) it.same) in
             inr (
               one.0,
               record {

@@ -14,7 +14,6 @@ use Rattle.sqlite_rules.specs.Calls.{ids_of}
 use Rattle.sqlite_rules.specs.Cast.{cast_row}
 use Rattle.sqlite_rules.specs.Edit.{id_in}
 use Rattle.sqlite_trees.specs.Tree.{rowid}
-use Rattle.sqlite.specs.Program.{overlay}
 use Rattle.sqlite.specs.Rows.{Written, Edited}
 use Rattle.sqlite.specs.Tree.{put_row, without_rowid}
 use Rattle.sqlite.specs.Listing.{understood}
@@ -33,7 +32,8 @@ use Rattle.hotel_statements.specs.Texts.{update_state}
 use Rattle.hotel_statements.specs.Values.{int, maybe_int}
 use Rattle.hotel_statements.specs.Columns.{bit_of, state_number, meta_columns, meta_of, meta_written, room_columns}
 use Rattle.hotel_statements.specs.Columns.{room_of, room_written, stay_columns, stay_of, stay_written}
-use Rattle.hotel_statements.specs.Tables.{IsTable, IsWrittenAs, listed, by_key, rows_in, fits_in, bare_rooms_in}
+use Rattle.hotel_statements.specs.Tables.{AreMetas, IsTable, IsWrittenAs, listed, by_key, rows_in, fits_in}
+use Rattle.hotel_statements.specs.Tables.{bare_rooms_in}
 use Rattle.hotel_core.specs.Refinement.Finds.{AnyRows}
 use Rattle.hotel_statements.specs.Steps.{IsMidWith, MovesRows, day_set, room_issued, room_freed, room_noted}
 use Rattle.hotel_statements.specs.Steps.{room_refitted, stay_set}
@@ -44,7 +44,7 @@ use Rattle.hotel_statements.proofs.Statements.Terms.{Does, by_rowid}
 use Rattle.hotel_statements.proofs.Statements.Changes as changes
 use Rattle.hotel_statements.proofs.Writing.{went, same_value}
 use Rattle.hotel_statements.proofs.Made.Desk as desk
-use Rattle.hotel_statements.proofs.Made.Desk.{Changed, changed, steps, rooms_set, stays_set}
+use Rattle.hotel_statements.proofs.Made.Desk.{Changed, AreRowsOf, changed, steps, rooms_set, stays_set}
 use Rattle.hotel_statements.proofs.Made.Entries.{Updated, update_makes, changed_at, filter_passes}
 use Rattle.hotel_statements.proofs.Made.Sources.{sourced}
 use Rattle.hotel_statements.proofs.Made.Reads.{meta_cast, room_cast, stay_cast, meta_stored, meta_good, meta_reads}
@@ -75,17 +75,17 @@ module _ {X : Type 0} (columns : Row → Row) (of : Row → ℕ × X) (written :
   pub record Sets (tree k : ℕ) (f : X → X) (old new : State) : Type 0 where
     pub rows : List Row
     pub changes : Changed tree rows old new
-    pub made : IsTable (by_key nat_cmp) columns of written rows
-        × (listed (by_key nat_cmp) read rows ≡ changed_at k f (listed (by_key nat_cmp) read (old.now.trees tree)))
+    pub made : AreRowsOf (by_key nat_cmp) columns of written rows
+        (changed_at k f (listed (by_key nat_cmp) read (old.now.trees tree)))
 
   pub sets : {at : ℕ} {text : List ℕ} {terms : List Term} (tree : ℕ) (t : Table) (k : ℕ)
       (more : Row) (f : X → X) (source stored : Row → Row) (old new : State) (count : ℕ)
-      → overlay old.now.trees [] tree ≡ old.now.trees tree → Does text (update at tree terms)
+      → Does text (update at tree terms)
       → IsOn tree t (statement_of text (understood desk_schema text)) (update at tree terms) old (int k ∷ more)
       → Gives (at_place tree t) terms (int k ∷ more) f source stored
       → old.now.schema ≡ desk_schema → IsTable (by_key nat_cmp) columns of written (old.now.trees tree)
       → ExecutesIn false text (int k ∷ more) old new (Ok count) → Sets tree k f old new
-  sets {at} {text} {terms} tree t k more f source stored old new count bare does on gives has was h =
+  sets {at} {text} {terms} tree t k more f source stored old new count does on gives has was h =
       let db = old.now.trees in
       let keys = (mode_of old).keys in
       let table = at_place tree t in
@@ -94,7 +94,7 @@ module _ {X : Type 0} (columns : Row → Row) (of : Row → ℕ × X) (written :
       let put = went given.2 in
       let after =
       done.2 ∙ ap (λ (it : Written). record { schema = desk_schema; trees = it.trees }) (same_value put.2) in
-      elim (sourced columns of written numbered tree terms k more db given.0 bare was (given.1.answer Null)) [
+      elim (sourced columns of written numbered tree terms k more db given.0 was (given.1.answer Null)) [
         | inl none ↦
             let went_in = subst
             (λ all. Edited desk_schema keys db (edit_of db table (ids_of all) Given 1 all) (Ok put.0)) none.1 put.1 in
@@ -134,27 +134,41 @@ module _ {X : Type 0} (columns : Row → Row) (of : Row → ℕ × X) (written :
             }
       ]
 
--- ---- the day of meta
+-- ---- the row of meta
+
+pub sets_meta : {at : ℕ} {text : List ℕ} {terms : List Term} (more : Row)
+    (f : ℕ × Option ℕ → ℕ × Option ℕ) (old new : State) (count : ℕ) → Does text (update at meta_tree terms)
+    → IsOn meta_tree meta_table (statement_of text (understood desk_schema text)) (update at meta_tree terms) old
+    (int 1 ∷ more)
+    → ((r : Row) → IsWrittenAs meta_columns meta_of meta_written r → eval_all terms (env (int 1 ∷ more) r)
+    ≡ int (meta_of (meta_columns r)).0 ∷ meta_stored ((meta_of (meta_columns r)).0, f (meta_of (meta_columns r)).1))
+    → old.now.schema ≡ desk_schema → AreMetas (old.now.trees meta_tree)
+    → ExecutesIn false text (int 1 ∷ more) old new (Ok count)
+    → Sets meta_columns meta_of meta_written meta_numbered meta_tree 1 f old new
+sets_meta more f old new count does on given has was h =
+    let e = λ (r : Row). meta_of (meta_columns r) in
+    let now : Row → ℕ × (ℕ × Option ℕ) = λ r. ((e r).0, f (e r).1) in
+    sets meta_columns meta_of meta_written meta_numbered meta_tree meta_table 1 more f
+    (λ r. int (e r).0 ∷ meta_stored (now r)) (λ r. meta_stored (now r)) old new count does on
+    (record {
+      given = given;
+      number = λ r. refl;
+      cast = λ r. meta_cast (now r);
+      good = λ r. meta_good (now r);
+      reads = λ r. meta_reads (now r);
+      id = λ r. refl;
+    }) has was h
 
 pub day_step : (old new : State) (day count : ℕ) → ExecutesInside 0 update_day (int 1 ∷ int day ∷ []) old new (Ok count)
     → IsMidWith AnyRows old → MovesRows old new (day_set day)
 day_step old new day count h mid =
     let was = (mid h.1.was_open).0 in
-    let e = λ (r : Row). meta_of (meta_columns r) in
-    let stored = λ (r : Row). meta_stored ((e r).0, ((e r).1.0, Some day)) in
-    let did = sets meta_columns meta_of meta_written meta_numbered meta_tree meta_table 1 (int day ∷ [])
-    (λ x. (x.0, Some day)) (λ r. int (e r).0 ∷ stored r) stored old new count refl
-    changes.update_day (λ _ does. does)
-    (record {
-      given = λ r good. ap (λ (v : Row). column v 0 ∷ column v 0 ∷ Null ∷ column v 1 ∷ int day ∷ []) good;
-      number = λ r. refl;
-      cast = λ r. meta_cast ((e r).0, ((e r).1.0, Some day));
-      good = λ r. meta_good ((e r).0, ((e r).1.0, Some day));
-      reads = λ r. meta_reads ((e r).0, ((e r).1.0, Some day));
-      id = λ r. refl;
-    }) was.schema was.tables.meta h.0 in
+    let f : ℕ × Option ℕ → ℕ × Option ℕ = λ x. (x.0, Some day) in
+    let did = sets_meta (int day ∷ []) f old new count changes.update_day (λ _ does. does)
+    (λ r good. ap (λ (v : Row). column v 0 ∷ column v 0 ∷ Null ∷ column v 1 ∷ int day ∷ []) good)
+    was.schema was.tables.meta h.0 in
     steps old new (day_set day) h.1 did.changes
-    (desk.day_set was.tables (did.made.0, did.made.1 ∙ ap (changed_at 1 (λ x. (x.0, Some day))) was.tables.meta_row.1))
+    (desk.day_set was.tables (did.made.0, did.made.1 ∙ ap (changed_at 1 f) was.tables.meta_row.1))
 
 -- ---- a room
 
@@ -181,7 +195,7 @@ rooms_step room more f old new count same apart does on given h mid =
     let db = old.now.trees in
     let x = λ (r : Row). (room_of (room_columns r)).1 in
     let did = sets room_columns room_of room_written room_numbered room_tree room_table room more f
-    (λ r. int (x r).room ∷ room_stored (f (x r))) (λ r. room_stored (f (x r))) old new count refl does on
+    (λ r. int (x r).room ∷ room_stored (f (x r))) (λ r. room_stored (f (x r))) old new count does on
     (record {
       given = given;
       number = λ r. refl;
@@ -248,7 +262,7 @@ state_step old new party state count h mid =
     let x = λ (r : Row). (stay_of (stay_columns r)).1 in
     let now = int (state_number state) ∷ maybe_int (room_of_state state) ∷ [] in
     let did = sets stay_columns stay_of stay_written stay_numbered stay_tree stay_table party now (now_is state)
-    (λ r. int (x r).party ∷ stay_stored (now_is state (x r))) (λ r. stay_stored (now_is state (x r))) old new count refl
+    (λ r. int (x r).party ∷ stay_stored (now_is state (x r))) (λ r. stay_stored (now_is state (x r))) old new count
     changes.update_state (λ _ does. does)
     (record {
       given = λ r good. ap

@@ -10,8 +10,8 @@ use Rattle.std.proofs.lemmas.Bool.Decides.{nat_tests}
 use Rattle.std.proofs.lemmas.Cmp.{nat_cmp_total}
 use Rattle.std.specs.Prelude.{◌-ℤ◌}
 use Rattle.std.proofs.Math.IntN.{pos-+ℤ-pos, -ℤ_one}
-use Rattle.sqlite_keyed.proofs.ListLemmas.{ascending_weaker, all_weaker, all_unmap, flat_map_none, flat_map_same_on}
-use Rattle.sqlite_keyed.proofs.ListLemmas.{flat_map-map}
+use Rattle.sqlite_keyed.proofs.ListLemmas.{all_both, ascending-map, map-map, ascending_weaker, all_weaker, all_unmap}
+use Rattle.sqlite_keyed.proofs.ListLemmas.{flat_map_none, flat_map_same_on, flat_map-map}
 use Rattle.sqlite_keyed.proofs.SortLemmas.{IsPermutation-sort_by}
 use Rattle.sqlite_value.specs.declared.value.Value.{Value}
 use Rattle.sqlite_value.specs.declared.value.Value.TheVariants.{Int}
@@ -51,15 +51,14 @@ use Rattle.hotel_statements.specs.Columns.{room_columns, room_of, room_written, 
 use Rattle.hotel_statements.specs.Tables.{AreTables, IsWrittenAs, by_key, rows_in, bare_rooms_in}
 use Rattle.hotel_statements.specs.LookUps.{AnswersAll}
 use Rattle.hotel_statements.specs.Walks.{behind_row_of}
+use Rattle.hotel_statements.proofs.Risen.{codes_rise, rooms_rise}
 use Rattle.hotel_statements.proofs.Joins.{fitted, joined_there, values_kept}
-use Rattle.hotel_statements.proofs.Answers.{fused}
 use Rattle.hotel_statements.proofs.Keys.{equals, and_true}
-use Rattle.hotel_statements.proofs.Perm.{sort_rises, every_shuffled}
+use Rattle.hotel_statements.proofs.Perm.{every_shuffled}
 use Rattle.hotel_statements.proofs.Keyed.{key_total}
-use Rattle.hotel_statements.proofs.Lists.{map_rises}
 use Rattle.hotel_statements.proofs.Ordered.{int_order, then_nothing}
 use Rattle.hotel_statements.proofs.OfWalks.Compared.{less_than}
-use Rattle.hotel_statements.proofs.OfWalks.SoundCodes.{all_both, finds_itself, standing}
+use Rattle.hotel_statements.proofs.OfWalks.SoundCodes.{finds_itself, standing}
 use Rattle.hotel_statements.proofs.OfWalks.Joined.{over, sorted_answer, one_more_table, last_table, where_it_passes}
 use Rattle.hotel_statements.proofs.OfWalks.Joined.{made_of_each, rise_alike, said_of_each}
 
@@ -157,12 +156,6 @@ module _ (db : Trees) (t : AreTables db) (sound : IsSound (rows_in db)) where
   abbrev rooms : List Room
   rooms = bare_rooms_in db
 
-  rooms_rise : IsAscending (λ a b. by_key nat_cmp a b ≡ Less) rooms
-  rooms_rise = sort_rises (by_key nat_cmp) (key_total nat_cmp_total) _ t.room.apart
-
-  codes_rise : IsAscending (λ a b. by_key nat_cmp a b ≡ Less) rows.codes
-  codes_rise = sort_rises (by_key nat_cmp) (key_total nat_cmp_total) _ t.code.apart
-
   -- each room is found by its number, and its lock stands at one of its codes, which are few
   abbrev Known : Room → Type 0
   Known e = at_number rooms e.0 ≡ Some e.1
@@ -196,7 +189,7 @@ module _ (db : Trees) (t : AreTables db) (sound : IsSound (rows_in db)) where
       all_both _ _ GoodRoom (λ r good known. (good, known)) (db room_tree) t.room.good
       (all_unmap Known (λ r. room_of (room_columns r)) (db room_tree)
       (every_shuffled Known rooms (map (λ r. room_of (room_columns r)) (db room_tree))
-      (IsPermutation-sort_by (by_key nat_cmp) (key_total nat_cmp_total) _) (finds_itself rooms rooms_rise)))
+      (IsPermutation-sort_by (by_key nat_cmp) (key_total nat_cmp_total) _) (finds_itself rooms (rooms_rise db t))))
 
   tests_there : (r c d : Row) → GoodRoom r → IsWrittenAs code_columns code_of code_written c
       → IsWrittenAs code_columns code_of code_written d
@@ -285,7 +278,7 @@ module _ (db : Trees) (t : AreTables db) (sound : IsSound (rows_in db)) where
         where_it_passes (stands e.0 (e.1.codes - 1)) (λ (y : Placed). shown (e, (x.0, y.0)) ∷ []) rows.codes
         ∙ sym (flat_map-map (λ current. shown (e, (x.0, current)) ∷ []) (λ (y : Placed). y.0) lasts)
         ∙ ap (flat_map (λ current. shown (e, (x.0, current)) ∷ []))
-        (standing rows sound codes_rise e.0 (row_at e) (there e known) (e.1.codes - 1))
+        (standing rows sound (codes_rise db t) e.0 (row_at e) (there e known) (e.1.codes - 1))
 
     one_held : (is_late : Bool) (x : Placed)
         → flat_map (λ y. if stands e.0 e.1.lock_place x && (stands e.0 (e.1.codes - 1) y && is_late)
@@ -318,7 +311,7 @@ module _ (db : Trees) (t : AreTables db) (sound : IsSound (rows_in db)) where
         flat_map_same_on _ _ (one_held (late e)) rows.codes
         ∙ where_it_passes (stands e.0 e.1.lock_place) (λ (x : Placed). made x.0) rows.codes
         ∙ sym (flat_map-map made (λ (x : Placed). x.0) (filter (stands e.0 e.1.lock_place) rows.codes))
-        ∙ ap (flat_map made) (standing rows sound codes_rise e.0 (row_at e) (there e known) e.1.lock_place)
+        ∙ ap (flat_map made) (standing rows sound (codes_rise db t) e.0 (row_at e) (there e known) e.1.lock_place)
         ∙ some_of (late e) (code_at rows e.0 e.1.lock_place) (code_at rows e.0 (e.1.codes - 1))
 
     -- what is said of it
@@ -365,15 +358,16 @@ module _ (db : Trees) (t : AreTables db) (sound : IsSound (rows_in db)) where
   pub behind_said : (all : List BehindRow) → AnswersAll behind_row_of behind_query [] db all → all ≡ left_behind_on rows
   behind_said all a =
       let mine = filter_map pair rooms in
-      let known = finds_itself rooms rooms_rise in
+      let known = finds_itself rooms (rooms_rise db t) in
       let up : IsAscending (λ x y. output_cmp behind_query x y ≡ Less) (map shown mine) =
-      map_rises shown _ mine (ascending_weaker _ _ (λ x y less. then_nothing _ ∙ int_order x.0.0 y.0.0 ∙ less) mine
-      (rise_alike pair (λ (a b : Room). by_key nat_cmp a b ≡ Less) (λ (y : Left). y.0) of_room rooms rooms_rise)) in
+      ascending-map _ shown mine (ascending_weaker _ _ (λ x y less. then_nothing _ ∙ int_order x.0.0 y.0.0 ∙ less) mine
+      (rise_alike pair (λ (a b : Room). by_key nat_cmp a b ≡ Less) (λ (y : Left). y.0) of_room rooms
+      (rooms_rise db t))) in
       let same : IsPermutation (map (output behind_query) (matches (overlay db []) test tables ([] ∷ [])))
       (map shown mine) = subst (IsPermutation _) (all_left rooms known) matched in
       let shows = sorted_answer tables test project order (overlay db []) [] a.0 (map shown mine) a.1 same up in
-      a.2 ∙ ap (map behind_row_of) (shows ∙ fused (λ (o : Output). o.1) shown mine)
-      ∙ fused behind_row_of (λ y. (shown y).1) mine
+      a.2 ∙ ap (map behind_row_of) (shows ∙ map-map (λ (o : Output). o.1) shown mine)
+      ∙ map-map behind_row_of (λ y. (shown y).1) mine
       ∙ said_of_each pair (λ y. behind_row_of (shown y).1) (behind_row_on rows) rooms
       (all_weaker Known _ says rooms known)
       ∙ sym (values_kept rows.fits (behind_row_on rows) (λ last row. refl) rooms)

@@ -13,13 +13,14 @@ use Rattle.std.proofs.lemmas.List.{length-map}
 use Rattle.std.proofs.lemmas.List.Sums.{length-filter}
 use Rattle.std.proofs.lemmas.List.Sorted.{IsPermutation-sym, length_permutation}
 use Rattle.sqlite_keyed.specs.Lists.{sort_by}
-use Rattle.sqlite_keyed.proofs.ListLemmas.{all-filter, all_weaker, ascending_weaker}
+use Rattle.sqlite_keyed.proofs.ListLemmas.{ascending-filter, all_both, ascending-map, all_map, map-map, all-filter}
+use Rattle.sqlite_keyed.proofs.ListLemmas.{all_weaker}
 use Rattle.sqlite_keyed.proofs.SortLemmas.{HasNoTies, IsPermutation-sort_by}
 use Rattle.sqlite_value.specs.declared.keys.Collation.TheVariants.{Binary}
 use Rattle.sqlite_value.specs.declared.keys.Key.{Key}
 use Rattle.sqlite_value.specs.Keys.{ascending}
 use Rattle.sqlite.specs.Order.{Row, column}
-use Rattle.sqlite.specs.Query.{Query, Output, output_cmp}
+use Rattle.sqlite.specs.Query.{Query, Output}
 use Rattle.sqlite.specs.Term.{Term, col}
 use Rattle.sqlite.specs.Tree.{Trees, IsAscending}
 use Rattle.hotel_model.specs.declared.rows.CodeRow.{CodeRow}
@@ -38,15 +39,15 @@ use Rattle.hotel_statements.specs.Columns.{code_columns, code_of, code_written}
 use Rattle.hotel_statements.specs.Tables.{AreTables, IsWrittenAs, by_key, rows_in}
 use Rattle.hotel_statements.specs.LookUps.{AnswersAll}
 use Rattle.hotel_statements.specs.Walks.{chain_row_of}
-use Rattle.hotel_statements.proofs.Answers.{single, passes, fused}
+use Rattle.hotel_statements.proofs.Risen.{codes_rise}
+use Rattle.hotel_statements.proofs.Answers.{single, passes}
 use Rattle.hotel_statements.proofs.Statements.Terms.{column_is, columns}
 use Rattle.hotel_statements.proofs.Keys.{and_true}
 use Rattle.hotel_statements.proofs.Perm.{sort_rises, every_shuffled}
 use Rattle.hotel_statements.proofs.Keyed.{key_total, column_equals}
-use Rattle.hotel_statements.proofs.Lists.{map_rises}
-use Rattle.hotel_statements.proofs.Ordered.{ordered_rows, int_order, then_nothing}
+use Rattle.hotel_statements.proofs.Ordered.{numbered_rows}
 use Rattle.hotel_statements.proofs.OfWalks.Compared.{values_passing}
-use Rattle.hotel_statements.proofs.OfWalks.SoundCodes.{all_both, Found, each_found, splits, code_found, filter_passing}
+use Rattle.hotel_statements.proofs.OfWalks.SoundCodes.{Found, each_found, splits, code_found, filter_passing}
 
 -- ---- numbers that rise, as many as there are in a range
 
@@ -77,11 +78,6 @@ all_made : {X R : Type 0} (f : ℕ → Option R) (at : X → ℕ) (said : X → 
 all_made f at said [] all = refl
 all_made f at said (x ∷ xs) all = ap₂ cons_option all.0 (all_made f at said xs all.1)
 
-mapped_all : {X Y : Type 0} (P : Y → Type 0) (f : X → Y) (xs : List X)
-    → AllByRecursion (λ x. P (f x)) xs → AllByRecursion P (map f xs)
-mapped_all P f [] all = tt
-mapped_all P f (x ∷ xs) all = (all.0, mapped_all P f xs all.1)
-
 abbrev Placed : Type 0
 Placed = ℕ × CodeRow
 
@@ -108,9 +104,6 @@ module _ (db : Trees) (t : AreTables db) (sound : IsSound (rows_in db)) (room : 
   abbrev rows : Rows
   rows = rows_in db
 
-  rises : IsAscending (λ a b. by_key nat_cmp a b ≡ Less) rows.codes
-  rises = sort_rises (by_key nat_cmp) (key_total nat_cmp_total) _ t.code.apart
-
   room_tests : (r : Row) → IsWrittenAs code_columns code_of code_written r
       → passes (column_is 2 0 ∷ []) (int room ∷ []) r ≡ of_room room (code_of (code_columns r))
   room_tests r good = and_true _ ∙ column_equals (column r 2) _ room (ap (λ v. column v 1) good)
@@ -120,14 +113,15 @@ module _ (db : Trees) (t : AreTables db) (sound : IsSound (rows_in db)) (room : 
 
   -- those of the room, each of which is found, and no two at one place
   abbrev Here : Placed → Type 0
-  Here e = Found rows sound rises e × (e.1.room ≡ room)
+  Here e = Found rows sound (codes_rise db t) e × (e.1.room ≡ room)
 
   here : AllByRecursion Here fs
   here = all_both _ _ Here (λ e found is. (found, eq_from e.1.room room is)) fs
-      (all-filter _ (of_room room) rows.codes (each_found rows sound rises)) (filter_passing (of_room room) rows.codes)
+      (all-filter _ (of_room room) rows.codes (each_found rows sound (codes_rise db t)))
+      (filter_passing (of_room room) rows.codes)
 
   code_there : (e : Placed) → Here e → code_at rows room e.1.place ≡ Some e.0
-  code_there e is = code_found rows sound rises room row there e is.0 is.1
+  code_there e is = code_found rows sound (codes_rise db t) room row there e is.0 is.1
 
   apart : (a b : Placed) → Here a → Here b → by_key nat_cmp a b ≡ Less → is_eq (place_cmp a b) ≡ false
   apart a b p q less = elim (cases_Bool (is_eq (place_cmp a b))) [
@@ -146,7 +140,7 @@ module _ (db : Trees) (t : AreTables db) (sound : IsSound (rows_in db)) (room : 
       (all_both Here _ _ (λ x is less. apart e x all.0 is less) es all.1 up.0, all_apart es all.1 up.1)
 
   no_ties : HasNoTies place_cmp place_total fs
-  no_ties = all_apart fs here (Rattle.sqlite_keyed.proofs.ListLemmas.ascending-filter _ (of_room room) rows.codes rises)
+  no_ties = all_apart fs here (ascending-filter _ (of_room room) rows.codes (codes_rise db t))
 
   abbrev mine : List Placed
   mine = sort_by place_cmp fs
@@ -160,7 +154,7 @@ module _ (db : Trees) (t : AreTables db) (sound : IsSound (rows_in db)) (room : 
   -- their places are 0 and on
   within : (e : Placed) → Here e → e.1.place < row.codes
   within e is =
-      let at = splits rows sound rises room row there e is.0 is.1 in
+      let at = splits rows sound (codes_rise db t) room row there e is.0 is.1 in
       let many : length (at.0 ++ e.0 ∷ at.1) ≡ row.codes =
       ap length (sym at.2) ∙ (counted rows sound room row there).many in
       omega (arith, many, length-append at.0 (e.0 ∷ at.1), at.3)
@@ -176,10 +170,10 @@ module _ (db : Trees) (t : AreTables db) (sound : IsSound (rows_in db)) (room : 
   places : map (λ (e : Placed). e.1.place) mine ≡ range_with_len 0 row.codes
   places =
       full_range 0 row.codes (map (λ (e : Placed). e.1.place) mine)
-      (map_rises (λ (e : Placed). e.1.place) (λ p q. nat_cmp p q ≡ Less) mine in_order)
-      (mapped_all (λ p. 0 ≤ p) (λ (e : Placed). e.1.place) mine
+      (ascending-map (λ p q. nat_cmp p q ≡ Less) (λ (e : Placed). e.1.place) mine in_order)
+      (all_map (λ p. 0 ≤ p) (λ (e : Placed). e.1.place) mine
       (all_weaker Here (λ (e : Placed). 0 ≤ e.1.place) (λ e _. omega arith) mine mine_here))
-      (mapped_all (λ p. p < 0 + row.codes) (λ (e : Placed). e.1.place) mine
+      (all_map (λ p. p < 0 + row.codes) (λ (e : Placed). e.1.place) mine
       (all_weaker Here (λ (e : Placed). e.1.place < 0 + row.codes) (λ e is. omega (arith, within e is)) mine mine_here))
       (length-map mine (λ (e : Placed). e.1.place) ∙ as_many)
 
@@ -196,17 +190,13 @@ module _ (db : Trees) (t : AreTables db) (sound : IsSound (rows_in db)) (room : 
   pub codes_said : (all : List ChainRow)
       → AnswersAll (chain_row_of row.lock_place) chain_query (int room ∷ []) db all → all ≡ chain_on rows room
   codes_said all a =
-      let up : IsAscending (λ x y. output_cmp chain_query x y ≡ Less) (map shown mine) =
-      map_rises shown _ mine
-      (ascending_weaker _ _ (λ x y less. then_nothing _ ∙ int_order x.1.place y.1.place ∙ less) mine in_order) in
       let shows : a.0 ≡ map (λ e. (shown e).1) mine =
-      ordered_rows (by_key nat_cmp) (key_total nat_cmp_total) (IsWrittenAs code_columns code_of code_written)
-      (λ r. code_of (code_columns r)) code_tree
-      (column_is 2 0 ∷ []) (columns (3 ∷ 0 ∷ [])) by_place (int room ∷ []) (of_room room) shown db a.0 mine
-      t.code room_tests
+      numbered_rows (by_key nat_cmp) (key_total nat_cmp_total) (IsWrittenAs code_columns code_of code_written)
+      (λ r. code_of (code_columns r)) code_tree (column_is 2 0 ∷ []) (columns (3 ∷ 0 ∷ [])) (col 1 3) (int room ∷ [])
+      (of_room room) (λ e. e.1.place) (λ e. (shown e).1) db a.0 mine t.code room_tests
       (λ r good. ap₂ (λ v w. (v ∷ [], v ∷ w ∷ [])) (ap (λ v. column v 2) good) (ap (λ v. column v 0) good))
-      (IsPermutation-sym _ _ (IsPermutation-sort_by place_cmp place_total fs)) up a.1 in
-      a.2 ∙ ap (map (chain_row_of row.lock_place)) shows ∙ fused (chain_row_of row.lock_place) (λ e. (shown e).1) mine
+      (IsPermutation-sym _ _ (IsPermutation-sort_by place_cmp place_total fs)) in_order a.1 in
+      a.2 ∙ ap (map (chain_row_of row.lock_place)) shows ∙ map-map (chain_row_of row.lock_place) (λ e. (shown e).1) mine
       ∙ sym (all_made (chain_row_on rows row) (λ (e : Placed). e.1.place) said mine
       (all_weaker Here _ makes mine mine_here)) ∙ ap (filter_map (chain_row_on rows row)) places
       ∙ sym (ap (λ o. said_of o [] (λ row. filter_map (chain_row_on rows row) (range_with_len 0 row.codes))) there)

@@ -1,10 +1,10 @@
 -- Tests of two numbers in statements, beside that they are equal, and lists by their entries.
-use Rattle.std.proofs.Common.{◌≡◌, ◌∙◌, ap, inl, inr, refl, List, [], ◌∷◌, ℕ, pos, Bool, map, filter, arith}
+use Rattle.std.proofs.Common.{◌≡◌, ◌∙◌, sym, ap, List, ℕ, pos, Bool, map, filter, arith}
 use Rattle.std.specs.Prelude.{nat_le, nat_lt}
 use Rattle.std.specs.Ordering.{is_le, is_lt}
 use Rattle.std.specs.Map.{values_of}
-use Rattle.std.proofs.lemmas.Bool.{cases_Bool}
 use Rattle.std.proofs.lemmas.Bool.Decides.{nat_tests}
+use Rattle.sqlite_keyed.proofs.ListLemmas.{filter-map}
 use Rattle.sqlite_value.proofs.OrderLemmas.{value_cmp-Int}
 use Rattle.sqlite_value.specs.declared.keys.Collation.TheVariants.{Binary}
 use Rattle.sqlite_sql.specs.declared.ops.BinaryOp.TheVariants.{Compare}
@@ -24,8 +24,4 @@ less_than a k = truly _ ∙ ap is_lt (value_cmp-Int (pos a) (pos k)) ∙ grind (
 -- the values of the entries whose values pass a test
 pub values_passing : {K V : Type 0} (p : V → Bool) (es : List (K × V))
     → map (λ (e : K × V). e.1) (filter (λ (e : K × V). p e.1) es) ≡ filter p (values_of es)
-values_passing p [] = refl
-values_passing p (e ∷ es) = elim (cases_Bool (p e.1)) [
-  | inl is ↦ rw is (ap (λ xs. e.1 ∷ xs) (values_passing p es))
-  | inr other ↦ rw other (values_passing p es)
-]
+values_passing {K} {V} p es = sym (filter-map p (λ (e : K × V). e.1) es)

@@ -1,5 +1,5 @@
 -- The walk over the rooms with a registered party.
-use Rattle.std.proofs.Common.{if◌then◌else◌, ◌≡◌, ◌∙◌, refl, sym, ap, ap₂, subst, List, [], ◌∷◌, ◌++◌, ℕ, Bool, true}
+use Rattle.std.proofs.Common.{if◌then◌else◌, ◌≡◌, ◌∙◌, refl, sym, ap, ap₂, subst, List, [], ◌∷◌, ℕ, Bool, true}
 use Rattle.std.proofs.Common.{false, Option, Some, None, map, flat_map, Less, nat_cmp, eqb}
 use Rattle.std.specs.Prelude.{filter_map, option_map, ◌==◌}
 use Rattle.std.specs.List.{list_all}
@@ -7,7 +7,9 @@ use Rattle.std.specs.Option.{option_to_list}
 use Rattle.std.specs.BTreeMap.{is_at}
 use Rattle.std.specs.List.Sorted.{IsPermutation}
 use Rattle.std.proofs.lemmas.Cmp.{nat_cmp_total}
-use Rattle.sqlite_keyed.proofs.ListLemmas.{ascending_weaker, all_weaker, flat_map_none}
+use Rattle.std.proofs.lemmas.List.Concat.{flat_map_single}
+use Rattle.sqlite_keyed.proofs.ListLemmas.{map-map, all_weaker, ascending-map, ascending_weaker, flat_map_none}
+use Rattle.sqlite_keyed.proofs.ListLemmas.{flat_map_same_on}
 use Rattle.sqlite_value.specs.declared.value.Value.TheVariants.{Text}
 use Rattle.sqlite_value.specs.declared.keys.Collation.TheVariants.{Binary}
 use Rattle.sqlite_value.specs.declared.keys.Key.{Key}
@@ -40,13 +42,11 @@ use Rattle.hotel_statements.specs.Columns.{stay_written}
 use Rattle.hotel_statements.specs.Tables.{AreTables, IsWrittenAs, by_key, rows_in, bare_rooms_in}
 use Rattle.hotel_statements.specs.LookUps.{AnswersAll}
 use Rattle.hotel_statements.specs.Walks.{house_row_of}
+use Rattle.hotel_statements.proofs.Risen.{stays_rise, rooms_rise}
 use Rattle.hotel_statements.proofs.Joins.{fitted, joined_there, values_kept}
-use Rattle.hotel_statements.proofs.Answers.{fused}
 use Rattle.hotel_statements.proofs.Keys.{equals, and_true, is_key}
-use Rattle.hotel_statements.proofs.Perm.{sort_rises}
 use Rattle.hotel_statements.proofs.Keyed.{key_total}
 use Rattle.hotel_statements.proofs.Found.{one_entry}
-use Rattle.hotel_statements.proofs.Lists.{map_rises}
 use Rattle.hotel_statements.proofs.Ordered.{int_order, then_nothing}
 use Rattle.hotel_statements.proofs.OfWalks.SoundCodes.{finds_itself}
 use Rattle.hotel_statements.proofs.OfWalks.Joined.{over, sorted_answer, one_more_table, last_table, where_it_passes}
@@ -106,12 +106,6 @@ module _ (db : Trees) (t : AreTables db) (sound : IsSound (rows_in db)) where
   abbrev rooms : List Room
   rooms = bare_rooms_in db
 
-  rooms_rise : IsAscending (λ a b. by_key nat_cmp a b ≡ Less) rooms
-  rooms_rise = sort_rises (by_key nat_cmp) (key_total nat_cmp_total) _ t.room.apart
-
-  stays_rise : IsAscending (λ a b. by_key nat_cmp a b ≡ Less) rows.stays
-  stays_rise = sort_rises (by_key nat_cmp) (key_total nat_cmp_total) _ t.stay.apart
-
   abbrev pairs_of : Room → List Output
   pairs_of e = flat_map (λ x. if is_there e x then shown (e, x.1) ∷ [] else []) rows.stays
 
@@ -148,24 +142,14 @@ module _ (db : Trees) (t : AreTables db) (sound : IsSound (rows_in db)) where
   of_party : (e : Room) (k : ℕ) → flat_map (λ (x : ℕ × Stay). if eqb x.0 k then shown (e, x.1) ∷ [] else []) rows.stays
       ≡ map shown (option_to_list (option_map (λ stay. (e, stay)) (stay_at rows k)))
   of_party e k =
-      same_tests rows.stays
-      ∙ where_it_passes (λ (x : ℕ × Stay). is_at (nat_cmp k) x.0) (λ x. shown (e, x.1) ∷ []) rows.stays ∙ singles _
-      ∙ sym (fused (λ stay. shown (e, stay)) (λ (x : ℕ × Stay). x.1) _)
-      ∙ ap (map (λ stay. shown (e, stay))) (one_entry nat_cmp nat_cmp_total k rows.stays stays_rise)
+      flat_map_same_on _ _ (λ (x : ℕ × Stay). ap (λ b. if b then shown (e, x.1) ∷ [] else []) (sym (is_key k x.0)))
+      rows.stays
+      ∙ where_it_passes (λ (x : ℕ × Stay). is_at (nat_cmp k) x.0) (λ x. shown (e, x.1) ∷ []) rows.stays
+      ∙ flat_map_single (λ (x : ℕ × Stay). shown (e, x.1)) _
+      ∙ sym (map-map (λ stay. shown (e, stay)) (λ (x : ℕ × Stay). x.1) _)
+      ∙ ap (map (λ stay. shown (e, stay))) (one_entry nat_cmp nat_cmp_total k rows.stays (stays_rise db t))
       ∙ mapped (stay_at rows k)
     where
-      same_tests : (xs : List (ℕ × Stay))
-          → flat_map (λ (x : ℕ × Stay). if eqb x.0 k then shown (e, x.1) ∷ [] else []) xs
-          ≡ flat_map (λ (x : ℕ × Stay). if is_at (nat_cmp k) x.0 then shown (e, x.1) ∷ [] else []) xs
-      same_tests [] = refl
-      same_tests (x ∷ xs) =
-          ap₂ (λ b os. (if b then shown (e, x.1) ∷ [] else []) ++ os) (sym (is_key k x.0)) (same_tests xs)
-
-      singles : (xs : List (ℕ × Stay))
-          → flat_map (λ (x : ℕ × Stay). shown (e, x.1) ∷ []) xs ≡ map (λ (x : ℕ × Stay). shown (e, x.1)) xs
-      singles [] = refl
-      singles (x ∷ xs) = ap (λ os. shown (e, x.1) ∷ os) (singles xs)
-
       mapped : (o : Option Stay) → map (λ stay. shown (e, stay)) (option_to_list o)
           ≡ map shown (option_to_list (option_map (λ stay. (e, stay)) o))
       mapped None = refl
@@ -178,11 +162,7 @@ module _ (db : Trees) (t : AreTables db) (sound : IsSound (rows_in db)) where
   paired_by e (Some k) = of_party e k
 
   all_pairs : (es : List Room) → flat_map pairs_of es ≡ map shown (filter_map pair es)
-  all_pairs es = each es ∙ made_of_each pair shown es
-    where
-      each : (es : List Room) → flat_map pairs_of es ≡ flat_map (λ e. map shown (option_to_list (pair e))) es
-      each [] = refl
-      each (e ∷ es) = ap₂ (λ a b. a ++ b) (paired_by e e.1.party) (each es)
+  all_pairs es = flat_map_same_on _ _ (λ e. paired_by e e.1.party) es ∙ made_of_each pair shown es
 
   of_room : (e : Room) (y : Housed) → pair e ≡ Some y → y.0 ≡ e
   of_room e y is = by e.1.party is
@@ -226,14 +206,15 @@ module _ (db : Trees) (t : AreTables db) (sound : IsSound (rows_in db)) where
   house_said all a =
       let mine = filter_map pair rooms in
       let up : IsAscending (λ x y. output_cmp house_query x y ≡ Less) (map shown mine) =
-      map_rises shown _ mine (ascending_weaker _ _ (λ x y less. then_nothing _ ∙ int_order x.0.0 y.0.0 ∙ less) mine
-      (rise_alike pair (λ (a b : Room). by_key nat_cmp a b ≡ Less) (λ (y : Housed). y.0) of_room rooms rooms_rise)) in
+      ascending-map _ shown mine (ascending_weaker _ _ (λ x y less. then_nothing _ ∙ int_order x.0.0 y.0.0 ∙ less) mine
+      (rise_alike pair (λ (a b : Room). by_key nat_cmp a b ≡ Less) (λ (y : Housed). y.0) of_room rooms
+      (rooms_rise db t))) in
       let same : IsPermutation (map (output house_query) (matches (overlay db []) test tables ([] ∷ [])))
       (map shown mine) =
       subst (IsPermutation _) (all_pairs rooms) matched in
       let shows = sorted_answer tables test project order (overlay db []) [] a.0 (map shown mine) a.1 same up in
-      a.2 ∙ ap (map house_row_of) (shows ∙ fused (λ (o : Output). o.1) shown mine)
-      ∙ fused house_row_of (λ y. (shown y).1) mine
+      a.2 ∙ ap (map house_row_of) (shows ∙ map-map (λ (o : Output). o.1) shown mine)
+      ∙ map-map house_row_of (λ y. (shown y).1) mine
       ∙ said_of_each pair (λ y. house_row_of (shown y).1) (house_row_on rows) rooms
-      (all_weaker _ _ says rooms (finds_itself rooms rooms_rise))
+      (all_weaker _ _ says rooms (finds_itself rooms (rooms_rise db t)))
       ∙ sym (values_kept rows.fits (house_row_on rows) (λ last row. refl) rooms)

@@ -20,8 +20,7 @@ use Rattle.sqlite.specs.Program.{overlay}
 use Rattle.sqlite.specs.Term.{Term, Env, holds}
 use Rattle.sqlite.specs.Tree.{Trees, IsAscending}
 use Rattle.hotel_statements.specs.Tables.{listed}
-use Rattle.hotel_statements.proofs.Answers.{single}
-use Rattle.hotel_statements.proofs.Found.{same_tree}
+use Rattle.hotel_statements.proofs.Answers.{same_tree, single}
 
 abbrev pub over : Join → List Term → List Term → List (Term × Key) → Query
 over from test project order = record (single 0 test project order) { from = from }

@@ -1,13 +1,14 @@
 -- The codes of sound rows: each is found by its number and at its place, and no other code stands there.
 use Rattle.std.proofs.Common.{ℕ, ◌≡◌, Bool, true, false, cond, Option, Some, None, List, [], ◌∷◌, length, map, filter}
-use Rattle.std.proofs.Common.{inl, inr, refl, ap, ap₂, sym, ◌∙◌, subst, arith, Less, nat_cmp, true≢false}
+use Rattle.std.proofs.Common.{refl, ap, ap₂, sym, ◌∙◌, subst, arith, Less, nat_cmp, true≢false}
 use Rattle.std.specs.Prelude.{◌&&◌, ◌==◌}
 use Rattle.std.specs.List.{AllByRecursion}
 use Rattle.std.specs.Option.{option_to_list}
 use Rattle.std.specs.BTreeMap.{is_at}
-use Rattle.std.proofs.lemmas.Bool.{cases_Bool}
 use Rattle.std.proofs.lemmas.Bool.Decides.{nat_tests}
 use Rattle.std.proofs.lemmas.Cmp.{nat_cmp_total}
+use Rattle.std.proofs.lemmas.List.Elements.{filter_passes, recursion_from_All}
+use Rattle.sqlite_keyed.proofs.ListLemmas.{all_both}
 use Rattle.sqlite.specs.Tree.{IsAscending}
 use Rattle.hotel_model.specs.declared.rows.CodeRow.{CodeRow}
 use Rattle.hotel_model.specs.declared.rows.RoomRow.{RoomRow}
@@ -22,13 +23,7 @@ use Rattle.hotel_model.proofs.Starts.StartPlaces.{is_placed}
 use Rattle.hotel_model.proofs.Starts.StartSplits.{SplitsAt, split_at, length_values}
 use Rattle.hotel_model.proofs.Starts.StartSearch.{found_is_row, found_at_start}
 use Rattle.hotel_statements.specs.Tables.{by_key}
-use Rattle.hotel_statements.proofs.{Found.one_entry, Lists.stands_at}
-
--- what is known of each two, each two of which are so
-pub all_both : {X : Type 0} (P Q R : X → Type 0) → ((x : X) → P x → Q x → R x) → (xs : List X)
-    → AllByRecursion P xs → AllByRecursion Q xs → AllByRecursion R xs
-all_both P Q R both [] p q = tt
-all_both P Q R both (x ∷ xs) p q = (both x p.0 q.0, all_both P Q R both xs p.1 q.1)
+use Rattle.hotel_statements.proofs.{Found.one_entry, Lists.stands_at, Perm.filter_alike}
 
 -- each entry is found by its key
 pub finds_itself : {V : Type 0} (es : List (ℕ × V))
@@ -43,18 +38,9 @@ finds_itself {V} (e ∷ es) up = (
     other : (k : ℕ) → nat_cmp e.0 k ≡ Less → is_at (nat_cmp k) e.0 ≡ false
     other k less = grind (arith, nat_tests, less)
 
--- those that pass a test, where each does exactly where it passes another
-pub filter_all : {X : Type 0} (p q : X → Bool) (xs : List X)
-    → AllByRecursion (λ x. p x ≡ q x) xs → filter p xs ≡ filter q xs
-filter_all p q [] same = refl
-filter_all p q (x ∷ xs) same = ap₂ (λ b ys. cond b (x ∷ ys) ys) same.0 (filter_all p q xs same.1)
-
+-- each that is kept passes
 pub filter_passing : {X : Type 0} (p : X → Bool) (xs : List X) → AllByRecursion (λ x. p x ≡ true) (filter p xs)
-filter_passing p [] = tt
-filter_passing p (x ∷ xs) = elim (cases_Bool (p x)) [
-  | inl is ↦ rw is (is, filter_passing p xs)
-  | inr other ↦ rw other (filter_passing p xs)
-]
+filter_passing p xs = recursion_from_All _ _ (filter_passes p xs)
 
 module _ (rows : Rows) (sound : IsSound rows) (rises : IsAscending (λ a b. by_key nat_cmp a b ≡ Less) rows.codes) where
   abbrev Placed : Type 0
@@ -135,7 +121,7 @@ module _ (rows : Rows) (sound : IsSound rows) (rises : IsAscending (λ a b. by_k
             let all =
             all_both Found Found _ (λ e found _. stands_as place None at e found) rows.codes each_found each_found in
             ap (map (λ (e : Placed). e.0))
-            (filter_all (stands_at room place) (λ _. false) rows.codes all ∙ none_stand rows.codes)
+            (filter_alike (stands_at room place) (λ _. false) rows.codes all ∙ none_stand rows.codes)
         go (Some code) at =
             let key = λ (e : Placed). is_at (nat_cmp code) e.0 in
             let all = all_both Found Found (λ e. stands_at room place e ≡ key e)
@@ -144,5 +130,5 @@ module _ (rows : Rows) (sound : IsSound rows) (rises : IsAscending (λ a b. by_k
             let found : map (λ (e : Placed). e.1) (filter key rows.codes) ≡ here ∷ [] =
             one_entry nat_cmp nat_cmp_total code rows.codes rises
             ∙ ap option_to_list (found_is_row rows.codes room place code (orders rows sound).codes at) in
-            ap (map (λ (e : Placed). e.0)) (filter_all (stands_at room place) key rows.codes all)
+            ap (map (λ (e : Placed). e.0)) (filter_alike (stands_at room place) key rows.codes all)
             ∙ one_key code (filter key rows.codes) here found (filter_passing key rows.codes)
