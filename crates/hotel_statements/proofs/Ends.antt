@@ -136,7 +136,7 @@ module _ {fits : Rows → Type 0} {make : Rows → Rows} {old start mid : State}
       → (HasCleanDisk new → Committed mid new r) → (HasCleanDisk new → IfErr r (FailsToCommit mid new))
       → Survives mid new (λ db. db ≡ mid.now.trees) → Ends make old new r
   ended new r began autocommit ok err survives =
-      let it = finished b leaves did.survives r autocommit ok err survives in
+      let it = finished b leaves did.survives new r autocommit ok err survives in
       record {
         books = either r it.books it.left;
         was = it.was;

@@ -1,10 +1,10 @@
 -- A transaction on the connection of books of a version, whose statements leave a desk of the second one: what it began
 -- with, how it ends, and what a crash in it leaves.
 use Rattle.std.proofs.Common.{◌≡◌, inl, inr, refl, sym, ap, subst, ◌∙◌, true, false, true≢false, Ok, Err, Result}
-use Rattle.std.proofs.Common.{OnOk, OnErr, IfErr, IsTrue, arith}
+use Rattle.std.proofs.Common.{OnOk, OnErr, IfErr, IsTrue, [], arith}
 use Rattle.std.proofs.lemmas.Result.{on_ok_weaker, on_err_weaker}
 use Rattle.sqlite.specs.Tree.{Trees}
-use Rattle.sqlite.specs.State.{State, HasCleanDisk, IsRolledBack, Survives, Commits}
+use Rattle.sqlite.specs.State.{State, HasCleanDisk, IsRolledBack, Survives, Shows, KeepsCounts}
 use Rattle.sqlite.specs.Steps.{FailsToCommit}
 use Rattle.sqlite.specs.declared.error.Error.{Error}
 use Rattle.sqlite.proofs.StateLemmas.{survives_then}
@@ -26,7 +26,8 @@ pub record LeavesDesk (old new : State) : Type 0 where
 
 -- what a commit that was answered did
 abbrev pub Committed : State → State → Result (Unit {0}) Error → Type 0
-Committed mid new r = OnOk r (IsTrue mid.in_transaction × Commits mid new)
+Committed mid new r = OnOk r (IsTrue mid.in_transaction × Shows mid new mid.now mid.now false × KeepsCounts mid new
+    × (new.marks ≡ []))
 
 -- How it ends: what its statements left is committed, or the desk is as it was.
 pub record Finishes (version : Version) (old mid new : State) (r : Result (Unit {0}) Error) : Type 0 where
@@ -72,22 +73,22 @@ module _ {version : Version} {old start mid : State} (new : State) (b : Begins v
   ends : (r : Result (Unit {0}) Error) → Committed mid new r → IfErr r (FailsToCommit mid new)
       → Ended version old mid new r
   ends (Ok u) ok err =
-      let shown = ok.1.0 in
+      let shown = ok.1 in
       let now : new.now ≡ mid.now = shown.now_is in
       ((desk_shown did.mid.schema did.mid.tables now (now ∙ sym shown.committed_is), now), tt)
   ends (Err e) ok (inl fails) = (tt, restored fails.3)
   ends (Err e) ok (inr late) = absurd (true≢false (sym did.mid.inside ∙ late.1))
 
-pub finished : {version : Version} {old start mid new : State} → Begins version old start
-    → (HasCleanDisk mid → LeavesDesk start mid) → Survives start mid (λ _. ⊥) → (r : Result (Unit {0}) Error)
+pub finished : {version : Version} {old start mid : State} → Begins version old start
+    → (HasCleanDisk mid → LeavesDesk start mid) → Survives start mid (λ _. ⊥) → (new : State) → (r : Result (Unit {0}) Error)
     → new.in_transaction ≡ false → (HasCleanDisk new → Committed mid new r)
     → (HasCleanDisk new → IfErr r (FailsToCommit mid new)) → Survives mid new (λ db. db ≡ mid.now.trees)
     → Finishes version old mid new r
-finished {version} {old} {start} {mid} {new} b did ran r autocommit ok err survives = record {
+finished {version} {old} {start} {mid} b did ran new r autocommit ok err survives = record {
   books = books r end;
   left = left r end;
   was = λ kept. was_kept (clean_mid kept.0);
-  open_on = λ clean. on_ok_weaker r (λ did. did.1.0.is_open) (ok clean);
+  open_on = λ clean. on_ok_weaker r (λ did. did.1.is_open) (ok clean);
   made = λ kept. on_ok_weaker r (λ it. it.1) (end kept).0;
   same = λ kept. on_err_weaker r (λ it. it.1) (end kept).1;
 }

@@ -198,7 +198,7 @@ module _ {rooms : List ℕ} {old start mid : State} (b : Begins First old start)
       → (HasCleanDisk new → IfErr r (FailsToCommit mid new)) → Survives mid new (λ db. db ≡ mid.now.trees)
       → Migrates old new r
   migrated new r began autocommit ok err survives =
-      let it = finished b leaves ran r autocommit ok err survives in
+      let it = finished b leaves ran new r autocommit ok err survives in
       record {
         books = it.books;
         left = it.left;
