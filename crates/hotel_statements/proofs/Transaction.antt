@@ -80,8 +80,8 @@ module _ {version : Version} {old start mid : State} (new : State) (b : Begins v
   ends (Err e) ok (inr late) = absurd (true≢false (sym did.mid.inside ∙ late.1))
 
 pub finished : {version : Version} {old start mid : State} → Begins version old start
-    → (HasCleanDisk mid → LeavesDesk start mid) → Survives start mid (λ _. ⊥) → (new : State) → (r : Result (Unit {0}) Error)
-    → new.in_transaction ≡ false → (HasCleanDisk new → Committed mid new r)
+    → (HasCleanDisk mid → LeavesDesk start mid) → Survives start mid (λ _. ⊥) → (new : State)
+    → (r : Result (Unit {0}) Error) → new.in_transaction ≡ false → (HasCleanDisk new → Committed mid new r)
     → (HasCleanDisk new → IfErr r (FailsToCommit mid new)) → Survives mid new (λ db. db ≡ mid.now.trees)
     → Finishes version old mid new r
 finished {version} {old} {start} {mid} b did ran new r autocommit ok err survives = record {
