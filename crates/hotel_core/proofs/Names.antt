@@ -8,7 +8,7 @@ pub use Rattle.hotel_core.specs.Memory.{HaveCardNumbers, HaveCounts, HaveRoomNum
 pub use Rattle.hotel_core.specs.Memory.{RoomsKnown, CountsNightsOf, TablesAgree}
 pub use Rattle.hotel_core.specs.NightIndex.{HasNoEmptyBlock, HasTakenNight, block_at, block_cmp, counted, spans}
 pub use Rattle.hotel_core.specs.Refinement.Finds.{AnyRows, DrawsCode, Drew, DrewNone, Finds, drawn_or, first_refusal}
-pub use Rattle.hotel_core.specs.Refinement.Finds.{has_failed, reply_of}
+pub use Rattle.hotel_core.specs.Refinement.Finds.{FindsGiven, has_failed, reply_of}
 pub use Rattle.hotel_core.specs.Refinement.StepOnRows.{StepsAs}
 pub use Rattle.hotel_core.specs.Stops.{EndsAs, Stopping, StopsEither}
 pub use Rattle.hotel_core.specs.declared.books.Books.{Ghosts}
@@ -55,7 +55,9 @@ pub use Rattle.hotel_nights.specs.Block.{one_if}
 pub use Rattle.keycard_rules.specs.Draw.{Draws, fault_in}
 unfoldable pub use Rattle.keycard_rules.specs.Draw.{drawn}
 pub use Rattle.keycard_rules.specs.Numbers.{IsNumberUpTo}
+pub use Rattle.keycard_rules.proofs.Answers.{answered_before, answered_now, answered_then}
 pub use Rattle.keycard_rules.proofs.Sinces.{since_refl, since_then}
+pub use Rattle.keycard_rules.specs.Asked.{WasAnswered}
 pub use Rattle.keycard_rules.specs.Rise.{HasRisen, HasRisenBy, NoFewer}
 pub use Rattle.keycard_rules.specs.Since.{Since}
 pub use Rattle.keycard_rules.specs.declared.issued.LookFault.{LookFault}

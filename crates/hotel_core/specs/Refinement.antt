@@ -2,3 +2,4 @@
 pub mod StepOnRows
 pub mod Finds
 pub mod FindsChecked
+pub mod NextNote

@@ -1,7 +1,7 @@
 -- Parts of a step that check the books.
 use Rattle.std.proofs.Common.{◌≡◌, Bool, true, false, Option, Some, None, Result, Ok, Err, refl, ap, sym, ◌∙◌}
 use Rattle.std.proofs.Common.{ℕ, IsErrAnd, List, [], ◌∷◌, is_some}
-use Rattle.hotel_core.proofs.Names.{false≢true, Stream, since_then, Change, Reply, Refused, Refusal, Store, Rows}
+use Rattle.hotel_core.proofs.Names.{false≢true, Stream, since_then, answered_then, Change, Reply, Refused, Refusal, Store, Rows}
 use Rattle.hotel_core.proofs.Names.{is_failed, Outcome, refused, StepsAs, Finds, AnyRows, reply_of, first_refusal}
 use Rattle.hotel_core.proofs.Names.{Link, card_at, has_link_on, needs, Ghosts as BooksOf}
 use Rattle.hotel_model.specs.declared.reply.Refusal.TheVariants.{NoCard, CardDiffers}
@@ -17,11 +17,12 @@ module _ {S : Type 0} {I : IssuedOf S} {B : BooksOf S} {checks : Rows → List (
       → FindsChecked I B checks old new r
   refused_unfound (Ok done) p f h = absurd p
   refused_unfound (Err x) p f h = rw p (record {
-    answer = λ clean k. let a = f.answer clean k in h a.0 ∙ ap Some (sym a.1);
-    same = f.same;
-    since = f.since;
-    vouched = λ honest k. f.vouched honest k;
-    fault = λ clean cause k. f.fault clean tt cause (cc);
+    answer = λ clean k. let a = f.found.answer clean k in h a.0 ∙ ap Some (sym a.1);
+    same = f.found.same;
+    since = f.found.since;
+    vouched = λ honest k. f.found.vouched honest k;
+    asked = λ k. f.asked k;
+    fault = λ clean cause k. f.found.fault clean tt cause (cc);
   })
 
   -- what is wanted is there, and the checks refuse it
@@ -30,10 +31,11 @@ module _ {S : Type 0} {I : IssuedOf S} {B : BooksOf S} {checks : Rows → List (
       → (wanted (B.rows old) ≡ Some a → first_refusal (checks (B.rows old)) ≡ Some why)
       → FindsChecked I B checks old new (Err why)
   refused_found f k h = record {
-    answer = λ clean _. h (f.answer clean);
-    same = f.same;
-    since = f.since;
-    vouched = λ honest _. f.vouched honest refl;
+    answer = λ clean _. h (f.found.answer clean);
+    same = f.found.same;
+    since = f.found.since;
+    vouched = λ honest _. f.found.vouched honest refl;
+    asked = λ _. f.asked refl;
     fault = λ clean cause e. absurd (false≢true (sym k
         ∙ (ap is_failed (let s : ◌≡◌ {A = Reply} (Refused _) (Refused _) = cc in s) ∙ faults cause)));
   }
@@ -44,10 +46,11 @@ module _ {S : Type 0} {I : IssuedOf S} {B : BooksOf S} {checks : Rows → List (
       → (wanted (B.rows old) ≡ Some a → first_refusal (checks (B.rows old)) ≡ None)
       → FindsChecked I B checks old new (Ok done)
   passed_found f h = record {
-    answer = λ clean. h (f.answer clean);
-    same = f.same;
-    since = f.since;
-    vouched = λ honest _. f.vouched honest refl;
+    answer = λ clean. h (f.found.answer clean);
+    same = f.found.same;
+    since = f.found.since;
+    vouched = λ honest _. f.found.vouched honest refl;
+    asked = λ _. f.asked refl;
     fault = λ clean cause e. cc;
   }
 
@@ -55,11 +58,14 @@ module _ {S : Type 0} {I : IssuedOf S} {B : BooksOf S} {checks : Rows → List (
   failed : {e : Refusal} → FindsChecked I B checks old new (Err e) → is_failed (Refused e) ≡ true
       → Finds {A = Unit {0}} I B AnyRows Store (λ rs. None) old new (Err e)
   failed f k = record {
-    answer = λ clean n. absurd (false≢true (sym n ∙ k));
-    same = f.same;
-    since = f.since;
-    vouched = λ honest n. f.vouched honest n;
-    fault = λ clean w cause n. f.fault clean cause (cc);
+    found = record {
+      answer = λ clean n. absurd (false≢true (sym n ∙ k));
+      same = f.same;
+      since = f.since;
+      vouched = λ honest n. f.vouched honest n;
+      fault = λ clean w cause n. f.fault clean cause (cc);
+    };
+    asked = λ n. absurd (false≢true (sym n ∙ k));
   }
 
   module _ {v : Bool} {facts : Rows → Type 0} {start : S} where
@@ -72,6 +78,7 @@ module _ {S : Type 0} {I : IssuedOf S} {B : BooksOf S} {checks : Rows → List (
       same = λ clean. f.same clean ∙ s.same (f.since.was_clean clean);
       since = since_then s.since f.since;
       vouched = λ _ honest. f.vouched honest refl;
+      asked = λ _. answered_then s.since (f.asked refl);
     }
 
     -- one of the checks refuses
@@ -84,6 +91,7 @@ module _ {S : Type 0} {I : IssuedOf S} {B : BooksOf S} {checks : Rows → List (
       same = λ clean. f.same clean ∙ s.same (f.since.was_clean clean);
       since = since_then s.since f.since;
       vouched = λ _ honest. f.vouched honest k;
+      asked = λ _. answered_then s.since (f.asked k);
     }
 
     -- one of the checks refuses, or a search failed

@@ -4,6 +4,7 @@ use Rattle.std.proofs.Common.{arith, subst, IsErrAnd, List, [], ◌∷◌, ◌++
 use Rattle.hotel_core.proofs.Names.{false≢true, Stream, past, HasRisen, LookFault, Since, since_refl, since_then}
 use Rattle.hotel_core.proofs.Names.{Change, Reply, Refused, Refusal, Store, Rows, number_after, is_failed, Outcome}
 use Rattle.hotel_core.proofs.Names.{refused, accepted, unless, made, GoesIf, Goes, made_by, AreWhole, StepsAs, Finds}
+use Rattle.hotel_core.proofs.Names.{FindsGiven, WasAnswered, answered_then, answered_before}
 use Rattle.hotel_core.proofs.Names.{AnyRows, reply_of, refusal_of, first_refusal, Ghosts as BooksOf}
 use Rattle.keycard_rules.proofs.Drawing.{past-zero}
 use Rattle.keycard_rules.specs.Draw.{MovedAtMost}
@@ -11,13 +12,14 @@ use Rattle.keycard_rules.specs.declared.issued.LookFault.TheVariants as look
 use Rattle.keycard_rules.specs.declared.issued.Issued.{Ghosts as IssuedOf}
 
 -- From the state start to now no row changed, and this is known of the rows at the start, if the state is clean now;
--- and where v is true it is clean now if it is honest.
+-- and where v is true the books were asked, and it is clean now if it is honest.
 pub record SoFar {S : Type 0} (I : IssuedOf S) (B : BooksOf S) (v : Bool) (facts : Rows → Type 0)
     (start now : S) : Type 0 where
   pub facts_hold : I.is_clean now → facts (B.rows start)
   pub same : I.is_clean now → B.rows now ≡ B.rows start
   pub since : Since I.is_clean I.is_honest I.failures start now
   pub vouched : v ≡ true → I.is_honest now → I.is_clean now
+  pub asked : v ≡ true → WasAnswered I start now
 
 -- a fault's refusal is a failure
 pub faults : (fault : LookFault) → is_failed (Refused (refusal_of fault)) ≡ true
@@ -27,35 +29,50 @@ faults look.Store = refl
 -- at the start this is known
 pub given : {S : Type 0} {I : IssuedOf S} {B : BooksOf S} (facts : Rows → Type 0) {start : S}
     → (I.is_clean start → facts (B.rows start)) → SoFar I B false facts start start
-given facts h = record { facts_hold = h; same = λ _. refl; since = since_refl; vouched = λ e. absurd (false≢true e) }
+given facts h = record {
+  facts_hold = h;
+  same = λ _. refl;
+  since = since_refl;
+  vouched = λ e. absurd (false≢true e);
+  asked = λ e. absurd (false≢true e);
+}
 
 -- at the start nothing is known
 pub begun : {S : Type 0} {I : IssuedOf S} {B : BooksOf S} {start : S} → SoFar I B false AnyRows start start
 begun = given AnyRows (λ _. tt)
-
--- the same, at a state that is clean if it is honest
-pub given_vouched : {S : Type 0} {I : IssuedOf S} {B : BooksOf S} (facts : Rows → Type 0) {start : S}
-    → (I.is_clean start → facts (B.rows start)) → (I.is_honest start → I.is_clean start)
-    → SoFar I B true facts start start
-given_vouched facts h k = record { facts_hold = h; same = λ _. refl; since = since_refl; vouched = λ _. k }
 
 -- the facts, in the rows as they are now
 pub at_now : {S : Type 0} {I : IssuedOf S} {B : BooksOf S} {v : Bool} {facts : Rows → Type 0} {start now : S}
     → SoFar I B v facts start now → I.is_clean now → facts (B.rows now)
 at_now {facts = facts} s clean = subst facts (sym (s.same clean)) (s.facts_hold clean)
 
--- something was found
-pub then_found : {S A : Type 0} {I : IssuedOf S} {B : BooksOf S} {v : Bool} {facts : Rows → Type 0}
+-- something was found, and this is known of calls before it or in it
+known_by : {S A : Type 0} {I : IssuedOf S} {B : BooksOf S} {v : Bool} {facts : Rows → Type 0}
     {are_whole : Rows → Type 0} {why : Refusal} {wanted : Rows → Option A} {start old new : S} {a : A}
-    → SoFar I B v facts start old → Finds I B are_whole why wanted old new (Ok a)
+    → SoFar I B v facts start old → FindsGiven I B are_whole why wanted old new (Ok a) → WasAnswered I start new
     → SoFar I B true (λ rs. facts rs × (wanted rs ≡ Some a)) start new
-then_found {wanted = wanted} s f = record {
+known_by {wanted = wanted} s f asked = record {
   facts_hold = λ clean.
       (s.facts_hold (f.since.was_clean clean), ap wanted (sym (s.same (f.since.was_clean clean))) ∙ f.answer clean);
   same = λ clean. f.same clean ∙ s.same (f.since.was_clean clean);
   since = since_then s.since f.since;
   vouched = λ _ honest. f.vouched honest refl;
+  asked = λ _. asked;
 }
+
+-- something was found
+pub then_found : {S A : Type 0} {I : IssuedOf S} {B : BooksOf S} {v : Bool} {facts : Rows → Type 0}
+    {are_whole : Rows → Type 0} {why : Refusal} {wanted : Rows → Option A} {start old new : S} {a : A}
+    → SoFar I B v facts start old → Finds I B are_whole why wanted old new (Ok a)
+    → SoFar I B true (λ rs. facts rs × (wanted rs ≡ Some a)) start new
+then_found s f = known_by s f.found (answered_then s.since (f.asked refl))
+
+-- something was found, maybe by what was answered before
+pub then_known : {S A : Type 0} {I : IssuedOf S} {B : BooksOf S} {facts : Rows → Type 0}
+    {are_whole : Rows → Type 0} {why : Refusal} {wanted : Rows → Option A} {start old new : S} {a : A}
+    → SoFar I B true facts start old → FindsGiven I B are_whole why wanted old new (Ok a)
+    → SoFar I B true (λ rs. facts rs × (wanted rs ≡ Some a)) start new
+then_known s f = known_by s f (answered_before (s.asked refl) f.since)
 
 -- a count that rose later has risen
 pub risen_later : (a b c : ℕ) → a ≤ b → HasRisen b c → b ≤ c → HasRisen a c
@@ -78,17 +95,18 @@ goes_at false o rows later source why h same =
       sym (past-zero source) ∙ ap (λ x. past x.examined source) (sym e),
     )
 
--- nothing was found, or the search failed
-pub stopped_where : {S A : Type 0} {I : IssuedOf S} {B : BooksOf S} {v : Bool} {facts : Rows → Type 0}
+-- nothing was found, or the search failed, and this is known of the calls of one that didn't
+stopped_by : {S A : Type 0} {I : IssuedOf S} {B : BooksOf S} {v : Bool} {facts : Rows → Type 0}
     {are_whole : Rows → Type 0} {why : Refusal} {wanted : Rows → Option A} {start old new : S} {e : Refusal}
     {outcome : Rows → Outcome Change} {source : Stream}
-    → SoFar I B v facts start old → Finds I B are_whole why wanted old new (Err e)
+    → SoFar I B v facts start old → FindsGiven I B are_whole why wanted old new (Err e)
+    → (is_failed (Refused e) ≡ false → WasAnswered I start new)
     → (AreWhole (B.rows start) → facts (B.rows start) → are_whole (B.rows start))
     → (facts (B.rows start) → wanted (B.rows start) ≡ None → is_failed (Refused why) ≡ false
     → outcome (B.rows start) ≡ refused why)
     → StepsAs I B outcome start new source source (Refused e)
-stopped_where {I = I} {B = B} {are_whole = are_whole} {wanted = wanted} {start = start} {old = old} {new = new} {e = e}
-    {outcome = outcome} {source = source} s f whole h = record {
+stopped_by {I = I} {B = B} {are_whole = are_whole} {wanted = wanted} {start = start} {old = old} {new = new} {e = e}
+    {outcome = outcome} {source = source} s f asked whole h = record {
       goes = λ clean. goes_at (is_failed (Refused e)) (outcome (B.rows start)) (B.rows start) (B.rows new) source e
           (λ k. let a = f.answer clean k in
           h (s.facts_hold (f.since.was_clean clean)) (ap wanted (sym (s.same (f.since.was_clean clean)))
@@ -96,6 +114,7 @@ stopped_where {I = I} {B = B} {are_whole = are_whole} {wanted = wanted} {start =
           (f.same clean ∙ s.same (f.since.was_clean clean));
       since = since_then s.since f.since;
       vouched = λ honest k. f.vouched honest k;
+      asked = asked;
       moved = λ honest k. inl refl;
       fault = λ clean w cause k.
           let before = f.since.was_clean clean in
@@ -119,7 +138,18 @@ pub stopped_whole : {S A : Type 0} {I : IssuedOf S} {B : BooksOf S} {v : Bool} {
 stopped_whole {I = I} {B = B} {start = start} {new = new} {e = e} {outcome = outcome}
     {source = source} r p s f whole h =
     subst (λ answer. StepsAs I B outcome start new source source answer)
-    (sym (passed_on r e p)) (stopped_where s f whole h)
+    (sym (passed_on r e p)) (stopped_by s f.found (λ k. answered_then s.since (f.asked k)) whole h)
+
+-- a search failed that may rest on what was answered before
+pub stopped_known : {S A : Type 0} {I : IssuedOf S} {B : BooksOf S} {facts : Rows → Type 0} {why : Refusal}
+    {wanted : Rows → Option A} {start old new : S} {e : Refusal} {outcome : Rows → Outcome Change} {source : Stream}
+    (r : Result Reply Refusal)
+    → IsErrAnd r (λ x. x ≡ e) → SoFar I B true facts start old → FindsGiven I B AnyRows why wanted old new (Err e)
+    → (facts (B.rows start) → wanted (B.rows start) ≡ None → outcome (B.rows start) ≡ refused why)
+    → StepsAs I B outcome start new source source (reply_of r)
+stopped_known {I = I} {B = B} {start = start} {new = new} {e = e} {outcome = outcome} {source = source} r p s f h =
+    subst (λ answer. StepsAs I B outcome start new source source answer) (sym (passed_on r e p))
+    (stopped_by s f (λ k. answered_before (s.asked refl) f.since) (λ w k. tt) (λ k n x. h k n))
 
 -- what sound books have wasn't there, or the search failed
 pub halted : {S A : Type 0} {I : IssuedOf S} {B : BooksOf S} {v : Bool} {facts : Rows → Type 0}
@@ -149,6 +179,7 @@ refuses {B = B} {start = start} {now = now} {outcome = outcome} {source = source
       (λ _. h (s.facts_hold clean)) (s.same clean);
   since = s.since;
   vouched = λ honest _. s.vouched refl honest;
+  asked = λ _. s.asked refl;
   moved = λ honest e. absurd (false≢true (sym k ∙ e));
   fault = λ clean w cause e. absurd (false≢true (sym k ∙ (ap is_failed e ∙ faults cause)));
 }
@@ -177,6 +208,7 @@ ends {I = I} {B = B} {start = start} {old = old} {new = new} {outcome = outcome}
           subst (λ o. Goes o (B.rows start) source answer (B.rows new) rest) (sym (h (s.facts_hold before))) g;
       since = since_then s.since t.since;
       vouched = t.vouched;
+      asked = λ k. answered_then s.since (t.asked k);
       moved = λ honest k. moved_as (I.is_clean old) (I.is_clean start) (last (B.rows old)).examined
           (outcome (B.rows start)).examined source rest
           (λ before. (
@@ -201,12 +233,13 @@ made_at false answer change rows later source k same = (refl, same, sym (past-ze
 pub makes : {S : Type 0} {I : IssuedOf S} {B : BooksOf S} {old new : S} (answer : Reply)
     (change : Change) (source : Stream)
     → is_failed answer ≡ false → (I.is_clean new → B.rows new ≡ made change (B.rows old))
-    → Since I.is_clean I.is_honest I.failures old new → (I.is_honest new → I.is_clean new)
+    → Since I.is_clean I.is_honest I.failures old new → (I.is_honest new → I.is_clean new) → WasAnswered I old new
     → StepsAs I B (λ _. accepted answer change) old new source source answer
-makes {B = B} {old = old} {new = new} answer change source k m since v = record {
+makes {B = B} {old = old} {new = new} answer change source k m since v asked = record {
   goes = λ clean. made_at (is_failed answer) answer change (B.rows old) (B.rows new) source k (m clean);
   since = since;
   vouched = λ honest _. v honest;
+  asked = λ _. asked;
   moved = λ honest e. absurd (false≢true (sym k ∙ e));
   fault = λ clean whole cause e. absurd (false≢true (sym k ∙ (ap is_failed e ∙ faults cause)));
 }
@@ -229,6 +262,7 @@ fails {I = I} {B = B} {old = old} {new = new} o fault why source e m since risen
           (refusal_of fault) (λ k. absurd (false≢true (sym k ∙ faults fault))) (m clean);
       since = since;
       vouched = λ honest k. absurd (false≢true (sym k ∙ faults fault));
+      asked = λ k. absurd (false≢true (sym k ∙ faults fault));
       moved = λ honest k. inl refl;
       fault = λ clean whole cause k. subst (λ x. HasRisen (I.failures old x) (I.failures new x))
           (same_fault fault cause k) risen;

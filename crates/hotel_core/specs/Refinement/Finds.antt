@@ -3,7 +3,7 @@ use Rattle.std.specs.Prelude.{ℕ, ◌≡◌, Bool, true, false, List, [], ◌�
 use Rattle.rand_core.specs.Stream.{Stream}
 use Rattle.keycard_rules.specs.declared.draw.TheConstants.{MOST_WORDS}
 use Rattle.keycard_rules.specs.{Draw.Draw, Draw.words, Draw.past, Draw.draw_from, Draw.MovedAtMost, Rise.HasRisen}
-use Rattle.keycard_rules.specs.{Since.Since}
+use Rattle.keycard_rules.specs.{Since.Since, Asked.WasAnswered}
 use Rattle.keycard_rules.specs.{declared.issued.LookFault.LookFault}
 use Rattle.keycard_rules.specs.{declared.draw.DrawFault.DrawFault, declared.issued.Issued.Ghosts as IssuedOf}
 use Rattle.keycard_rules.specs.declared.draw.DrawFault.TheVariants as draw
@@ -41,8 +41,8 @@ Found why wanted (Ok a) = wanted ≡ Some a
 Found why wanted (Err other) = is_failed (reply.Refused other) ≡ false → (wanted ≡ None) × (other ≡ why)
 
 -- A search from the state old to new, which changes no row; for whole rows, it fails only where a failure of that cause
--- was counted, and in memory no store fails.
-pub record Finds {S A : Type 0} (I : IssuedOf S) (B : BooksOf S) (are_whole : Rows → Type 0) (why : Refusal)
+-- was counted, and in memory no store fails. It may rest on what was answered before it.
+pub record FindsGiven {S A : Type 0} (I : IssuedOf S) (B : BooksOf S) (are_whole : Rows → Type 0) (why : Refusal)
     (wanted : Rows → Option A) (old new : S) (result : Result A Refusal) : Type 0 where
   pub answer : I.is_clean new → Found why (wanted (B.rows old)) result
   pub same : I.is_clean new → B.rows new ≡ B.rows old
@@ -50,6 +50,12 @@ pub record Finds {S A : Type 0} (I : IssuedOf S) (B : BooksOf S) (are_whole : Ro
   pub vouched : I.is_honest new → has_failed result ≡ false → I.is_clean new
   pub fault : I.is_clean new → are_whole (B.rows old) → (cause : LookFault) → result ≡ Err (refusal_of cause)
       → HasRisen (I.failures old cause) (I.failures new cause)
+
+-- The same of a search that asks the books itself.
+pub record Finds {S A : Type 0} (I : IssuedOf S) (B : BooksOf S) (are_whole : Rows → Type 0) (why : Refusal)
+    (wanted : Rows → Option A) (old new : S) (result : Result A Refusal) : Type 0 where
+  pub found : FindsGiven I B are_whole why wanted old new result
+  pub asked : has_failed result ≡ false → WasAnswered I old new
 
 -- all rows are whole enough
 abbrev pub AnyRows : Rows → Type 0

@@ -2,7 +2,7 @@
 use Rattle.std.specs.Prelude.{◌⊎◌, ◌≡◌, true, false}
 use Rattle.keycard_rules.specs.{declared.issued.LookFault.LookFault, Draw.MovedAtMost, Draw.words, Rise.HasRisen}
 use Rattle.keycard_rules.specs.declared.draw.TheConstants.{MOST_WORDS}
-use Rattle.keycard_rules.specs.{Since.Since}
+use Rattle.keycard_rules.specs.{Since.Since, Asked.WasAnswered}
 use Rattle.rand_core.specs.Stream.{Stream}
 use Rattle.hotel_model.specs.{declared.command.Command.Command, declared.change.Change.Change}
 use Rattle.hotel_model.specs.{declared.reply.Reply.Reply, Rows.Rows}
@@ -15,12 +15,14 @@ use Rattle.hotel_core.specs.declared.books.Books.{Ghosts as BooksOf}
 
 -- A part of a step from the state old to new, with the source moved to rest, where the outcome says what comes of it.
 -- Where the state is honest at its end, an answer that isn't failed says that it is clean, and a failed one left the
--- source, or moved it by no more than the outcome over a clean state.
+-- source, or moved it by no more than the outcome over a clean state. An answer that isn't failed has a call of the
+-- books behind it.
 pub record StepsAs {S : Type 0} (I : IssuedOf S) (B : BooksOf S) (outcome : Rows → Outcome Change) (old new : S)
     (source rest : Stream) (answer : Reply) : Type 0 where
   pub goes : I.is_clean new → Goes (outcome (B.rows old)) (B.rows old) source answer (B.rows new) rest
   pub since : Since I.is_clean I.is_honest I.failures old new
   pub vouched : I.is_honest new → is_failed answer ≡ false → I.is_clean new
+  pub asked : is_failed answer ≡ false → WasAnswered I old new
   pub moved : I.is_honest new → is_failed answer ≡ true → (rest ≡ source)
       ⊎ (I.is_clean old × MovedAtMost (outcome (B.rows old)).examined source rest)
   pub fault : I.is_clean new → AreWhole (B.rows old) → (cause : LookFault) → answer ≡ reply.Refused (refusal_of cause)

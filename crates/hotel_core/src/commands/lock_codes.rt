@@ -1,6 +1,6 @@
 //! What a note of a lock is compared with in the books.
 ghost use Rattle.std.specs.Prelude.{◌≡◌, ◌-◌, ◌==◌, ◌&&◌, nat_lt, Option, Some, None, IsSome, not, is_some, [], ◌∷◌};
-ghost use Rattle.hotel_core.specs.{Refinement.Finds.Finds, Refinement.Finds.AnyRows};
+ghost use Rattle.hotel_core.specs.{Refinement.Finds.Finds, Refinement.Finds.FindsGiven, Refinement.Finds.AnyRows};
 ghost use Rattle.hotel_core.specs.{Refinement.FindsChecked.FindsChecked};
 ghost use Rattle.hotel_model.specs.{Refinement.Lookups.room_at, Refinement.Lookups.code_place};
 ghost use Rattle.hotel_model.specs.{Refinement.Lookups.inside_at, Refinement.Lookups.note_at, Guests.are_none};
@@ -45,7 +45,7 @@ pub(crate) fn kept_note<B: Books>(
 ) -> Result<Option<LockNote>, Refusal>
     requires there { B.is_clean books.old → room_at (B.rows books.old) note.now.room ≡ Some row.now }
     requires vouched { B.is_honest books.old → B.is_clean books.old }
-    ensures { Finds B.Issued B.Books.own AnyRows Store (λ rows. Some
+    ensures { FindsGiven B.Issued B.Books.own AnyRows Store (λ rows. Some
         (note_at rows note.now.room note.now.fit note.now.count)) books.old books.new result }
 {
     books.known_sound();

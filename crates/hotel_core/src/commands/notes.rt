@@ -1,9 +1,9 @@
 //! Notes of locks.
-ghost use Rattle.std.specs.Prelude.{◌≡◌, None, nat_le};
+ghost use Rattle.std.specs.Prelude.{◌≡◌, None, nat_le, Ok};
 ghost use Rattle.hotel_model.specs.{Refinement.Answered.IsOutcome, Refinement.NotesOnRows.IsUntaken, Ranges.IsCommand};
 ghost use Rattle.hotel_model.specs.{Notes.same_note};
 ghost use Rattle.hotel_model.specs.{Refinement.OnRows.reported_on};
-ghost use Rattle.hotel_core.specs.Refinement.Finds.{reply_of};
+ghost use Rattle.hotel_core.specs.{Refinement.Finds.reply_of, Refinement.NextNote.next_checked};
 ghost use Rattle.hotel_core.specs.Refinement.StepOnRows.{StepsWithoutWords, CarriesOutWithoutWords};
 ghost use Rattle.hotel_model.specs.declared.command.Command.TheVariants as command;
 
@@ -29,14 +29,9 @@ fn is_fit(note: &LockNote, row: &RoomRow) -> bool
     note.fit() <= row.fit
 }
 
-/// Takes a note whose count wasn't taken.
-fn take_new<B: Books>(books: &mut B, note: &LockNote, row: &RoomRow) -> Result<Reply, Refusal>
-    requires vouched { B.is_honest books.old → B.is_clean books.old }
-    requires untaken { B.is_clean books.old → IsUntaken note.now row.now (B.rows books.old) }
-    requires outcome { B.is_clean books.old → IsOutcome (B.rows books.old)
-        (reported_on (B.rows books.old) note.now None) }
-    ensures { StepsWithoutWords B.Issued B.Books.own (λ rows. reported_on rows note.now None) books.old books.new
-        (reply_of result) }
+/// Whether a note that wasn't taken is the next one of its room's present lock.
+fn check_next(note: &LockNote, row: &RoomRow) -> Result<(), Refusal>
+    ensures { result ≡ next_checked note.now row.now }
 {
     if !is_present(note, row) {
         return Err(Refusal::OldFit);
@@ -51,6 +46,18 @@ fn take_new<B: Books>(books: &mut B, note: &LockNote, row: &RoomRow) -> Result<R
     if next < count {
         return Err(Refusal::Gap(next));
     }
+    Ok(())
+}
+
+/// Takes the next note of a room's present lock.
+fn take_next<B: Books>(books: &mut B, note: &LockNote, row: &RoomRow) -> Result<Reply, Refusal>
+    requires next { next_checked note.now row.now ≡ Ok tt }
+    requires untaken { B.is_clean books.old → IsUntaken note.now row.now (B.rows books.old) }
+    requires outcome { B.is_clean books.old → IsOutcome (B.rows books.old)
+        (reported_on (B.rows books.old) note.now None) }
+    ensures { StepsWithoutWords B.Issued B.Books.own (λ rows. reported_on rows note.now None) books.old books.new
+        (reply_of result) }
+{
     match note.act() {
         Act::Entered { card, link } => enter(books, note, row, card, &link),
         Act::Left { card, link } => leave(books, note, row, card, &link),
@@ -72,6 +79,9 @@ pub(crate) fn take_note<B: Books>(books: &mut B, note: &LockNote) -> Result<Repl
     match kept_note(books, note, &row)? {
         Some(kept) if same_note(&kept, note) => Ok(Reply::Seen),
         Some(_) => Err(Refusal::Conflict),
-        None => take_new(books, note, &row),
+        None => {
+            check_next(note, &row)?;
+            take_next(books, note, &row)
+        }
     }
 }

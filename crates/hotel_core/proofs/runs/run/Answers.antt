@@ -28,7 +28,7 @@ loop-command-preserved g c =
           let n : length replies.items ≡ length (take i xs) =
           omega (arith, length-take-le i xs (omega (arith, c.loop-command-test.true)), replies.ok.0, so_far.answered) in
           let went = step_happens _ _ command reply g.met.B.Issued.clean_honest step.since
-          step.happened step.failed step.vouched in
+          step.happened step.failed step.vouched step.asked in
           rw (e, c.in-Ok-push.ensures.items, zip-push (take i xs) replies.items command reply n)
           (passes_push (CommandHappens g.B.Issued g.B.Books.rows g.R.Rng.stream) _
           (zip (take i xs) replies.items) so_far.through went);

@@ -37,6 +37,9 @@ returns-clause-happened g c = λ honest source h reached stands.
     step_happened h (command.Reported c.args.note.now) c.reply_of-reply.result c.known_note.ensures
     c.known_reply.ensures c.reply_of-reply.ensures (c.take_note-taken.ensures source) honest reached stands
 
+pub returns-clause-asked : goal.returns-clause-asked
+returns-clause-asked g c = λ k. (c.take_note-taken.ensures silent).asked (rw c.reply_of-reply.ensures at k)
+
 pub returns-clause-vouched : goal.returns-clause-vouched
 returns-clause-vouched g c =
     λ honest k. (c.take_note-taken.ensures silent).vouched honest (rw c.reply_of-reply.ensures at k)

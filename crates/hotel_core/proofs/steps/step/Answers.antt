@@ -24,6 +24,9 @@ returns-clause-happened g c = λ honest h reached stands.
     step_happened h c.args.command.now c.reply_of-reply.result c.known_command.ensures c.known_reply.ensures
     c.reply_of-reply.ensures c.carry_out-outcome.ensures.steps honest reached stands
 
+pub returns-clause-asked : goal.returns-clause-asked
+returns-clause-asked g c = λ k. c.carry_out-outcome.ensures.steps.asked (rw c.reply_of-reply.ensures at k)
+
 pub returns-clause-vouched : goal.returns-clause-vouched
 returns-clause-vouched g c =
     λ honest k. c.carry_out-outcome.ensures.steps.vouched honest (rw c.reply_of-reply.ensures at k)

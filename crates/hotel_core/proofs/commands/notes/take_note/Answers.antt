@@ -2,7 +2,8 @@ use Rattle.std.proofs.Common.{Some, None, refl, sym, ap, ◌∙◌, [], if◌the
 use Rattle.hotel_core.proofs.Names.{outcome_on, reported_on, said, refused}
 use Rattle.hotel_model.specs.declared.reply.Refusal.TheVariants as refusal
 use Rattle.hotel_model.specs.declared.reply.Reply.TheVariants as reply
-use Rattle.hotel_core.proofs.OfCode.Parts.{begun, at_now, then_found, stopped, refuses, ends, only}
+use Rattle.hotel_core.proofs.OfCode.Parts.{begun, at_now, passed_on, then_found, then_known, stopped, stopped_known}
+use Rattle.hotel_core.proofs.OfCode.Parts.{refuses, ends, only}
 use Rattle.hotel_core.proofs.{OfCode.NoteParts.reported_there, OfCode.NoteParts.later_there, OfCode.NoteParts.says}
 use Rattle.hotel_core.proofs.{OfCode.AnswerParts.comes_now}
 use Rattle.hotel_model.specs.declared.command.Command.TheVariants as command
@@ -29,13 +30,13 @@ returns-then-not-is_fit g c = λ source.
 pub returns-in_err-kept : goal.returns-in_err-kept
 unfolding outcome_on
 returns-in_err-kept g c = λ source.
-    stopped c.from_residual-in_err-kept.result c.from_residual-in_err-kept.ensures.1
+    stopped_known c.from_residual-in_err-kept.result c.from_residual-in_err-kept.ensures.1
     (then_found (then_found begun c.in_ok-today.ensures.finds) (rw c.room.ensures at c.in_ok-row.ensures))
     c.in_err-kept.ensures (λ k e. cc)
 
 pub returns-in-Some : goal.returns-in-Some
 returns-in-Some g c = λ source.
-    says reply.Seen refl (then_found (then_found (then_found begun c.in_ok-today.ensures.finds)
+    says reply.Seen refl (then_known (then_found (then_found begun c.in_ok-today.ensures.finds)
     (rw c.room.ensures at c.in_ok-row.ensures)) c.in_ok-kept.ensures)
     (λ k. reported_there _ _ _ _ _ (Some c.in-Some.kept) k.0.0.1 k.0.1
     (sym c.is_fit.ensures ∙ c.if-not-is_fit.false) (only k.1 ∙ c.in-Some.is)
@@ -43,16 +44,16 @@ returns-in-Some g c = λ source.
 
 pub returns-in-Some-2 : goal.returns-in-Some-2
 returns-in-Some-2 g c = λ source.
-    refuses refusal.Conflict refl (then_found (then_found (then_found begun c.in_ok-today.ensures.finds)
+    refuses refusal.Conflict refl (then_known (then_found (then_found begun c.in_ok-today.ensures.finds)
     (rw c.room.ensures at c.in_ok-row.ensures)) c.in_ok-kept.ensures)
     (λ k. reported_there _ _ _ _ _ (Some c.in-Some.kept) k.0.0.1 k.0.1
     (sym c.is_fit.ensures ∙ c.if-not-is_fit.false) (only k.1 ∙ c.in-Some.is)
     ∙ ap (λ b. if b then said reply.Seen else refused refusal.Conflict) (sym c.if-same_note.ensures))
 
-pub take_new-requires-clause-outcome : goal.take_new-requires-clause-outcome
-take_new-requires-clause-outcome g c =
+pub take_next-requires-clause-outcome : goal.take_next-requires-clause-outcome
+take_next-requires-clause-outcome g c =
     comes_now (λ rs. reported_on rs c.args.note.now None)
-    (then_found (then_found (then_found begun c.in_ok-today.ensures.finds) (rw c.room.ensures at c.in_ok-row.ensures))
+    (then_known (then_found (then_found begun c.in_ok-today.ensures.finds) (rw c.room.ensures at c.in_ok-row.ensures))
     c.in_ok-kept.ensures)
     (λ clean k. (
       [],
@@ -64,9 +65,9 @@ take_new-requires-clause-outcome g c =
 
 pub returns-in-None : goal.returns-in-None
 returns-in-None g c = λ source.
-    ends (then_found (then_found (then_found begun c.in_ok-today.ensures.finds)
+    ends (then_known (then_found (then_found begun c.in_ok-today.ensures.finds)
     (rw c.room.ensures at c.in_ok-row.ensures)) c.in_ok-kept.ensures)
-    (c.take_new.ensures source) (λ k. reported_there _ _ _ _ _ None k.0.0.1 k.0.1
+    (c.take_next.ensures source) (λ k. reported_there _ _ _ _ _ None k.0.0.1 k.0.1
     (sym c.is_fit.ensures ∙ c.if-not-is_fit.false) (only k.1 ∙ c.in-None.is))
 
 pub kept_note-requires-clause-there : goal.kept_note-requires-clause-there
