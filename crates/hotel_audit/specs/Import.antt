@@ -1,5 +1,6 @@
 -- The import of an audit file: its notes are reported in order, and its unread lines do nothing.
-use Rattle.std.specs.Prelude.{ℕ, ◌≡◌, ◌≢◌, ◌⊎◌, Bool, true, false, List, [], ◌∷◌, ◌++◌, length, zip, if◌then◌else◌}
+use Rattle.std.specs.Prelude.{ℕ, ◌≡◌, ◌≢◌, ◌⊎◌, Bool, true, false, List, [], ◌∷◌, ◌++◌, length, map, zip}
+use Rattle.std.specs.Prelude.{if◌then◌else◌}
 use Rattle.std.specs.Prelude.{Result, Ok, Err, OnOk}
 use Rattle.rand_core.specs.Stream.{Stream}
 use Rattle.keycard_rules.specs.{declared.issued.LookFault.LookFault, declared.issued.Issued.Ghosts as IssuedOf}
@@ -11,7 +12,7 @@ use Rattle.hotel_model.specs.declared.reply.Reply.TheVariants as reply
 use Rattle.hotel_model.specs.declared.reply.Refusal.TheVariants as refusal
 use Rattle.hotel_model.specs.Run.{Runs, is_failed}
 use Rattle.hotel_core.specs.Books.Failures.{refusal_of}
-use Rattle.hotel_core.specs.Books.Happens.{Happens, StepTold}
+use Rattle.hotel_core.specs.Books.Happens.{Happens, HaveCalls, StepTold}
 use Rattle.hotel_core.specs.Books.Passes.{Passes}
 use Rattle.hotel_audit.specs.{declared.answer.LineAnswer.LineAnswer, declared.audit_file.AuditFault.AuditFault}
 use Rattle.hotel_audit.specs.{declared.imports.ImportFault.ImportFault}
@@ -106,11 +107,12 @@ EndsAfter file (Err (Memory answered taken)) lines answers = IsFrontOf file line
 EndsAfter file (Err (Store answered taken)) lines answers = IsFrontOf file lines answers answered taken
 
 -- What lines with these answers show of books from old to new that may have failed for good, where an import of them
--- ended so: the notes ran with these replies, and an answer to a note vouches that the books were clean before the
--- first line, and, where no failure came behind it, that they are after the last.
+-- ended so: the notes ran with these replies, and an answer to a note has its own call of the books, and vouches that
+-- they were clean before the first line, and, where no failure came behind it, that they are after the last.
 pub record Vouches {B : Type 0} (I : IssuedOf B) (rows : B → Rows) (lines : List Line) (answers : List LineAnswer)
     (old new : B) (outcome : Result (List LineAnswer) ImportFault) : Type 0 where
   pub happened : LinesLeadOn (I.is_clean old) (rows old) lines answers (I.is_clean new) (rows new)
+  pub asked : HaveCalls I old new (map (λ reply. true) (replies_in answers))
   pub was_clean : replies_in answers ≢ [] → I.is_clean old
   pub is_clean : OnOk outcome (replies_in answers ≢ [] → I.is_clean new)
   pub unasked : OnOk outcome (replies_in answers ≡ [] → I.is_clean old → I.is_clean new)

@@ -1,6 +1,6 @@
 //! The import of an audit file into any books.
 ghost use Rattle.std.specs.Prelude.{◌≡◌, ◌≢◌, ◌<◌, [], ◌∷◌, length, IfOk, IfErr, OnErr, Ok, Err};
-ghost use Rattle.keycard_rules.specs.{Since.Since};
+ghost use Rattle.keycard_rules.specs.{Since.Since, Asked.WasAsked};
 ghost use Rattle.hotel_core.specs.{Books.Failures.AreCounted, Books.Failures.refusal_of};
 ghost use Rattle.hotel_audit.specs.{declared.audit_file.AuditFault.AuditFault, AuditFile.audit_lines};
 ghost use Rattle.hotel_audit.specs.declared.audit_file.TheConstants.{AUDIT_BYTES};
@@ -50,6 +50,8 @@ fn answer_line<B: Books>(books: &mut B, line: &Line) -> Result<LineAnswer, LookF
         (B.rows books.new)) }
     ensures vouched { IfOk result (λ answer. B.is_honest books.new → replies_in (answer ∷ []) ≢ []
         → B.is_clean books.new) }
+    ensures asked { IfOk result (λ answer. replies_in (answer ∷ []) ≢ []
+        → WasAsked B.Issued books.old books.new) }
     ensures unasked { IfOk result (λ answer. replies_in (answer ∷ []) ≡ [] → books.new ≡ books.old) }
     ensures unchanged { OnErr result (B.is_clean books.new → B.rows books.new ≡ B.rows books.old) }
     ensures failed { IfErr result (λ why. B.is_clean books.new

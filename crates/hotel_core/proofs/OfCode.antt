@@ -7,6 +7,7 @@ pub mod CheckParts
 pub mod DrawParts
 pub mod FailuresCounted
 pub mod Happened
+pub mod Calls
 pub mod Passes
 pub mod Happens
 pub mod ShutBooks

@@ -1,7 +1,7 @@
 //! One command, over any books.
 ghost use Rattle.std.specs.Prelude.{◌≡◌, true, false};
 ghost use Rattle.rand_core.specs.Stream.{Stream};
-ghost use Rattle.keycard_rules.specs.{Since.Since, Asked.WasAnswered};
+ghost use Rattle.keycard_rules.specs.{Since.Since, Asked.WasAsked};
 ghost use Rattle.hotel_core.specs.{Books.Failures.AreCounted, Books.Failures.failure_in};
 ghost use Rattle.hotel_model.specs.{Leads.Leads, Leads.LeadsOn, NoteReplies.IsNoteReply, Run.Steps, Run.is_failed};
 ghost use Rattle.hotel_model.specs.{Ranges.IsCommand, Ranges.IsReply};
@@ -75,7 +75,7 @@ pub fn step<B: Books, R: Rng>(books: &mut B, source: &mut R, command: &Command) 
         (λ h h'. Steps h (R.stream source.old) command.now result h' (R.stream source.new)) (B.is_clean books.new)
         (B.rows books.new) }
     ensures vouched { B.is_honest books.new → is_failed result ≡ false → B.is_clean books.new }
-    ensures asked { is_failed result ≡ false → WasAnswered B.Issued books.old books.new }
+    ensures asked { is_failed result ≡ false → WasAsked B.Issued books.old books.new }
     ensures since { Since B.is_clean B.is_honest B.failures books.old books.new }
     ensures range { IsReply result }
     ensures sure { B.never_fails → takes_none command.now ≡ true → is_failed result ≡ false }
@@ -100,7 +100,7 @@ pub fn report<B: Books>(books: &mut B, note: &LockNote) -> Reply
         (λ h h'. Steps h source (command.Reported note.now) result h' source) (B.is_clean books.new)
         (B.rows books.new) }
     ensures vouched { B.is_honest books.new → is_failed result ≡ false → B.is_clean books.new }
-    ensures asked { is_failed result ≡ false → WasAnswered B.Issued books.old books.new }
+    ensures asked { is_failed result ≡ false → WasAsked B.Issued books.old books.new }
     ensures since { Since B.is_clean B.is_honest B.failures books.old books.new }
 {
     known_note(note);

@@ -5,7 +5,7 @@ use Rattle.std.specs.Fmt.{decimal}
 use Rattle.std.specs.Io.KnownBytes.{Keeps}
 use Rattle.csv.specs.Writing.{default_writer, row_text}
 use Rattle.keycard_rules.specs.{Rise.HasRisen, declared.issued.Issued.Ghosts as IssuedOf}
-use Rattle.keycard_rules.specs.{Since.Since}
+use Rattle.keycard_rules.specs.{Since.Since, Asked.WasAsked}
 use Rattle.keycard_rules.specs.{Numerals.code_text, Note.Note, declared.note.Act.Act}
 use Rattle.keycard_rules.specs.declared.issued.LookFault.TheVariants as look
 use Rattle.keycard_rules.specs.declared.note.Act.TheVariants.{Entered, Left, Recoded}
@@ -89,18 +89,19 @@ listed (Err walk.Memory) write_failed = Err fault.Memory
 listed (Err walk.Store) write_failed = Err fault.Store
 listed (Err walk.Stopped) write_failed = if write_failed then Err fault.Write else Err fault.Memory
 
--- What the end of a list vouches for: that the books are clean, where it was written in full or its room isn't there.
+-- The end of a list vouches for something, where it was written in full or its room isn't there.
 abbrev pub Vouches : Type 0 → Result (Unit {0}) ListFault → Type 0
-Vouches is_clean (Ok done) = is_clean
-Vouches is_clean (Err fault.NoRoom) = is_clean
-Vouches is_clean (Err _) = Unit {0}
+Vouches something (Ok done) = something
+Vouches something (Err fault.NoRoom) = something
+Vouches something (Err _) = Unit {0}
 
--- A list left of the books what a look-up may leave, and vouches for them where they are honest; the store fails only
--- where a failure of the store was counted.
+-- A list left of the books what a look-up may leave; its end vouches that they were asked, and that they are clean where
+-- they are honest; the store fails only where a failure of the store was counted.
 pub record LooksAt {B : Type 0} (I : IssuedOf B) (old new : B) (result : Result (Unit {0}) ListFault) : Type 0 where
   pub kept : I.is_clean new → I.is_kept old new
   pub since : Since I.is_clean I.is_honest I.failures old new
   pub vouched : I.is_honest new → Vouches (I.is_clean new) result
+  pub asked : Vouches (WasAsked I old new) result
   pub store : result ≡ Err fault.Store → HasRisen (I.failures old look.Store) (I.failures new look.Store)
 
 -- no row and no header can have been written

@@ -104,6 +104,8 @@ impl<S: Alter> Issued for TableBooks<S> {
 
     ghost never_fails = { ⊥ };
 
+    ghost has_answered = { λ _ b. HasCleanDisk (state S.Store b.conn) → IsKept (state S.Store b.conn) };
+
     fn is_issued(&mut self, code: Code) -> Result<bool, LookFault> {
         self.answers = false;
         let issued = look_ups::is_issued(self.alloc, &mut self.conn, code);

@@ -30,6 +30,8 @@ impl Issued for FailingCodes {
 
     ghost never_fails = { ⊥ };
 
+    ghost has_answered = { λ _ _. Unit {0} };
+
     fn is_issued(&mut self, _code: Code) -> Result<bool, LookFault> {
         if self.left == 0 {
             self.failures = self.failures.saturating_add(1);

@@ -3,12 +3,12 @@ use Rattle.std.proofs.Common.{◌≡◌, Bool, true, false, not, List, [], ◌�
 use Rattle.std.specs.Prelude.{⊤}
 use Rattle.std.proofs.lemmas.Bool.{not-true}
 use Rattle.hotel_core.proofs.Names.{false≢true, Stream, Since, since_refl, since_then, AreCounted, failure_in}
-use Rattle.hotel_core.proofs.Names.{WasAnswered, answered_then}
+use Rattle.hotel_core.proofs.{Names.WasAsked, OfCode.Calls.calls_join}
 use Rattle.hotel_core.proofs.Names.{is_failed, Steps, Command, Reply, Refusal, Rows, History}
 use Rattle.hotel_model.proofs.Invariants.Assurance.{assured}
 use Rattle.hotel_core.proofs.{OfCode.FailuresCounted.none_counted, OfCode.FailuresCounted.counted_join}
 use Rattle.hotel_model.specs.Leads.{LeadsOn}
-use Rattle.hotel_core.specs.Books.Happens.{AreAnswered, Happens, HappensBy, StepTold, Tells, has_answer}
+use Rattle.hotel_core.specs.Books.Happens.{Happens, HappensBy, StepTold, Tells, has_answer}
 use Rattle.hotel_core.specs.Books.Happens.{known_after}
 use Rattle.keycard_rules.specs.declared.issued.Issued.{Ghosts as IssuedOf}
 
@@ -43,7 +43,7 @@ tells_none I old = record {
 -- books that were asked once
 pub tells_once : {S : Type 0} {I : IssuedOf S} {old new : S} {failed : List Refusal} (answers : Bool)
     → (I.is_clean new → AreCounted (I.failures old) (I.failures new) failed)
-    → (answers ≡ true → I.is_clean new) → (answers ≡ true → WasAnswered I old new)
+    → (answers ≡ true → I.is_clean new) → (answers ≡ true → WasAsked I old new)
     → Since I.is_clean I.is_honest I.failures old new → Tells I old new failed (answers ∷ [])
 tells_once {new = new} true counted vouched asked since = record {
   counted = counted;
@@ -54,21 +54,6 @@ tells_once {new = new} true counted vouched asked since = record {
 tells_once false counted vouched asked since =
     record { counted = counted; asked = since; began = λ k. absurd (false≢true k); ends = λ k. absurd k }
 
--- answers, after other calls
-answered_later : {S : Type 0} {I : IssuedOf S} {start old new : S} (answered : List Bool)
-    → Since I.is_clean I.is_honest I.failures start old → AreAnswered I old new answered
-    → AreAnswered I start new answered
-answered_later [] first a = since_then first a
-answered_later (true ∷ later) first a = (a.0, answered_then first a.1, a.2)
-answered_later (false ∷ later) first a = answered_later later first a
-
--- answers, and others after them
-answered_join : {S : Type 0} {I : IssuedOf S} {old mid new : S} (first later : List Bool)
-    → AreAnswered I old mid first → AreAnswered I mid new later → AreAnswered I old new (first ++ later)
-answered_join [] later a b = answered_later later a b
-answered_join (true ∷ first) later a b = (a.0, a.1, answered_join first later a.2 b)
-answered_join (false ∷ first) later a b = answered_join first later a b
-
 -- books that were asked, and then asked again
 pub tells_join : {S : Type 0} {I : IssuedOf S} {old mid new : S} (failed more : List Refusal) (first later : List Bool)
     → Since I.is_clean I.is_honest I.failures old mid
@@ -77,7 +62,7 @@ pub tells_join : {S : Type 0} {I : IssuedOf S} {old mid new : S} (failed more : 
 tells_join {I = I} {old = old} {mid = mid} {new = new} failed more first later before after a b = record {
   counted = λ clean. counted_join (I.failures old) (I.failures mid) (I.failures new) failed more after.counted
       (a.counted (after.was_clean clean)) (b.counted clean);
-  asked = answered_join first later a.asked b.asked;
+  asked = calls_join first later a.asked b.asked;
   began = answer_in (I.is_clean old) first later a.began (λ k. before.was_clean (b.began k));
   ends = λ k. b.ends (known_from (known_after (I.is_clean old) first) (I.is_clean mid) later a.ends
       (known_on (I.is_clean old) first later k));
@@ -202,7 +187,7 @@ pub step_happens : {S : Type 0} {I : IssuedOf S} {rows : S → Rows} {old new : 
     → LeadsOn (I.is_clean old) (rows old) (λ h h'. Steps h s command reply h' s') (I.is_clean new) (rows new))
     → (I.is_clean new → AreCounted (I.failures old) (I.failures new) (failure_in reply))
     → (I.is_honest new → is_failed reply ≡ false → I.is_clean new)
-    → (is_failed reply ≡ false → WasAnswered I old new)
+    → (is_failed reply ≡ false → WasAsked I old new)
     → Happens I rows old (StepTold s command reply s') new
 step_happens s s' command reply clean_honest since step failed vouched asked =
     happens_so (λ told told' h h' more went. (went.0, more _ _ went.1)) clean_honest since

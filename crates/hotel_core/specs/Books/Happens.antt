@@ -1,6 +1,6 @@
 -- What a call over books promises of histories, also where the books fail for good in it.
 use Rattle.std.specs.Prelude.{◌≡◌, Bool, true, false, not, List, [], ◌∷◌, ⊤}
-use Rattle.keycard_rules.specs.{Since.Since, Asked.WasAnswered}
+use Rattle.keycard_rules.specs.{Since.Since, Asked.WasAsked}
 use Rattle.keycard_rules.specs.declared.issued.Issued.{Ghosts as IssuedOf}
 use Rattle.rand_core.specs.Stream.{Stream}
 use Rattle.hotel_model.specs.{declared.command.Command.Command, declared.reply.Reply.Reply}
@@ -26,10 +26,10 @@ known_after was (true ∷ later) = known_after ⊤ later
 known_after was (false ∷ later) = known_after ⊥ later
 
 -- Each answer has a call of its own that the books answered, one after the other from old to new.
-abbrev pub AreAnswered : {S : Type 0} → IssuedOf S → S → S → List Bool → Type 0
-AreAnswered I old new [] = Since I.is_clean I.is_honest I.failures old new
-AreAnswered {S = S} I old new (true ∷ later) = (mid : S) × WasAnswered I old mid × AreAnswered I mid new later
-AreAnswered I old new (false ∷ later) = AreAnswered I old new later
+abbrev pub HaveCalls : {S : Type 0} → IssuedOf S → S → S → List Bool → Type 0
+HaveCalls I old new [] = Since I.is_clean I.is_honest I.failures old new
+HaveCalls {S = S} I old new (true ∷ later) = (mid : S) × WasAsked I old mid × HaveCalls I mid new later
+HaveCalls I old new (false ∷ later) = HaveCalls I old new later
 
 -- What failures and answers tell of books from old to new: the failures were counted, where the books are kept; each
 -- answer has its own call, and vouches that they were kept as it began, and the last one, where no failure came behind
@@ -37,7 +37,7 @@ AreAnswered I old new (false ∷ later) = AreAnswered I old new later
 pub record Tells {S : Type 0} (I : IssuedOf S) (old new : S) (failed : List Refusal)
     (answered : List Bool) : Type 0 where
   pub counted : I.is_clean new → AreCounted (I.failures old) (I.failures new) failed
-  pub asked : AreAnswered I old new answered
+  pub asked : HaveCalls I old new answered
   pub began : has_answer answered ≡ true → I.is_clean old
   pub ends : known_after (I.is_clean old) answered → I.is_clean new
 
