@@ -1,6 +1,7 @@
 -- Parts of a step that takes a note of a lock.
 use Rattle.std.proofs.Common.{ℕ, ◌≡◌, ◌==◌, ◌<◌, ◌≤◌, Bool, true, false, not, ◌&&◌, Option, Some, None, is_some, List}
-use Rattle.std.proofs.Common.{[], ◌∷◌, ◌+◌, ◌-◌, nat_le, nat_lt, if◌then◌else◌, Result, Ok, Err, IsErrAnd, refl, ap, sym, ◌∙◌, subst, arith, IsSome, inl}
+use Rattle.std.proofs.Common.{[], ◌∷◌, ◌+◌, ◌-◌, nat_le, nat_lt, if◌then◌else◌, Result, Ok, Err, IsErrAnd, refl, ap}
+use Rattle.std.proofs.Common.{sym, ◌∙◌, subst, arith, IsSome, inl}
 use Rattle.hotel_core.proofs.Names.{false≢true, nat_tests, Stream, past, Card, Link, Act, Note, Change, Reply, Refused}
 use Rattle.hotel_core.proofs.Names.{NotBegun, NoRoom, NoFit, OldFit, Gap, Store, RoomRow, said_of, Rows, room_at}
 use Rattle.hotel_core.proofs.Names.{card_at, code_place, note_at, same_link, has_link_on, told_on, untaken_on}
@@ -146,6 +147,13 @@ next_told rows note row what count taken r f same n past next a =
     ∙ ap (λ b. if b then told_on rows note note.act else refused (Gap (taken + 1))) (equal note.count (taken + 1) m)
     ∙ ap (λ x. told_on rows note x) (sym a)
 
+-- the next note's check, by what is seen of it
+abbrev next_by : (present taken_before gap : Bool) → ℕ → Result (Unit {0}) Refusal
+next_by present taken_before gap next =
+    if present
+    then (if taken_before then Err Store else if gap then Err (Gap next) else Ok tt)
+    else Err OldFit
+
 only_err : {A : Type 0} {a b : Refusal} → ◌≡◌ {A = Result A Refusal} (Err a) (Err b) → a ≡ b
 only_err e = cc
 
@@ -171,9 +179,7 @@ not_next {I = I} {B = B} {start = start} {now = now} {outcome = outcome} {source
 
     by : (present taken_before gap : Bool) → (note.fit == row.fit) ≡ present → nat_le note.count taken ≡ taken_before
         → nat_lt (taken + 1) note.count ≡ gap
-        → ◌≡◌ {A = Result (Unit {0}) Refusal}
-        (if present then (if taken_before then Err Store else if gap then Err (Gap (taken + 1)) else Ok tt) else Err OldFit)
-        (Err why)
+        → next_by present taken_before gap (taken + 1) ≡ Err why
         → StepsAs I B outcome start now source source (Refused why)
     by false taken_before gap f p g e = so (only_err e) (refuses OldFit refl s
         (λ k. (known k).1 ∙ old_told (B.rows start) note row (known k).0.0 f))
@@ -199,9 +205,7 @@ is_next note row e = by (note.fit == row.fit) (nat_le note.count (row.notes - ro
 
     by : (present taken_before gap : Bool) → (note.fit == row.fit) ≡ present → nat_le note.count taken ≡ taken_before
         → nat_lt (taken + 1) note.count ≡ gap
-        → ◌≡◌ {A = Result (Unit {0}) Refusal}
-        (if present then (if taken_before then Err Store else if gap then Err (Gap (taken + 1)) else Ok tt) else Err OldFit)
-        (Ok tt)
+        → next_by present taken_before gap (taken + 1) ≡ Ok tt
         → ((note.fit == row.fit) ≡ true) × (taken < note.count) × (note.count ≤ taken + 1)
     by false taken_before gap f p g e = cc
     by true true gap f p g e = cc

@@ -70,8 +70,11 @@ returns-in_err-check_next-in-None g c = λ source.
     c.args.note.now _ (sym c.in_err-check_next-in-None.ensures) (omega arith)
     (then_known (then_found (then_found begun c.in_ok-today.ensures.finds) (rw c.room.ensures at c.in_ok-row.ensures))
     c.in_ok-kept.ensures)
-    (λ k. ((k.0.1, only k.1 ∙ c.in-None.is), reported_there _ _ _ _ _ None k.0.0.1 k.0.1
-    (sym c.is_fit.ensures ∙ c.if-not-is_fit.false) (only k.1 ∙ c.in-None.is)))
+    (λ k. (
+      (k.0.1, only k.1 ∙ c.in-None.is),
+      reported_there _ _ _ _ _ None k.0.0.1 k.0.1
+          (sym c.is_fit.ensures ∙ c.if-not-is_fit.false) (only k.1 ∙ c.in-None.is),
+    ))
 
 pub returns-in_ok-check_next-in-None : goal.returns-in_ok-check_next-in-None
 returns-in_ok-check_next-in-None g c = λ source.
