@@ -103,7 +103,7 @@ module _ {B : Type 0} (I : IssuedOf B) (rows : B → Rows) (old new : B) (honest
       (drop i lines, ap (λ ls. Ok ls) (sym (take-append-drop i lines)), refl, refl))
       (λ now. lead-same (I.is_clean old) (I.is_clean mid) (I.is_clean new) (rows old) (rows mid) (rows new)
       (take i lines) answers last.was_clean same (happened (last.was_honest now)))
-      (calls_before (map (λ given. true) (replies_in answers)) asked last)
+      (calls_before I old mid new (map (λ given. true) (replies_in answers)) asked last)
       (λ now noted. before.was_clean (vouched (last.was_honest now) noted)) (λ now. tt) tt mid through
       (leaves_stopped I rows by (Ok lines) (take i lines) mid new (length answers) (has_taken answers) fails)
 

@@ -106,10 +106,10 @@ pub calls_next : {B : Type 0} {I : IssuedOf B} {old mid new : B} (answers : List
     → HaveCalls I old mid (map (λ given. true) (replies_in answers)) → (replies_in (a ∷ []) ≢ [] → WasAsked I mid new)
     → Since I.is_clean I.is_honest I.failures mid new
     → HaveCalls I old new (map (λ given. true) (replies_in (answers ++ a ∷ [])))
-calls_next answers a before asked since =
+calls_next {I = I} {old = old} {mid = mid} {new = new} answers a before asked since =
     rw (replies_in-append answers (a ∷ []), map-append (λ given. true) (replies_in answers) (replies_in (a ∷ [])))
-    (calls_join (map (λ given. true) (replies_in answers)) (map (λ given. true) (replies_in (a ∷ []))) before
-    (calls_once a asked since))
+    (calls_join I old mid new (map (λ given. true) (replies_in answers)) (map (λ given. true) (replies_in (a ∷ [])))
+    before (calls_once a asked since))
 
 -- answers of which none is to a note
 pub unasked_both : (answers : List LineAnswer) (a : LineAnswer)
