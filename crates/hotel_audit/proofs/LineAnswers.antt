@@ -102,11 +102,11 @@ calls_once {new = new} answer.Seen asked since = (new, asked (λ none. cc none),
 calls_once {new = new} (answer.Refused why) asked since = (new, asked (λ none. cc none), since_refl)
 
 -- so has one more
-pub calls_next : {B : Type 0} {I : IssuedOf B} {old mid new : B} (answers : List LineAnswer) (a : LineAnswer)
+pub calls_next : {B : Type 0} {I : IssuedOf B} (old : B) {mid new : B} (answers : List LineAnswer) (a : LineAnswer)
     → HaveCalls I old mid (map (λ given. true) (replies_in answers)) → (replies_in (a ∷ []) ≢ [] → WasAsked I mid new)
     → Since I.is_clean I.is_honest I.failures mid new
     → HaveCalls I old new (map (λ given. true) (replies_in (answers ++ a ∷ [])))
-calls_next {I = I} {old = old} {mid = mid} {new = new} answers a before asked since =
+calls_next {I = I} old {mid = mid} {new = new} answers a before asked since =
     rw (replies_in-append answers (a ∷ []), map-append (λ given. true) (replies_in answers) (replies_in (a ∷ [])))
     (calls_join I old mid new (map (λ given. true) (replies_in answers)) (map (λ given. true) (replies_in (a ∷ [])))
     before (calls_once a asked since))

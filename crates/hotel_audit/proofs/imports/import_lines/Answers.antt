@@ -115,7 +115,7 @@ loop-line-preserved g c =
           (is_clean c.answer_line.new.books) (inv.vouched (f.since.was_honest honest))
           (λ none before. subst is_clean (sym (f.unasked none)) before) (f.vouched honest));
       asked = rw c.in-Ok-push.ensures.items
-          (calls_next c.loop-line.answers.items c.in-Ok-answer_line.answer inv.asked f.asked f.since);
+          (calls_next c.args.books.now c.loop-line.answers.items c.in-Ok-answer_line.answer inv.asked f.asked f.since);
       unasked = rw c.in-Ok-push.ensures.items
           (λ none was. let each = unasked_both c.loop-line.answers.items c.in-Ok-answer_line.answer none in
           subst is_clean (sym (f.unasked each.1)) (inv.unasked each.0 was));
