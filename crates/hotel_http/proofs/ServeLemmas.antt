@@ -29,7 +29,7 @@ use Rattle.hotel_asks.proofs.ListingLemmas.{listing_stands}
 use Rattle.hotel_audit.specs.{AuditFile.audit_lines, Import.EndsAfter, Import.Imports, Import.Vouches as FileVouches}
 use Rattle.hotel_audit.specs.{Import.has_taken, Import.replies_in, declared.answer.LineAnswer.LineAnswer}
 use Rattle.hotel_audit.specs.{Import.AreAnswered, Import.LeavesBehind, Import.LineGoes, Import.LineHappens}
-use Rattle.hotel_audit.proofs.NoteReplies.{answered_sure}
+use Rattle.hotel_audit.specs.{Import.answer_of}
 use Rattle.hotel_audit.specs.declared.line.Line.TheVariants as line
 use Rattle.hotel_audit.specs.{declared.audit_file.AuditFault.AuditFault}
 use Rattle.hotel_audit.specs.{declared.imports.ImportFault.ImportFault, declared.line.Line.Line}
@@ -119,6 +119,15 @@ noted {I = I} {a = a} {b = b} (reply ∷ replies) before after same counted call
   began = λ k. before (λ e. cc e);
   ends = λ k. after (λ e. cc e);
 }
+
+-- a reply to a note that has an answer is no failure
+answered_sure : (given : Reply) (its_answer : LineAnswer) → Ok its_answer ≡ answer_of given → is_failed given ≡ false
+answered_sure (reply.Refused why) its_answer e = by (is_failed (reply.Refused why)) refl
+  where
+    by : (b : Bool) → is_failed (reply.Refused why) ≡ b → is_failed (reply.Refused why) ≡ false
+    by true q = let f = rw q at e in cc f
+    by false q = q
+answered_sure _ its_answer e = refl
 
 module _ {S : Type 0} (I : IssuedOf S) (rows : S → Rows) (s : Stream) where
   -- what is left over no line and over one
