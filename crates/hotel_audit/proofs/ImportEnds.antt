@@ -1,8 +1,8 @@
 -- How an import ends: with all lines answered, with those before one that failed, or before the first.
 use Rattle.std.proofs.Common.{ℕ, Bool, ◌≡◌, ◌≢◌, ◌⊎◌, ◌+◌, ◌∙◌, List, [], ◌∷◌, ◌++◌, Result, Ok, Err, OnOk, take, drop}
-use Rattle.std.proofs.Common.{length, sym, refl, ap, append_assoc}
+use Rattle.std.proofs.Common.{length, map, true, sym, refl, ap, append_assoc}
 use Rattle.std.specs.Prelude.{zip}
-use Rattle.hotel_core.proofs.Names.{Rows}
+use Rattle.hotel_core.proofs.{Names.Rows, Names.since_refl, OfCode.Calls.calls_before}
 use Rattle.hotel_model.proofs.LeadsOn.{leads_of}
 use Rattle.keycard_rules.specs.{Since.Since, declared.issued.Issued.Ghosts as IssuedOf}
 use Rattle.std.proofs.lemmas.List.{take-append-drop}
@@ -12,7 +12,7 @@ use Rattle.hotel_audit.specs.declared.audit_file.AuditFault.TheVariants as fault
 use Rattle.hotel_audit.specs.declared.imports.ImportFault.TheVariants.{File}
 use Rattle.keycard_rules.specs.declared.issued.LookFault.{LookFault}
 use Rattle.keycard_rules.specs.declared.issued.LookFault.TheVariants as look
-use Rattle.hotel_core.specs.Books.Passes.{Passes}
+use Rattle.hotel_core.specs.{Books.Happens.HaveCalls, Books.Passes.Passes}
 use Rattle.hotel_audit.specs.Import.{AreAnswered, EndsAfter, Imports, LeavesBehind, LineGoes, LineHappens}
 use Rattle.hotel_audit.specs.Import.{IsFrontOf, LinesLeadOn, NextFails, has_taken, replies_in, stopped}
 use Rattle.hotel_audit.proofs.LineAnswers.{lead-none, lead-same}
@@ -42,18 +42,27 @@ module _ {B : Type 0} (I : IssuedOf B) (rows : B → Rows) (old new : B) (honest
   ended : (file : Result (List Line) AuditFault) (outcome : Result (List LineAnswer) ImportFault) (lines : List Line)
       (answers : List LineAnswer) → AreAnswered lines answers → EndsAfter file outcome lines answers
       → (I.is_honest new → LinesLeadOn (I.is_clean old) (rows old) lines answers (I.is_clean new) (rows new))
+      → HaveCalls I old new (map (λ given. true) (replies_in answers))
       → (I.is_honest new → replies_in answers ≢ [] → I.is_clean old)
       → (I.is_honest new → OnOk outcome (replies_in answers ≢ [] → I.is_clean new))
       → OnOk outcome (replies_in answers ≡ [] → I.is_clean old → I.is_clean new)
       → (behind : B) → Passes (LineHappens I rows) old (zip lines answers) behind
       → LeavesBehind I rows file lines behind outcome new → Imports I rows file old new outcome
-  ended file outcome lines answers each ends happened was_clean is_clean unasked behind through leaves = (
+  ended file outcome lines answers each ends happened asked was_clean is_clean unasked behind through leaves = (
     lines,
     answers,
     each,
     ends,
     (λ clean source. leads_of clean (happened (honest clean) source)),
-    (λ now. record { happened = happened now; was_clean = was_clean now; is_clean = is_clean now; unasked = unasked }),
+    (
+      λ now. record {
+        happened = happened now;
+        asked = asked;
+        was_clean = was_clean now;
+        is_clean = is_clean now;
+        unasked = unasked;
+      }
+    ),
     behind,
     through,
     leaves,
@@ -63,10 +72,11 @@ module _ {B : Type 0} (I : IssuedOf B) (rows : B → Rows) (old new : B) (honest
       → AreAnswered lines answers → (I.is_clean new → I.is_clean old)
       → (I.is_honest new → LinesLeadOn (I.is_clean old) (rows old) lines answers (I.is_clean new) (rows new))
       → (I.is_honest new → replies_in answers ≢ [] → I.is_clean new)
+      → HaveCalls I old new (map (λ given. true) (replies_in answers))
       → (replies_in answers ≡ [] → I.is_clean old → I.is_clean new)
       → Passes (LineHappens I rows) old (zip lines answers) new → Imports I rows (Ok lines) old new (Ok answers)
-  all_answered lines answers each was_clean happened vouched unasked through =
-      ended (Ok lines) (Ok answers) lines answers each (refl, refl) happened
+  all_answered lines answers each was_clean happened vouched asked unasked through =
+      ended (Ok lines) (Ok answers) lines answers each (refl, refl) happened asked
       (λ now noted. was_clean (vouched now noted)) vouched unasked new through refl
 
   -- the line at this place failed
@@ -83,15 +93,17 @@ module _ {B : Type 0} (I : IssuedOf B) (rows : B → Rows) (old new : B) (honest
       → (I.is_clean new → rows new ≡ rows mid)
       → (I.is_honest mid → LinesLeadOn (I.is_clean old) (rows old) (take i lines) answers (I.is_clean mid) (rows mid))
       → (I.is_honest mid → replies_in answers ≢ [] → I.is_clean mid)
+      → HaveCalls I old mid (map (λ given. true) (replies_in answers))
       → Passes (LineHappens I rows) old (zip (take i lines) answers) mid
       → NextFails I rows (Ok lines) (take i lines) mid by new
       → Imports I rows (Ok lines) old new (Err (stopped by (length answers) (has_taken answers)))
-  answered_before mid lines i answers by each before last same happened vouched through fails =
+  answered_before mid lines i answers by each before last same happened vouched asked through fails =
       ended (Ok lines) (Err (stopped by (length answers) (has_taken answers))) (take i lines) answers each
       (ends_stopped by (Ok lines) (take i lines) answers (length answers) (has_taken answers)
       (drop i lines, ap (λ ls. Ok ls) (sym (take-append-drop i lines)), refl, refl))
       (λ now. lead-same (I.is_clean old) (I.is_clean mid) (I.is_clean new) (rows old) (rows mid) (rows new)
       (take i lines) answers last.was_clean same (happened (last.was_honest now)))
+      (calls_before I old mid new (map (λ given. true) (replies_in answers)) asked last)
       (λ now noted. before.was_clean (vouched (last.was_honest now) noted)) (λ now. tt) tt mid through
       (leaves_stopped I rows by (Ok lines) (take i lines) mid new (length answers) (has_taken answers) fails)
 
@@ -101,4 +113,5 @@ pub none_begun : {B : Type 0} (I : IssuedOf B) (rows : B → Rows) (old : B) →
     → Imports I rows file old old (Err (File why))
 none_begun I rows old honest file why because =
     ended I rows old old honest file (Err (File why)) [] [] tt (refl, refl, because)
-    (λ now. lead-none (I.is_clean old) (rows old)) (λ now noted. absurd (noted refl)) (λ now. tt) tt old refl refl
+    (λ now. lead-none (I.is_clean old) (rows old)) since_refl (λ now noted. absurd (noted refl)) (λ now. tt) tt old
+    refl refl

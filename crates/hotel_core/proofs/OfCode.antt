@@ -3,6 +3,7 @@ pub mod NoteParts
 pub mod FitParts
 pub mod NoteReplies
 pub mod Parts
+pub mod LookUps
 pub mod CheckParts
 pub mod DrawParts
 pub mod FailuresCounted

@@ -2,7 +2,7 @@
 
 ghost use Rattle.std.specs.Prelude.{◌≡◌, IfOk, IfErr};
 ghost use Rattle.hotel_tables.specs.Files.{AreOfOpening};
-ghost use Rattle.hotel_program.specs.Faults.{IsOfFiles};
+ghost use Rattle.hotel_program.specs.Faults.{IsOfFiles, IsOfDatabase};
 ghost use Rattle.hotel_desk.specs.Database.{desk_fault, IsOfFile};
 
 use hotel_program::Fault;
@@ -13,6 +13,7 @@ use sqlite::FileStore;
 fn desk_fault(fault: FileFault) -> Fault
     ensures named { result ≡ desk_fault fault }
     ensures kind { IsOfFiles result }
+    ensures which { IsOfDatabase result }
 {
     match fault {
         FileFault::File => Fault::File,
@@ -31,6 +32,7 @@ pub fn open_file<D: PathDisk>(
     ensures books { IfOk result (λ b. AreOfOpening D.PathDisk.is_part b.conn) }
     ensures fault { IfErr result (IsOfFile D.Disk D.PathDisk.is_part) }
     ensures kind { IfErr result IsOfFiles }
+    ensures which { IfErr result IsOfDatabase }
 {
     match hotel_tables::open_file(rt, path) {
         Ok(books) => Ok(books),

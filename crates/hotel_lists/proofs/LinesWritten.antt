@@ -67,6 +67,15 @@ list_vouches contents is_clean b c end result last walked f e =
     by _ (Err walk.Store) walked f = tt
     by _ (Err walk.Stopped) walked f = stopped_vouches is_clean c.write_failed
 
+-- what follows from that for which an end vouches
+pub vouches_so : (first then : Type 0) (end : Result (Unit {0}) ListFault) → (first → then)
+    → Vouches first end → Vouches then end
+vouches_so first then (Ok done) so v = so v
+vouches_so first then (Err fault.NoRoom) so v = so v
+vouches_so first then (Err fault.Memory) so v = tt
+vouches_so first then (Err fault.Store) so v = tt
+vouches_so first then (Err fault.Write) so v = tt
+
 -- a list fails by the store only where its walk did
 pub store_failed : {W : Type 0} (contents : W → Option (List ℕ)) (b c : Lines W)
     (end result : Result (Unit {0}) WalkFault) (last : Result (Unit {0}) ListFault)

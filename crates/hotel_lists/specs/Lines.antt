@@ -95,8 +95,8 @@ Vouches something (Ok done) = something
 Vouches something (Err fault.NoRoom) = something
 Vouches something (Err _) = Unit {0}
 
--- A list left of the books what a look-up may leave; its end vouches that they were asked, and that they are clean where
--- they are honest; the store fails only where a failure of the store was counted.
+-- A list left of the books what a look-up may leave; its end vouches that they were asked, and that they are clean
+-- where they are honest; the store fails only where a failure of the store was counted.
 pub record LooksAt {B : Type 0} (I : IssuedOf B) (old new : B) (result : Result (Unit {0}) ListFault) : Type 0 where
   pub kept : I.is_clean new → I.is_kept old new
   pub since : Since I.is_clean I.is_honest I.failures old new

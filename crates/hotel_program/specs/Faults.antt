@@ -54,6 +54,24 @@ fault_status _ = 5
 abbrev pub IsOfFiles : Fault → Type 0
 IsOfFiles why = fault_status why ≢ 2
 
+-- A fault of a file that is read: it can't be had, or memory is wanting.
+abbrev pub IsOfReading : Fault → Type 0
+IsOfReading File = Unit {0}
+IsOfReading Memory = Unit {0}
+IsOfReading _ = ⊥
+
+-- A fault of a seed: the same, or it can't be had or is too short.
+abbrev pub IsOfSeed : Fault → Type 0
+IsOfSeed Seed = Unit {0}
+IsOfSeed why = IsOfReading why
+
+-- A fault of a database: the same as of a file; or its store fails, or it is no sound desk.
+abbrev pub IsOfDatabase : Fault → Type 0
+IsOfDatabase Store = Unit {0}
+IsOfDatabase NotADesk = Unit {0}
+IsOfDatabase (Damaged its_table) = Unit {0}
+IsOfDatabase why = IsOfReading why
+
 -- The exit status of a call that came to a status, or to a fault.
 abbrev pub end_status : Result ℕ Fault → ℕ
 end_status (Ok status) = status

@@ -3,7 +3,7 @@
 ghost use Rattle.std.specs.Prelude.{◌≡◌, ◌<◌, ◌≤◌, ◌+◌, ◌-◌, length, take, Err, IfOk, IfErr, IfSome};
 ghost use Rattle.hotel_lists.specs.declared.bytes.TheConstants.{READ_BYTES};
 ghost use Rattle.hotel_http.specs.Reads.{ReadsWhile};
-ghost use Rattle.hotel_program.specs.Faults.{IsOfFiles};
+ghost use Rattle.hotel_program.specs.Faults.{IsOfFiles, IsOfReading, IsOfSeed};
 ghost use Rattle.hotel_program.specs.Files.{IsFront, read_fault};
 ghost use Rattle.hotel_program.specs.declared.faults.Fault.TheVariants.{Seed};
 
@@ -50,6 +50,7 @@ pub fn seed_in<R: Read>(alloc: Global, reader: &mut R) -> Result<[u8; SEED_BYTES
     ensures wanted { ReadsWhile (λ came. length came ≤ SEED_BYTES - 1) (R.remaining reader.old)
         (R.remaining reader.new) }
     ensures fault { IfErr result IsOfFiles }
+    ensures which { IfErr result IsOfSeed }
 {
     match read_front(alloc, reader, SEED_BYTES - 1) {
         Ok(bytes) => match bytes.as_slice().first_chunk::<SEED_BYTES>() {
@@ -67,6 +68,7 @@ pub fn audit_file_in<R: Read>(alloc: Global, reader: &mut R) -> Result<Vec<u8>, 
     ensures few { IfOk result (λ bytes. length bytes.items ≤ AUDIT_BYTES + READ_BYTES) }
     ensures wanted { ReadsWhile (λ came. length came ≤ AUDIT_BYTES) (R.remaining reader.old) (R.remaining reader.new) }
     ensures fault { IfErr result IsOfFiles }
+    ensures which { IfErr result IsOfReading }
 {
     match read_front(alloc, reader, AUDIT_BYTES) {
         Ok(bytes) => Ok(bytes),

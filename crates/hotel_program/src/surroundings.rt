@@ -10,10 +10,10 @@ use std::time::Clock;
 /// What is around the program. What it holds is not known to contracts: they say what was asked of it, and in which
 /// order.
 pub trait Surroundings: Clock {
-    ghost use Rattle.std.specs.Prelude.{ℕ, List, Option, Result, IfErr, option_map};
+    ghost use Rattle.std.specs.Prelude.{ℕ, ◌≡◌, List, Option, Result, IfErr, option_map};
     ghost use Rattle.std.specs.Result.{result_map_both};
-    ghost use Rattle.hotel_program.specs.Faults.{IsOfFiles};
-    ghost use Rattle.hotel_program.specs.declared.faults.Fault.{Fault};
+    ghost use Rattle.hotel_program.specs.Faults.{IsOfFiles, IsOfReading, IsOfSeed};
+    ghost use Rattle.hotel_program.specs.declared.faults.Fault.{Fault, TheVariants.Port};
 
     /// The meanings that may follow one after a seed was read: of the named file, or of the system's source.
     ghost seed_read: { Self → Option (List ℕ) → Result (List ℕ) Fault → Self → Type 0 };
@@ -31,18 +31,21 @@ pub trait Surroundings: Clock {
         name: Option<&FileName>,
     ) -> Result<[u8; SEED_BYTES], Fault>
         ensures read { seed_read self.old (option_map (λ n. n.now) name.entry) result self.new }
-        ensures fault { IfErr result IsOfFiles };
+        ensures fault { IfErr result IsOfFiles }
+        ensures which { IfErr result IsOfSeed };
 
     /// The bytes of an audit file; or, where it has too many, more than it may have.
     fn read_file(&mut self, alloc: Global, name: &FileName) -> Result<Vec<u8>, Fault>
         ensures read { file_read self.old name.now (result_map_both (λ bytes. bytes.items)
             (λ why. why) result) self.new }
-        ensures fault { IfErr result IsOfFiles };
+        ensures fault { IfErr result IsOfFiles }
+        ensures which { IfErr result IsOfReading };
 
     /// Listens on a port of the loopback address.
     fn listen(&mut self, port: u16) -> Result<TcpListener, Fault>
         ensures bound { port_bound self.old port (result_map_both (λ listener. tt) (λ why. why) result) self.new }
-        ensures fault { IfErr result IsOfFiles };
+        ensures fault { IfErr result IsOfFiles }
+        ensures which { IfErr result (λ why. why ≡ Port) };
 }
 
 /// Surroundings with databases, over which books of the type `B` are opened.
@@ -50,7 +53,7 @@ pub trait Surroundings: Clock {
 /// `B` is a parameter, so that a caller has one way alone to name these books.
 pub trait Databases<B>: Surroundings {
     ghost use Rattle.std.specs.Prelude.{ℕ, List, Result, IfErr};
-    ghost use Rattle.hotel_program.specs.Faults.{IsOfFiles};
+    ghost use Rattle.hotel_program.specs.Faults.{IsOfFiles, IsOfDatabase};
     ghost use Rattle.hotel_program.specs.declared.faults.Fault.{Fault};
 
     /// The meanings that may follow one after books of the named database were opened.
@@ -59,7 +62,8 @@ pub trait Databases<B>: Surroundings {
     /// The books of a database, which is made a desk where it is missing or has no tables.
     fn open_books(&mut self, alloc: Global, name: &FileName) -> Result<B, Fault>
         ensures opened { books_opened self.old name.now result self.new }
-        ensures fault { IfErr result IsOfFiles };
+        ensures fault { IfErr result IsOfFiles }
+        ensures which { IfErr result IsOfDatabase };
 
     /// Gives books back.
     fn close_books(&self, books: B);

@@ -1,6 +1,6 @@
 -- A look-up or a walk of the tables whose answer was counted, as one of the books.
 use Rattle.std.proofs.Common.{◌≡◌, ◌≤◌, Bool, List, Result, Ok, Err, refl, ap, sym, ◌∙◌, subst, rules}
-use Rattle.std.specs.Prelude.{IfErr, IfSome}
+use Rattle.std.specs.Prelude.{IfErr, IfSome, OnOk}
 use Rattle.std.specs.Result.{IsErr, IsErrAnd}
 use Rattle.std.proofs.lemmas.Option.{IfSome_then}
 use Rattle.std.proofs.lemmas.Result.{IfErr-weaker, on_ok_weaker}
@@ -25,6 +25,11 @@ use Rattle.hotel_tables.specs.TableBooks.{Tabled, failed}
 use Rattle.hotel_tables.specs.Causes.{LookUpFails}
 use Rattle.hotel_tables.proofs.Causes.{looked}
 
+-- what holds of an answer on a condition, as a part of what an answer says
+pub on_ok_if : {R E : Type 0} {P Q : Type 0} (result : Result R E) → (P → OnOk result Q) → OnOk result (P → Q)
+on_ok_if (Ok answer) so = so
+on_ok_if (Err given) so = tt
+
 -- what books over tables say of their state, as `TableBooks` does
 abbrev over_tables : {S : Type 0} → Ghosts S → IssuedOf (Tabled S)
 over_tables g = record {
@@ -36,6 +41,7 @@ over_tables g = record {
   is_kept = λ a b. rows_in (state g b.conn).now.trees ≡ rows_in (state g a.conn).now.trees;
   failures = failed;
   never_fails = ⊥;
+  has_answered = λ _ b. HasCleanDisk (state g b.conn) → IsKept (state g b.conn);
 }
 
 -- The books are these, also as they are kept; a call of the tables leaves their connection so.
@@ -83,6 +89,8 @@ module _ {S : Type 0} (g : Ghosts S) (inside self : Tabled S) (same : inside ≡
         let risen_so : IfErr result (λ cause. HasRisen (failed called cause) (failed new cause)) =
         subst (λ (r : Result R LookFault). IfErr r (λ cause. HasRisen (failed called cause) (failed new cause)))
         (sym is) risen in
+        let vouched : HasCleanDisk later → OnOk result (IsKept later) = λ honest.
+        on_ok_weaker result (λ is_open. (honest, is_open)) (looked_up.open_on tt honest) in
         record {
           answer = looked_up.found;
           kept = λ kept. ap (λ (d : Database). rows_in d.trees) (looked_up.keeps kept).1;
@@ -91,7 +99,8 @@ module _ {S : Type 0} (g : Ghosts S) (inside self : Tabled S) (same : inside ≡
             was_honest = search (rules, looked_up.crash);
             counted = none_fewer;
           };
-          vouched = λ honest. on_ok_weaker result (λ is_open. (honest, is_open)) (looked_up.open_on tt honest);
+          vouched = vouched;
+          asked = on_ok_if result vouched;
           stop = looked_up.crash;
           fault = IfErr-weaker result _ _ has_risen risen_so;
           cause = looked Fails LookUpFails old later result result refl (more old later) looked_up.cause;
@@ -128,6 +137,7 @@ module _ {S : Type 0} (g : Ghosts S) (inside self : Tabled S) (same : inside ≡
             counted = none_fewer;
           };
           vouched = λ honest none. (honest, walked_over.open_on honest none);
+          asked = λ none honest. (honest, walked_over.open_on honest none);
           stop = walked_over.crash;
           fault = IfSome_then (failure_of result) risen_so has_risen;
           cause = λ honest store. more old later (walked_over.cause honest store);
@@ -152,6 +162,7 @@ asked_in_vain g old new cause (Err given) looks fails counted risen handed = rec
     counted = counted;
   };
   vouched = λ _. tt;
+  asked = tt;
   stop = looks.crash;
   fault = subst (λ why. HasRisen (failed old why) (failed new why)) (sym handed.1) risen;
   cause = λ honest store. fails honest (sym handed.1 ∙ store);

@@ -48,8 +48,8 @@ pub trait Issued {
     /// The look-ups never fail.
     ghost never_fails: { Type 0 };
 
-    /// A call from the first state to the second was answered: with no fault. What this is, an implementation says; what
-    /// is written over any of them has it of the calls alone that it makes.
+    /// A call from the first state to the second was answered, with no fault. What this is, each implementation says.
+    /// So code over any of them has it of the calls alone that it makes.
     ghost has_answered: { Self → Self → Type 0 };
 
     /// Whether a code was issued. It changes nothing but the counts of failures.

@@ -1,8 +1,8 @@
 -- Parts of a step that check the books.
 use Rattle.std.proofs.Common.{◌≡◌, Bool, true, false, Option, Some, None, Result, Ok, Err, refl, ap, sym, ◌∙◌}
 use Rattle.std.proofs.Common.{ℕ, IsErrAnd, List, [], ◌∷◌, is_some}
-use Rattle.hotel_core.proofs.Names.{false≢true, Stream, since_then, asked_then, Change, Reply, Refused, Refusal, Store, Rows}
-use Rattle.hotel_core.proofs.Names.{is_failed, Outcome, refused, StepsAs, Finds, AnyRows, reply_of, first_refusal}
+use Rattle.hotel_core.proofs.Names.{false≢true, Stream, since_then, asked_then, Change, Reply, Refused, Refusal, Store}
+use Rattle.hotel_core.proofs.Names.{Rows, is_failed, Outcome, refused, StepsAs, Finds, AnyRows, reply_of, first_refusal}
 use Rattle.hotel_core.proofs.Names.{Link, card_at, has_link_on, needs, Ghosts as BooksOf}
 use Rattle.hotel_model.specs.declared.reply.Refusal.TheVariants.{NoCard, CardDiffers}
 use Rattle.hotel_core.specs.Refinement.FindsChecked.{FindsChecked}

@@ -1,7 +1,8 @@
 -- A draw as a part of a step.
 use Rattle.std.proofs.Common.{ℕ, ◌≡◌, Bool, true, false, Some, None, Result, Ok, Err, IsErrAnd, List, refl, ap, sym}
 use Rattle.std.proofs.Common.{◌∙◌, arith, subst, option_map, IfSome, inr}
-use Rattle.hotel_core.proofs.Names.{false≢true, LookFault, Stream, HasRisen, Since, since_then, asked_before, asked_then, Draw, Draws, fault_in}
+use Rattle.hotel_core.proofs.Names.{false≢true, LookFault, Stream, HasRisen, Since, since_then, Draw, Draws, fault_in}
+use Rattle.hotel_core.proofs.Names.{asked_before, asked_then}
 use Rattle.hotel_core.proofs.Names.{draw_from, drawn, words, past, Change, Reply, Refused, Refusal, NoFreshCode}
 use Rattle.hotel_core.proofs.Names.{said_of, Rows, codes_in, is_failed, Outcome, accepted, by_draw, made, GoesIf}
 use Rattle.hotel_core.proofs.Names.{made_by, AreWhole, StepsAs, DrawsCode, Drew, DrewNone, drawn_or, has_failed}

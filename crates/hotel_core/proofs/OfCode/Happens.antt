@@ -62,7 +62,7 @@ pub tells_join : {S : Type 0} {I : IssuedOf S} {old mid new : S} (failed more : 
 tells_join {I = I} {old = old} {mid = mid} {new = new} failed more first later before after a b = record {
   counted = λ clean. counted_join (I.failures old) (I.failures mid) (I.failures new) failed more after.counted
       (a.counted (after.was_clean clean)) (b.counted clean);
-  asked = calls_join first later a.asked b.asked;
+  asked = calls_join I old mid new first later a.asked b.asked;
   began = answer_in (I.is_clean old) first later a.began (λ k. before.was_clean (b.began k));
   ends = λ k. b.ends (known_from (known_after (I.is_clean old) first) (I.is_clean mid) later a.ends
       (known_on (I.is_clean old) first later k));

@@ -1,6 +1,7 @@
 -- Parts of a step that takes a note of a lock.
 use Rattle.std.proofs.Common.{ℕ, ◌≡◌, ◌==◌, ◌<◌, ◌≤◌, Bool, true, false, not, ◌&&◌, Option, Some, None, is_some, List}
-use Rattle.std.proofs.Common.{[], ◌∷◌, ◌+◌, ◌-◌, nat_le, nat_lt, if◌then◌else◌, Result, Ok, Err, refl, ap, sym, ◌∙◌, subst, arith, IsSome, inl}
+use Rattle.std.proofs.Common.{[], ◌∷◌, ◌+◌, ◌-◌, nat_le, nat_lt, if◌then◌else◌, Result, Ok, Err, IsErrAnd, refl, ap}
+use Rattle.std.proofs.Common.{sym, ◌∙◌, subst, arith, IsSome, inl}
 use Rattle.hotel_core.proofs.Names.{false≢true, nat_tests, Stream, past, Card, Link, Act, Note, Change, Reply, Refused}
 use Rattle.hotel_core.proofs.Names.{NotBegun, NoRoom, NoFit, OldFit, Gap, Store, RoomRow, said_of, Rows, room_at}
 use Rattle.hotel_core.proofs.Names.{card_at, code_place, note_at, same_link, has_link_on, told_on, untaken_on}
@@ -8,9 +9,9 @@ use Rattle.hotel_core.proofs.Names.{is_fit_on, present_fit_on, reported_on, outc
 use Rattle.hotel_core.proofs.Names.{StepsAs, Outcome, said, refused, needs, unless, is_failed, Ghosts as BooksOf}
 use Rattle.keycard_rules.proofs.Drawing.{past-zero}
 use Rattle.hotel_model.specs.declared.command.Command.TheVariants as command
-use Rattle.hotel_core.proofs.OfCode.Parts.{SoFar, faults, refuses}
+use Rattle.hotel_core.proofs.OfCode.Parts.{SoFar, faults, passed_on, refuses}
 use Rattle.hotel_core.specs.Refinement.NextNote.{next_checked}
-use Rattle.hotel_core.proofs.Names.{IsUntaken, Refusal}
+use Rattle.hotel_core.proofs.Names.{IsUntaken, Refusal, reply_of}
 use Rattle.hotel_model.proofs.OfTables.Tests.{eq_from, le_from, lt_from, not_lt_from}
 use Rattle.keycard_rules.specs.declared.issued.Issued.{Ghosts as IssuedOf}
 
@@ -146,19 +147,28 @@ next_told rows note row what count taken r f same n past next a =
     ∙ ap (λ b. if b then told_on rows note note.act else refused (Gap (taken + 1))) (equal note.count (taken + 1) m)
     ∙ ap (λ x. told_on rows note x) (sym a)
 
+-- the next note's check, by what is seen of it
+abbrev next_by : (present taken_before gap : Bool) → ℕ → Result (Unit {0}) Refusal
+next_by present taken_before gap next =
+    if present
+    then (if taken_before then Err Store else if gap then Err (Gap next) else Ok tt)
+    else Err OldFit
+
 only_err : {A : Type 0} {a b : Refusal} → ◌≡◌ {A = Result A Refusal} (Err a) (Err b) → a ≡ b
 only_err e = cc
 
 -- a note that wasn't taken and isn't the next one of its room's present lock
 pub not_next : {S : Type 0} {I : IssuedOf S} {B : BooksOf S} {facts : Rows → Type 0} {start now : S}
-    {outcome : Rows → Outcome Change} {source : Stream} {why : Refusal} (note : Note) (row : RoomRow)
+    {outcome : Rows → Outcome Change} {source : Stream} {why : Refusal} (r : Result Reply Refusal)
+    → IsErrAnd r (λ x. x ≡ why) → (note : Note) (row : RoomRow)
     → next_checked note row ≡ Err why → 1 ≤ note.count → SoFar I B true facts start now
     → (facts (B.rows start) → IsUntaken note row (B.rows start)
     × (outcome (B.rows start) ≡ reported_on (B.rows start) note None))
-    → StepsAs I B outcome start now source source (Refused why)
-not_next {I = I} {B = B} {start = start} {now = now} {outcome = outcome} {source = source} {why = why} note row is least
-    s known = by (note.fit == row.fit) (nat_le note.count (row.notes - row.before))
-    (nat_lt (row.notes - row.before + 1) note.count) refl refl refl is
+    → StepsAs I B outcome start now source source (reply_of r)
+not_next {I = I} {B = B} {start = start} {now = now} {outcome = outcome} {source = source} {why = why} r p note row is
+    least s known = subst (λ answer. StepsAs I B outcome start now source source answer) (sym (passed_on r why p))
+    (by (note.fit == row.fit) (nat_le note.count (row.notes - row.before))
+    (nat_lt (row.notes - row.before + 1) note.count) refl refl refl is)
   where
     taken : ℕ
     taken = row.notes - row.before
@@ -167,12 +177,11 @@ not_next {I = I} {B = B} {start = start} {now = now} {outcome = outcome} {source
         → StepsAs I B outcome start now source source (Refused why)
     so e t = subst (λ x. StepsAs I B outcome start now source source (Refused x)) e t
 
-    by : (present past gap : Bool) → (note.fit == row.fit) ≡ present → nat_le note.count taken ≡ past
+    by : (present taken_before gap : Bool) → (note.fit == row.fit) ≡ present → nat_le note.count taken ≡ taken_before
         → nat_lt (taken + 1) note.count ≡ gap
-        → (if present then (if past then Err Store else if gap then Err (Gap (taken + 1)) else Ok tt) else Err OldFit)
-        ≡ Err why
+        → next_by present taken_before gap (taken + 1) ≡ Err why
         → StepsAs I B outcome start now source source (Refused why)
-    by false past gap f p g e = so (only_err e) (refuses OldFit refl s
+    by false taken_before gap f p g e = so (only_err e) (refuses OldFit refl s
         (λ k. (known k).1 ∙ old_told (B.rows start) note row (known k).0.0 f))
     by true true gap f p g e = so (only_err e) (excluded s (λ w k. false≢true
         (subst IsSome (ap (λ z. note_at (B.rows start) note.room z note.count) (sym (eq_from note.fit row.fit f))
@@ -194,13 +203,11 @@ is_next note row e = by (note.fit == row.fit) (nat_le note.count (row.notes - ro
     taken : ℕ
     taken = row.notes - row.before
 
-    by : (present past gap : Bool) → (note.fit == row.fit) ≡ present → nat_le note.count taken ≡ past
+    by : (present taken_before gap : Bool) → (note.fit == row.fit) ≡ present → nat_le note.count taken ≡ taken_before
         → nat_lt (taken + 1) note.count ≡ gap
-        → ◌≡◌ {A = Result (Unit {0}) Refusal}
-        (if present then (if past then Err Store else if gap then Err (Gap (taken + 1)) else Ok tt) else Err OldFit)
-        (Ok tt)
+        → next_by present taken_before gap (taken + 1) ≡ Ok tt
         → ((note.fit == row.fit) ≡ true) × (taken < note.count) × (note.count ≤ taken + 1)
-    by false past gap f p g e = cc
+    by false taken_before gap f p g e = cc
     by true true gap f p g e = cc
     by true false true f p g e = cc
     by true false false f p g e = (f, not_past note.count taken p, not_lt_from (taken + 1) note.count g)

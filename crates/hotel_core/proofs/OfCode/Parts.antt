@@ -244,7 +244,7 @@ makes {B = B} {old = old} {new = new} answer change source k m since v asked = r
   fault = λ clean whole cause e. absurd (false≢true (sym k ∙ (ap is_failed e ∙ faults cause)));
 }
 
-same_fault : (fault other : LookFault) → Refused (refusal_of fault) ≡ Refused (refusal_of other) → fault ≡ other
+pub same_fault : (fault other : LookFault) → Refused (refusal_of fault) ≡ Refused (refusal_of other) → fault ≡ other
 same_fault look.Memory look.Memory e = refl
 same_fault look.Memory look.Store e = cc
 same_fault look.Store look.Memory e = cc

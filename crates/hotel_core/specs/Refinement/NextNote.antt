@@ -4,8 +4,8 @@ use Rattle.keycard_rules.specs.{Note.Note}
 use Rattle.hotel_model.specs.{declared.rows.RoomRow.RoomRow, declared.reply.Refusal.Refusal}
 use Rattle.hotel_model.specs.declared.reply.Refusal.TheVariants.{Gap, OldFit, Store}
 
--- why a note that wasn't taken isn't the next one of its room's present lock, if it isn't; sound books have each note up
--- to the count that was taken
+-- why a note that wasn't taken isn't the next one of its room's present lock, if it isn't; sound books have each note
+-- up to the count that was taken
 abbrev pub next_checked : Note → RoomRow → Result (Unit {0}) Refusal
 next_checked note row =
     if note.fit == row.fit

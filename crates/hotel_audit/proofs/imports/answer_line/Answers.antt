@@ -30,6 +30,9 @@ returns-in-Unread-clause-happened g c = λ honest. rw c.in-Unread.is
 pub returns-in-Unread-clause-vouched : goal.returns-in-Unread-clause-vouched
 returns-in-Unread-clause-vouched g c = λ honest some. absurd (some refl)
 
+pub returns-in-Unread-clause-asked : goal.returns-in-Unread-clause-asked
+returns-in-Unread-clause-asked g c = λ some. absurd (some refl)
+
 pub returns-in-Note-clause-answer : goal.returns-in-Note-clause-answer
 returns-in-Note-clause-answer g c = rw c.in-Note.is
     (if_ok c.answer_of.result _ (λ a e. (answered_reply c.in-Note.note c.report.result a (e ∙ c.answer_of.ensures)).0))
@@ -41,7 +44,8 @@ returns-in-Note-clause-went g c =
       c.report.result,
       c.answer_of.ensures,
       (λ source. step_happens source source (command.Reported c.in-Note.note) c.report.result
-          g.met.B.Issued.clean_honest f.since (λ honest. f.happened honest source) f.failed f.vouched),
+          g.met.B.Issued.clean_honest f.since (λ honest. f.happened honest source) f.failed f.vouched
+          f.asked),
     )
 
 pub returns-in-Note-clause-happened : goal.returns-in-Note-clause-happened
@@ -56,6 +60,10 @@ returns-in-Note-clause-happened g c =
 pub returns-in-Note-clause-vouched : goal.returns-in-Note-clause-vouched
 returns-in-Note-clause-vouched g c = if_ok c.answer_of.result _
     (λ a e honest some. c.report.ensures.vouched honest (answered_sure c.report.result a (e ∙ c.answer_of.ensures)))
+
+pub returns-in-Note-clause-asked : goal.returns-in-Note-clause-asked
+returns-in-Note-clause-asked g c = if_ok c.answer_of.result _
+    (λ a e some. c.report.ensures.asked (answered_sure c.report.result a (e ∙ c.answer_of.ensures)))
 
 pub returns-in-Note-clause-unasked : goal.returns-in-Note-clause-unasked
 returns-in-Note-clause-unasked g c = if_ok c.answer_of.result _ (λ a e none.

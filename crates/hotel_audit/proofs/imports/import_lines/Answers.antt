@@ -11,7 +11,7 @@ use Rattle.hotel_core.specs.{Books.Failures.refusal_of, Books.Passes.Passes}
 use Rattle.hotel_audit.specs.declared.audit_file.AuditFault.TheVariants as fault
 use Rattle.keycard_rules.specs.declared.issued.LookFault.{LookFault}
 use Rattle.keycard_rules.specs.declared.issued.LookFault.TheVariants as look
-use Rattle.hotel_audit.proofs.LineAnswers.{AreAnswered-append, lead-join, lead-none, passes_next}
+use Rattle.hotel_audit.proofs.LineAnswers.{AreAnswered-append, calls_next, lead-join, lead-none, passes_next}
 use Rattle.hotel_audit.proofs.LineAnswers.{unasked_both, vouched_next}
 use Rattle.hotel_audit.proofs.ImportEnds.{all_answered, answered_before, next_fails, none_begun}
 use Rattle.hotel_audit.proofs.imports.import_lines.Goals as goal
@@ -26,6 +26,7 @@ loop-line-init g c = record {
   happened = λ honest. rw (c.in-Ok.ensures.items)
       (lead-none (g.B.Issued.is_clean c.args.books.now) (g.B.Books.rows c.args.books.now));
   vouched = λ honest. rw (c.in-Ok.ensures.items) (λ noted. absurd (noted refl));
+  asked = rw (c.in-Ok.ensures.items) since_refl;
   unasked = λ none clean. clean;
 }
 
@@ -51,7 +52,7 @@ returns-in-Err-clause-imported g c =
     subst (λ (fault : ImportFault). Imports g.B.Issued rows (Ok xs) old new (Err fault)) (sym why)
     (answered_before g.B.Issued rows old new
     (g.met.B.Issued.clean_honest _) c.loop-line.books xs i given by inv.each inv.since f.since f.unchanged inv.happened
-    inv.vouched inv.through (next_fails g.B.Issued rows old new
+    inv.vouched inv.asked inv.through (next_fails g.B.Issued rows old new
     (g.met.B.Issued.clean_honest _) c.loop-line.books xs i c.line-item.result by more f.went))
 
 pub returns-clause-imported : goal.returns-clause-imported
@@ -65,7 +66,7 @@ returns-clause-imported g c =
     inv.since.was_clean
     (λ honest. subst (λ lines. LinesLeadOn (is_clean c.args.books.now) (rows c.args.books.now) lines
     c.loop-line.answers.items (is_clean c.loop-line.books) (rows c.loop-line.books)) all (inv.happened honest))
-    inv.vouched inv.unasked
+    inv.vouched inv.asked inv.unasked
     (subst (λ lines. Passes (LineHappens g.B.Issued rows) c.args.books.now
     (zip lines c.loop-line.answers.items) c.loop-line.books) all inv.through)
 
@@ -113,6 +114,8 @@ loop-line-preserved g c =
           (vouched_next c.loop-line.answers.items c.in-Ok-answer_line.answer (is_clean c.loop-line.books)
           (is_clean c.answer_line.new.books) (inv.vouched (f.since.was_honest honest))
           (λ none before. subst is_clean (sym (f.unasked none)) before) (f.vouched honest));
+      asked = rw c.in-Ok-push.ensures.items
+          (calls_next c.loop-line.answers.items c.in-Ok-answer_line.answer inv.asked f.asked f.since);
       unasked = rw c.in-Ok-push.ensures.items
           (λ none was. let each = unasked_both c.loop-line.answers.items c.in-Ok-answer_line.answer none in
           subst is_clean (sym (f.unasked each.1)) (inv.unasked each.0 was));

@@ -1,4 +1,4 @@
-use Rattle.hotel_core.proofs.{OfCode.Parts.makes, OfCode.Parts.fails}
+use Rattle.hotel_core.proofs.{Names.asked_now, OfCode.Parts.makes, OfCode.Parts.fails}
 use Rattle.hotel_model.proofs.RowsAfter.FitsAfter.{fits_after}
 use Rattle.hotel_model.specs.Outcome.{accepted}
 use Rattle.hotel_core.proofs.commands.changes.make.Goals as goal

@@ -1,10 +1,11 @@
-use Rattle.std.proofs.Common.{Some, None, refl, sym, ap, ◌∙◌, [], if◌then◌else◌}
+use Rattle.std.proofs.Common.{Some, None, refl, sym, ap, ◌∙◌, [], arith, if◌then◌else◌}
 use Rattle.hotel_core.proofs.Names.{outcome_on, reported_on, said, refused}
 use Rattle.hotel_model.specs.declared.reply.Refusal.TheVariants as refusal
 use Rattle.hotel_model.specs.declared.reply.Reply.TheVariants as reply
-use Rattle.hotel_core.proofs.OfCode.Parts.{begun, at_now, passed_on, then_found, then_known, stopped, stopped_known}
+use Rattle.hotel_core.proofs.OfCode.Parts.{begun, at_now, then_found, then_known, stopped, stopped_known}
 use Rattle.hotel_core.proofs.OfCode.Parts.{refuses, ends, only}
 use Rattle.hotel_core.proofs.{OfCode.NoteParts.reported_there, OfCode.NoteParts.later_there, OfCode.NoteParts.says}
+use Rattle.hotel_core.proofs.{OfCode.NoteParts.not_next}
 use Rattle.hotel_core.proofs.{OfCode.AnswerParts.comes_now}
 use Rattle.hotel_model.specs.declared.command.Command.TheVariants as command
 use Rattle.hotel_core.proofs.commands.notes.take_note.Goals as goal
@@ -63,8 +64,20 @@ take_next-requires-clause-outcome g c =
           (sym c.is_fit.ensures ∙ c.if-not-is_fit.false) (only k.1 ∙ c.in-None.is),
     ))
 
-pub returns-in-None : goal.returns-in-None
-returns-in-None g c = λ source.
+pub returns-in_err-check_next-in-None : goal.returns-in_err-check_next-in-None
+returns-in_err-check_next-in-None g c = λ source.
+    not_next c.from_residual-in_err-check_next-in-None.result c.from_residual-in_err-check_next-in-None.ensures.1
+    c.args.note.now _ (sym c.in_err-check_next-in-None.ensures) (omega arith)
+    (then_known (then_found (then_found begun c.in_ok-today.ensures.finds) (rw c.room.ensures at c.in_ok-row.ensures))
+    c.in_ok-kept.ensures)
+    (λ k. (
+      (k.0.1, only k.1 ∙ c.in-None.is),
+      reported_there _ _ _ _ _ None k.0.0.1 k.0.1
+          (sym c.is_fit.ensures ∙ c.if-not-is_fit.false) (only k.1 ∙ c.in-None.is),
+    ))
+
+pub returns-in_ok-check_next-in-None : goal.returns-in_ok-check_next-in-None
+returns-in_ok-check_next-in-None g c = λ source.
     ends (then_known (then_found (then_found begun c.in_ok-today.ensures.finds)
     (rw c.room.ensures at c.in_ok-row.ensures)) c.in_ok-kept.ensures)
     (c.take_next.ensures source) (λ k. reported_there _ _ _ _ _ None k.0.0.1 k.0.1

@@ -13,6 +13,7 @@ returns g c =
       kept = search rules;
       since = search rules;
       vouched = search rules;
+      asked = search rules;
       stop = search rules;
       fault = search rules;
       cause = λ honest failed. not_store _ c.walk_in_house-end.ensures.no_store

@@ -15,6 +15,7 @@ returns g c =
       kept = search rules;
       since = search rules;
       vouched = search rules;
+      asked = search rules;
       stop = search rules;
       fault = search rules;
       cause = search rules;

@@ -1,7 +1,7 @@
 use Rattle.std.proofs.Common.{arith, rules}
 use Rattle.std.proofs.lemmas.Result.{IfErr-weaker}
 use Rattle.hotel_core.proofs.OfCode.Parts.{risen_later}
-use Rattle.hotel_tables.proofs.CountedCalls.{asked_in_vain}
+use Rattle.hotel_tables.proofs.CountedCalls.{asked_in_vain, on_ok_if}
 use Rattle.hotel_tables.proofs.table_books.books.TableBooksBooks.copy_guest.Goals as goal
 
 pub returns : goal.returns
@@ -14,6 +14,7 @@ returns g c = record {
     counted = λ why. omega (arith, c.in_ok-ask.ensures.counted why, c.counting.ensures.counted why);
   };
   vouched = search rules;
+  asked = on_ok_if _ (search rules);
   stop = search rules;
   fault = rw c.counting.ensures.same (IfErr-weaker _ _ _ (λ why risen. risen_later _ _ _ (c.in_ok-ask.ensures.counted
       why) risen (c.counting.ensures.counted why)) c.counting.ensures.risen);
