@@ -140,10 +140,10 @@ module _ {S : Type 0} (I : IssuedOf S) (rows : S → Rows) (s : Stream) where
   line_since (line.Note note) came goes = (goes.2 s).since
 
   -- over several, and over what came behind them
-  lines_since : {a b : S} (items : List (Line × LineAnswer))
+  lines_since : (a b : S) (items : List (Line × LineAnswer))
       → Passes (LineHappens I rows) a items b → Since I.is_clean I.is_honest I.failures a b
-  lines_since [] p = same_since p
-  lines_since (item ∷ later) p = since_then (line_since item.0 (Ok item.1) p.1) (lines_since later p.2)
+  lines_since a b [] p = same_since p
+  lines_since a b (item ∷ later) p = since_then (line_since item.0 (Ok item.1) p.1) (lines_since p.0 b later p.2)
 
   leaves_since : {a b : S} (file : Result (List Line) AuditFault) (lines : List Line)
       (end : Result (List LineAnswer) ImportFault)
@@ -164,19 +164,19 @@ module _ {S : Type 0} (I : IssuedOf S) (rows : S → Rows) (s : Stream) where
       asked_before calls.1 calls.2
 
   -- lines of which one is a note that has an answer have a call
-  lines_asked : {a b : S} (lines : List Line) (answers : List LineAnswer) (h : History)
+  lines_asked : (a b : S) (lines : List Line) (answers : List LineAnswer) (h : History)
       → Reached h → (I.is_clean a → rows a ≡ rows_of h) → I.is_honest b → AreAnswered lines answers
       → Passes (LineHappens I rows) a (zip lines answers) b → replies_in answers ≢ [] → WasAsked I a b
-  lines_asked [] [] h reached stands honest each p some = absurd (some refl)
-  lines_asked {a} {b} (line.Unread cause ∷ lines) (given ∷ answers) h reached stands honest each p some =
+  lines_asked a b [] [] h reached stands honest each p some = absurd (some refl)
+  lines_asked a b (line.Unread cause ∷ lines) (given ∷ answers) h reached stands honest each p some =
       let later : replies_in answers ≢ [] = λ none. some (rw each.0 none) in
       let mid = subst (λ (x : S). I.is_clean x → rows x ≡ rows_of h) (sym p.1.1) stands in
-      asked_then (same_since p.1.1) (lines_asked lines answers h reached mid honest each.1 p.2 later)
-  lines_asked (line.Note note ∷ lines) (given ∷ answers) h reached stands honest each p some =
-      let after = lines_since (zip lines answers) p.2 in
+      asked_then (same_since p.1.1) (lines_asked p.0 b lines answers h reached mid honest each.1 p.2 later)
+  lines_asked a b (line.Note note ∷ lines) (given ∷ answers) h reached stands honest each p some =
+      let after = lines_since p.0 b (zip lines answers) p.2 in
       asked_before (note_asked note given h reached stands (after.was_honest honest) p.1) after
-  lines_asked [] (given ∷ answers) h reached stands honest each p some = absurd each
-  lines_asked (asks ∷ lines) [] h reached stands honest each p some = absurd each
+  lines_asked a b [] (given ∷ answers) h reached stands honest each p some = absurd each
+  lines_asked a b (asks ∷ lines) [] h reached stands honest each p some = absurd each
 
 -- an answer that is Taken is one to a note
 taken_is_reply : (answers : List LineAnswer) → has_taken answers ≡ true → replies_in answers ≢ []
@@ -235,14 +235,14 @@ pub file_came : {S : Type 0} {I : IssuedOf S} {rows : S → Rows} {a b : S} (fil
     → (I.is_clean b → AreCounted (I.failures a) (I.failures b) (import_failures import_end))
     → EndsAs (imported import_end) [] old new end
     → (s : Stream) → Happens I rows a (Answered (FileComes file) s s [] old new end) b
-file_came {I = I} {rows = rows} file import_end old new end honest_is since i same failed ends s =
+file_came {I = I} {rows = rows} {a = a} {b = b} file import_end old new end honest_is since i same failed ends s =
     happens_so (answered_weaker (FileComes file) s s [] old new end) honest_is since
     (λ honest h reached stands.
     let v = i.5 honest in
     let p = v.happened s h reached stands in
     let after = leaves_since I rows s (audit_lines file) i.0 import_end i.8 in
-    let asked = λ some. asked_before
-    (lines_asked I rows s i.0 i.1 h reached stands (after.was_honest honest) i.2 i.7 some) after in (
+    let asked : replies_in i.1 ≢ [] → WasAsked I a b = λ some. asked_before
+    (lines_asked I rows s a i.6 i.0 i.1 h reached stands (after.was_honest honest) i.2 i.7 some) after in (
       p.0,
       p.1,
       p.2,
