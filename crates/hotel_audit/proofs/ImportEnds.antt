@@ -14,7 +14,7 @@ use Rattle.keycard_rules.specs.declared.issued.LookFault.{LookFault}
 use Rattle.keycard_rules.specs.declared.issued.LookFault.TheVariants as look
 use Rattle.hotel_core.specs.{Books.Happens.HaveCalls, Books.Passes.Passes}
 use Rattle.hotel_audit.specs.Import.{AreAnswered, EndsAfter, Imports, LeavesBehind, LineGoes, LineHappens}
-use Rattle.hotel_audit.specs.Import.{IsFrontOf, LinesLeadOn, NextFails, has_taken, replies_in, stopped}
+use Rattle.hotel_audit.specs.Import.{IsFrontOf, LinesLeadOn, NextFails, Vouches, has_taken, replies_in, stopped}
 use Rattle.hotel_audit.proofs.LineAnswers.{lead-none, lead-same}
 
 -- an import that was stopped ended after a front of the file's lines
@@ -54,19 +54,20 @@ module _ {B : Type 0} (I : IssuedOf B) (rows : B → Rows) (old new : B) (honest
     each,
     ends,
     (λ clean source. leads_of clean (happened (honest clean) source)),
-    (
-      λ now. record {
+    vouches,
+    behind,
+    through,
+    leaves,
+  )
+    where
+      vouches : I.is_honest new → Vouches I rows lines answers old new outcome
+      vouches now = record {
         happened = happened now;
         asked = asked;
         was_clean = was_clean now;
         is_clean = is_clean now;
         unasked = unasked;
       }
-    ),
-    behind,
-    through,
-    leaves,
-  )
 
   pub all_answered : (lines : List Line) (answers : List LineAnswer)
       → AreAnswered lines answers → (I.is_clean new → I.is_clean old)
