@@ -6,7 +6,7 @@ use Rattle.std.proofs.lemmas.Bool.{not-true}
 use Rattle.rand_core.specs.Stream.{Stream}
 use Rattle.keycard_rules.specs.{Since.Since, declared.issued.Issued.Ghosts as IssuedOf}
 use Rattle.keycard_rules.proofs.Sinces.{since_refl}
-use Rattle.hotel_core.proofs.Names.{false≢true}
+use Rattle.hotel_core.proofs.Names.{WasAsked, false≢true}
 use Rattle.hotel_model.proofs.Invariants.Assurance.{assured}
 use Rattle.hotel_core.proofs.OfCode.FailuresCounted.{none_counted}
 use Rattle.hotel_core.proofs.OfCode.Happens.{so_by, tells_none, tells_once}
@@ -63,25 +63,27 @@ pub command_ends : {S : Type 0} {I : IssuedOf S} {rows : S → Rows} {a b : S} (
     → ((x : S) → I.is_clean x → I.is_honest x) → Since I.is_clean I.is_honest I.failures a b
     → (I.is_honest b → LeadsOn (I.is_clean a) (rows a) (λ h h'. Steps h s command reply h' t) (I.is_clean b) (rows b))
     → (I.is_clean b → AreCounted (I.failures a) (I.failures b) (failure_in reply))
-    → (I.is_honest b → is_failed reply ≡ false → I.is_clean b)
+    → (I.is_honest b → is_failed reply ≡ false → I.is_clean b) → (is_failed reply ≡ false → WasAsked I a b)
     → OnOk written (Appends old new (reply_text reply)) → OnErr written (AppendsFront old new (reply_text reply))
     → HappensBy I rows a (AskEnds (Some (ask.Command command)) s t old new written) b
 command_ends {I = I} {a = a} {b = b} s t command reply old new
-    (Ok done) honest_is since step failed vouched whole front =
+    (Ok done) honest_is since step failed vouched asked whole front =
     so_by (ends_weaker (Some (ask.Command command)) s t old new (Ok done)) honest_is since
     (λ honest h reached stands.
     let p = step honest h reached stands in
     let told = tells_once (not (tells_failure (reply_text reply)))
     (λ clean. known_counted (I.failures a) (I.failures b) reply (copies command) since.counted (failed clean))
-    (λ k. vouched honest (reply_sure reply (not-true (tells_failure (reply_text reply)) k))) since.was_clean in
+    (λ k. vouched honest (reply_sure reply (not-true (tells_failure (reply_text reply)) k)))
+    (λ k. asked (reply_sure reply (not-true (tells_failure (reply_text reply)) k))) since in
     (p.0, p.1, p.2, (reply_text reply, counted_in reply (copies command), (reply, p.3, refl, refl), whole, told), p.4))
 command_ends {I = I} {a = a} {b = b} s t command reply old new
-    (Err cut) honest_is since step failed vouched whole front =
+    (Err cut) honest_is since step failed vouched asked whole front =
     so_by (ends_weaker (Some (ask.Command command)) s t old new (Err cut)) honest_is since
     (λ honest h reached stands.
     let p = step honest h reached stands in
     let told = tells_once false (λ clean. known_counted (I.failures a) (I.failures b) reply
-    (copies command) since.counted (failed clean)) (λ k. absurd (false≢true k)) since.was_clean in
+    (copies command) since.counted (failed clean)) (λ k. absurd (false≢true k))
+    (λ k. absurd (false≢true k)) since in
     (p.0, p.1, p.2, (reply_text reply, counted_in reply (copies command), (reply, p.3, refl, refl), front, told), p.4))
 
 either : {C : Type 0} (b : Bool) → (b ≡ true → C) → (b ≡ false → C) → C
@@ -111,7 +113,7 @@ list_cut {I = I} {rows = rows} {a = a} {b = b} its_list s old new honest_is sinc
     let answers : I.is_clean b → AnswersList (listing_over h its_list) it.0 it.1 =
     λ clean. subst (λ (l : Option Listing). AnswersList l it.0 it.1)
     (listing_stands h (rows a) its_list (reached, stands (since.was_clean clean))) it.2 in
-    let told = tells_once false (λ clean. it.4) (λ k. absurd (false≢true k)) since.was_clean in (
+    let told = tells_once false (λ clean. it.4) (λ k. absurd (false≢true k)) (λ k. absurd (false≢true k)) since in (
       h,
       reached,
       (λ clean. same clean ∙ stands (since.was_clean clean)),
@@ -124,8 +126,8 @@ pub list_ends : {S : Type 0} {I : IssuedOf S} {rows : S → Rows} {a b : S} (its
     (old new : Option (List ℕ)) (written : Result (Unit {0}) WriteFailed)
     → ((x : S) → I.is_clean x → I.is_honest x) → Since I.is_clean I.is_honest I.failures a b
     → (I.is_clean b → rows b ≡ rows a)
-    → (I.is_honest b → OnOk written (ListAnswered (listing_on (rows a) its_list) (Whole old new (I.is_clean b))
-    (AreCounted (I.failures a) (I.failures b))))
+    → (I.is_honest b → OnOk written (ListAnswered (listing_on (rows a) its_list)
+    (Whole old new (I.is_clean b × WasAsked I a b)) (AreCounted (I.failures a) (I.failures b))))
     → (I.is_honest b → OnErr written (ListAnswered (listing_on (rows a) its_list) (AppendsFront old new)
     (AreCounted (I.failures a) (I.failures b))))
     → HappensBy I rows a (AskEnds (Some (ask.List its_list)) s s old new written) b
@@ -137,11 +139,17 @@ list_ends {I = I} {rows = rows} {a = a} {b = b} its_list s old new (Ok done) hon
     λ clean. subst (λ (l : Option Listing). AnswersList l it.0 it.1)
     (listing_stands h (rows a) its_list (reached, stands (since.was_clean clean))) it.2 in
     let told = tells_once (not (tells_failure it.0)) (λ clean. it.4)
-    (λ k. it.3.1 (not-true (tells_failure it.0) k)) since.was_clean in (
+    (λ k. (it.3.1 (not-true (tells_failure it.0) k)).0) (λ k. (it.3.1 (not-true (tells_failure it.0) k)).1) since in (
       h,
       reached,
       (λ clean. same clean ∙ stands (since.was_clean clean)),
-      (it.0, it.1, ((λ sure. answers (either (tells_failure it.0) sure it.3.1)), refl, refl), it.3.0, told),
+      (
+        it.0,
+        it.1,
+        ((λ sure. answers (either (tells_failure it.0) sure (λ k. (it.3.1 k).0))), refl, refl),
+        it.3.0,
+        told,
+      ),
       assured h reached,
     ))
 list_ends its_list s old new (Err cut) honest_is since same whole front =
@@ -163,7 +171,7 @@ quiet_ends {I = I} a wanted s text old new (Err cut) honest_is goes tells whole 
     so_by (ends_weaker wanted s s old new (Err cut)) honest_is since_refl
     (λ honest h reached stands.
     let told = tells_once false (λ clean. none_counted (I.failures a) (I.failures a) (λ cause. omega arith))
-    (λ k. absurd (false≢true k)) (λ clean. clean) in
+    (λ k. absurd (false≢true k)) (λ k. absurd (false≢true k)) since_refl in
     (h, reached, stands, (text, [], goes (λ t. I.is_clean a) h, front, told), assured h reached))
 
 -- an unread line is answered
@@ -183,8 +191,11 @@ without_memory_tells a None copied = absurd copied
 without_memory_tells {I = I} a (Some given) copied =
     tells_once (not (tells_failure (refusal_text refusal.Memory)))
     (λ clean. none_counted (I.failures a) (I.failures a) (λ cause. omega arith))
-    (λ k. absurd (false≢true (sym (not-true (tells_failure (refusal_text refusal.Memory)) k)
-    ∙ told_failed [] refusal.Memory refl))) (λ clean. clean)
+    (λ k. absurd (no_answer k)) (λ k. absurd (no_answer k)) since_refl
+  where
+    no_answer : not (tells_failure (refusal_text refusal.Memory)) ≡ true → ⊥
+    no_answer k = false≢true (sym (not-true (tells_failure (refusal_text refusal.Memory)) k)
+        ∙ told_failed [] refusal.Memory refl)
 
 -- a line for which there was no memory is answered
 pub memory_ends : {S : Type 0} {I : IssuedOf S} {rows : S → Rows} (a : S) (wanted : Option Ask) (s : Stream)

@@ -12,7 +12,7 @@ use Rattle.hotel_model.specs.declared.reply.Reply.TheVariants.{Refused}
 use Rattle.hotel_model.specs.declared.reply.Refusal.{Refusal}
 use Rattle.hotel_model.specs.declared.reply.Refusal.TheVariants as refusal
 use Rattle.hotel_model.specs.Run.{is_failed}
-use Rattle.hotel_core.proofs.Names.{false≢true}
+use Rattle.hotel_core.proofs.Names.{WasAsked, false≢true}
 use Rattle.hotel_model.specs.declared.reply.Reply.{Reply}
 use Rattle.hotel_core.specs.Texts.{reply_text}
 use Rattle.hotel_core.specs.Books.Failures.{AreCounted}
@@ -113,22 +113,22 @@ reply_sure (Refused refusal.Memory) k = absurd (false≢true (sym k ∙ told_fai
 reply_sure (Refused refusal.Store) k = absurd (false≢true (sym k ∙ told_failed [] refusal.Store refl))
 reply_sure _ k = refl
 
--- where the answer tells no failure the books are kept
-refusal_vouches : (is_clean : Type 0) (front : List ℕ) (why_not : ListFault) (why : Refusal)
-    → told_refusal why_not ≡ Some why → Vouches is_clean (Err why_not)
-    → tells_failure (front ++ refusal_text why) ≡ false → is_clean
-refusal_vouches is_clean front fault.NoRoom why e v k = v
-refusal_vouches is_clean front fault.Memory why e v k =
+-- where the answer tells no failure it vouches as the list does
+refusal_vouches : (something : Type 0) (front : List ℕ) (why_not : ListFault) (why : Refusal)
+    → told_refusal why_not ≡ Some why → Vouches something (Err why_not)
+    → tells_failure (front ++ refusal_text why) ≡ false → something
+refusal_vouches something front fault.NoRoom why e v k = v
+refusal_vouches something front fault.Memory why e v k =
     let same : refusal.Memory ≡ why = cc e in absurd (false≢true (sym k ∙ subst (λ (w : Refusal).
     tells_failure (front ++ refusal_text w) ≡ true) same (told_failed front refusal.Memory refl)))
-refusal_vouches is_clean front fault.Store why e v k =
+refusal_vouches something front fault.Store why e v k =
     let same : refusal.Store ≡ why = cc e in absurd (false≢true (sym k ∙ subst (λ (w : Refusal).
     tells_failure (front ++ refusal_text w) ≡ true) same (told_failed front refusal.Store refl)))
-refusal_vouches is_clean front fault.Write why e v k = cc e
+refusal_vouches something front fault.Write why e v k = cc e
 
 -- An answer to a list that was written whole: these bytes, and what it vouches for.
 abbrev pub Whole : Option (List ℕ) → Option (List ℕ) → Type 0 → List ℕ → Type 0
-Whole old new is_clean text = Appends old new text × (tells_failure text ≡ false → is_clean)
+Whole old new something text = Appends old new text × (tells_failure text ≡ false → something)
 
 -- the whole answer of a list that was refused
 pub refused_whole : {B : Type 0} (I : IssuedOf B) {b c : B}
@@ -136,15 +136,18 @@ pub refused_whole : {B : Type 0} (I : IssuedOf B) {b c : B}
     → told_refusal why_not ≡ Some why
     → ListEnds [] listing old mid (Err why_not) → LooksAt I b c (Err why_not) → I.is_honest c
     → Appends mid new (refusal_text why)
-    → ListAnswered listing (Whole old new (I.is_clean c)) (AreCounted (I.failures b) (I.failures c))
-refused_whole I {c = c} listing old mid new why_not why e p looks honest written =
+    → ListAnswered listing (Whole old new (I.is_clean c × WasAsked I b c)) (AreCounted (I.failures b) (I.failures c))
+refused_whole I {b = b} {c = c} listing old mid new why_not why e p looks honest written =
     let r = refused_front listing old mid why_not why e p in (
       r.0 ++ refusal_text why,
       failed_by why_not,
       r.1,
       (
         Appends-trans old mid new r.0 (refusal_text why) r.2 written,
-        refusal_vouches (I.is_clean c) r.0 why_not why e (looks.vouched honest),
+        (λ k. (
+          refusal_vouches (I.is_clean c) r.0 why_not why e (looks.vouched honest) k,
+          refusal_vouches (WasAsked I b c) r.0 why_not why e looks.asked k,
+        )),
       ),
       counted_by I why_not looks,
     )
@@ -165,12 +168,12 @@ refused_cut I listing old mid new why_not why e p looks written =
     )
 
 -- a list that was written whole
-pub whole_answered : {a b : LookFault → ℕ} (is_clean : Type 0) (listing : Option Listing) (old new : Option (List ℕ))
-    → ListEnds [] listing old new (Ok tt) → is_clean → NoFewer a b
-    → ListAnswered listing (Whole old new is_clean) (AreCounted a b)
-whole_answered {a} {b} is_clean None old new p clean grown = cc p.0
-whole_answered {a} {b} is_clean (Some listing) old new p clean grown =
-    (_, [], inl (refl, refl), (p.1, λ k. clean), none_counted a b grown)
+pub whole_answered : {a b : LookFault → ℕ} (something : Type 0) (listing : Option Listing) (old new : Option (List ℕ))
+    → ListEnds [] listing old new (Ok tt) → something → NoFewer a b
+    → ListAnswered listing (Whole old new something) (AreCounted a b)
+whole_answered {a} {b} something None old new p vouched grown = cc p.0
+whole_answered {a} {b} something (Some listing) old new p vouched grown =
+    (_, [], inl (refl, refl), (p.1, λ k. vouched), none_counted a b grown)
 
 write_failed : {a b : LookFault → ℕ} (listing : Option Listing) (old new : Option (List ℕ))
     → ListEnds [] listing old new (Err fault.Write) → NoFewer a b

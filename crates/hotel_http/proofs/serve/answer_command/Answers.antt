@@ -7,4 +7,4 @@ returns-clause-went g c =
     let step = c.step-reply.ensures in
     command_came _ _ c.args.command.now c.step-reply.result _ _ _
     (step_happens _ _ c.args.command.now c.step-reply.result g.met.B.Issued.clean_honest step.since step.happened
-    step.failed step.vouched) c.answer_reply.ensures.ends
+    step.failed step.vouched step.asked) c.answer_reply.ensures.ends

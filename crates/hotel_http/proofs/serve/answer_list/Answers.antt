@@ -17,7 +17,7 @@ returns-in-Ok-clause-went g c =
     (true ∷ []) c.write_csv-written.result old new c.ended.result c.ended.ensures c.write_csv-written.ensures.writes.ok
     c.write_csv-written.ensures.writes.err in
     list_came c.args.list.now out true [] old new c.ended.result g.met.B.Issued.clean_honest made.since
-    (λ clean. g.met.B.Books.kept_rows _ _ (made.kept clean)) made.vouched refl
+    (λ clean. g.met.B.Books.kept_rows _ _ (made.kept clean)) made.vouched made.asked refl
     (λ listing same honest. list_comes (listing_on (g.B.Books.rows c.args.books.now) c.args.list.now) listing
     (Ok c.in-Ok.text.items) out made.text made.vouched same honest
     (λ l is. list_there l c.in-Ok.text.items is) (λ k. cc k))
@@ -30,7 +30,7 @@ returns-in-Err-clause-went g c =
     let why = c.in-Err.refusal in
     list_came c.args.list.now (replied (Refused why)) (not (is_failed (Refused why))) _ _ _ _
     g.met.B.Issued.clean_honest made.since (λ clean. g.met.B.Books.kept_rows _ _ (made.kept clean))
-    made.vouched refl
+    made.vouched made.asked refl
     (λ listing same honest. list_comes (listing_on (g.B.Books.rows c.args.books.now) c.args.list.now) listing
     (Err why) (replied (Refused why)) made.text made.vouched same honest (λ l is. list_refused l why is)
     (λ k. list_failed listing why k))

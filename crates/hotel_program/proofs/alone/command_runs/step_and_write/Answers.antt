@@ -14,7 +14,7 @@ returns-in-Ok-clause-ends g c =
       subst (λ (t : List ℕ). Appends (g.W.Write.contents c.args.writer.now)
           (g.W.Write.contents c.write_bytes.new.writer) t) text c.in-Ok.ensures.writes.ok,
       step_happens _ _ c.args.command.now c.step-reply.result g.met.B.Issued.clean_honest e.since
-          e.happened e.failed e.vouched,
+          e.happened e.failed e.vouched e.asked,
     )
 
 pub returns-in-Err-clause-ends : goal.returns-in-Err-clause-ends
@@ -27,5 +27,5 @@ returns-in-Err-clause-ends g c =
       subst (λ (t : List ℕ). AppendsFront (g.W.Write.contents c.args.writer.now)
           (g.W.Write.contents c.write_bytes.new.writer) t) text c.in-Err.ensures.writes.err,
       step_happens _ _ c.args.command.now c.step-reply.result g.met.B.Issued.clean_honest e.since
-          e.happened e.failed e.vouched,
+          e.happened e.failed e.vouched e.asked,
     )

@@ -6,5 +6,5 @@ pub returns-clause-went : goal.returns-clause-went
 returns-clause-went g c =
     let step = c.step.ensures in
     command_ends _ _ c.args.command.now c.step.result _ _ c.write_answer.result g.met.B.Issued.clean_honest step.since
-    step.happened step.failed step.vouched
+    step.happened step.failed step.vouched step.asked
     c.write_answer.ensures.writes.ok c.write_answer.ensures.writes.err

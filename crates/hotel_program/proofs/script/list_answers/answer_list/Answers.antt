@@ -1,5 +1,6 @@
 use Rattle.std.proofs.Common.{◌≡◌, ◌∙◌, [], sym, subst, Result, ℕ, List, Ok}
 use Rattle.std.specs.Io.KnownBytes.{Appends}
+use Rattle.hotel_core.proofs.Names.{WasAsked}
 use Rattle.hotel_lists.specs.Bytes.{AppendsFront}
 use Rattle.hotel_lists.specs.Lines.{LooksAt, Vouches}
 use Rattle.hotel_lists.specs.declared.fault.ListFault.{ListFault}
@@ -49,7 +50,9 @@ returns-in_default-clause-went g c = λ s.
     (c.write_list.ensures.text honest) in
     let clean = subst (λ (r : Result (Unit {0}) ListFault). Vouches (g.B.Issued.is_clean c.write_list.new.books) r)
     c.in_default.is (books.vouched honest) in
-    whole_answered _ listing old new written clean books.since.counted)
+    let asked = subst (λ (r : Result (Unit {0}) ListFault).
+    Vouches (WasAsked g.B.Issued c.args.books.now c.write_list.new.books) r) c.in_default.is books.asked in
+    whole_answered _ listing old new written (clean, asked) books.since.counted)
     (λ honest. tt)
 
 pub returns-in_default-told_refusal-clause-went : goal.returns-in_default-told_refusal-clause-went
