@@ -26,9 +26,9 @@ use Rattle.hotel_tables.specs.Causes.{LookUpFails}
 use Rattle.hotel_tables.proofs.Causes.{looked}
 
 -- what holds of an answer on a condition, as a part of what an answer says
-pub on_ok_if : {R E : Type 0} {P Q : Type 0} (result : Result R E) → (P → OnOk result Q) → OnOk result (P → Q)
-on_ok_if (Ok answer) so = so
-on_ok_if (Err given) so = tt
+pub on_ok_if : {R E : Type 0} (P Q : Type 0) (result : Result R E) → (P → OnOk result Q) → OnOk result (P → Q)
+on_ok_if P Q (Ok answer) so = so
+on_ok_if P Q (Err given) so = tt
 
 -- what books over tables say of their state, as `TableBooks` does
 abbrev over_tables : {S : Type 0} → Ghosts S → IssuedOf (Tabled S)
@@ -100,7 +100,7 @@ module _ {S : Type 0} (g : Ghosts S) (inside self : Tabled S) (same : inside ≡
             counted = none_fewer;
           };
           vouched = vouched;
-          asked = on_ok_if result vouched;
+          asked = on_ok_if _ _ result vouched;
           stop = looked_up.crash;
           fault = IfErr-weaker result _ _ has_risen risen_so;
           cause = looked Fails LookUpFails old later result result refl (more old later) looked_up.cause;
