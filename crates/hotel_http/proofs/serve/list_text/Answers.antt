@@ -17,6 +17,7 @@ returns-in-Err-clause-vouched g c = λ honest answered.
 pub returns-in-Err-clause-asked : goal.returns-in-Err-clause-asked
 returns-in-Err-clause-asked g c = λ answered.
     let was = WasAsked g.B.Issued c.args.books.now c.write_list.new.books in
-    let asked = subst (λ (r : Result (Unit {0}) ListFault). Vouches was r) c.in-Err.is c.write_list.ensures.books.asked in
+    let asked = subst (λ (r : Result (Unit {0}) ListFault). Vouches was r) c.in-Err.is
+    c.write_list.ensures.books.asked in
     text_vouched c.in-Err.fault was asked
     (sym (ap (λ (why : Refusal). is_answered (Err why)) c.list_refusal.ensures) ∙ answered)
