@@ -2,7 +2,7 @@
 //! here do no more than ask.
 
 ghost use Rattle.std.specs.Prelude.{◌≡◌, IfErr};
-ghost use Rattle.hotel_program.specs.declared.faults.Fault.TheVariants.{File};
+ghost use Rattle.hotel_program.specs.declared.faults.Fault.TheVariants as fault;
 
 use crate::database::open_file;
 use hotel_program::{Databases, Fault, FileName, SEED_BYTES, Surroundings, audit_file_in, seed_in};
@@ -43,7 +43,7 @@ impl<D: PathDisk> Host<D> {
 
     /// Opens a file to read it.
     fn open(&self, path: &str) -> Result<File, Fault>
-        ensures { IfErr result (λ why. why ≡ File) }
+        ensures { IfErr result (λ why. why ≡ fault.File) }
     {
         match fs::open(&self.rt, path) {
             Ok(file) => Ok(file),
