@@ -9,8 +9,9 @@ use Rattle.hotel_model.specs.Lists.{chain}
 use Rattle.hotel_lists.specs.Lines.{arrivals_header, in_house_header, chain_header, left_behind_header, audit_header}
 use Rattle.hotel_lists.specs.Lines.{arrival_line, house_line, chain_line, behind_line, note_line}
 use Rattle.hotel_lists.specs.Listings.{listing, of_room}
-use Rattle.hotel_asks.specs.{declared.lists.ListAsk.ListAsk, Listings.listing_on, Listings.listing_over}
-use Rattle.hotel_asks.specs.declared.lists.ListAsk.TheVariants.{Arrivals, InHouse, ChainOf, LeftBehind, AuditOf}
+use Rattle.hotel_core.specs.declared.asks.ListAsk.{ListAsk}
+use Rattle.hotel_asks.specs.{Listings.listing_on, Listings.listing_over}
+use Rattle.hotel_core.specs.declared.asks.ListAsk.TheVariants.{Arrivals, InHouse, ChainOf, LeftBehind, AuditOf}
 
 room_lifts : {R : Type 0} (h : History) (room : ℕ) (header : List ℕ) (line : R → List ℕ) (on_rows on_history : List R)
     → (is_room h room ≡ true → on_rows ≡ on_history)

@@ -6,7 +6,8 @@ use Rattle.std.specs.Str.{is_utf8}
 use Rattle.keycard_rules.specs.Results.{◌>>=◌}
 use Rattle.hotel_nights.specs.{Days.read_day, Guests.is_guest, Kinds.read_kind, Moments.read_moment}
 use Rattle.hotel_asks.specs.{Asks.ask_of, Asks.link_in, Asks.card_report, Names.names_of, Values.IsReading}
-use Rattle.hotel_asks.specs.{Values.guest_in, Values.slash_in, Values.fit_after, Values.lock_in, declared.asks.Ask.Ask}
+use Rattle.hotel_core.specs.declared.asks.Ask.{Ask}
+use Rattle.hotel_asks.specs.{Values.guest_in, Values.slash_in, Values.fit_after, Values.lock_in}
 use Rattle.keycard_rules.specs.Numerals.{number_up_to, read_code}
 use Rattle.hotel_asks.specs.declared.values.ValueName.TheVariants.{Day, Kind, Arrive, Nights, Guest, Room, Lock, Party}
 use Rattle.hotel_asks.specs.declared.values.ValueName.TheVariants.{Card, Count, Old, New, From, To, Moment}

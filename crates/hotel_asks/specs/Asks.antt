@@ -6,10 +6,11 @@ use Rattle.keycard_rules.specs.declared.note.Act.TheVariants as act
 use Rattle.hotel_nights.specs.Moments.{Moment, note_from}
 use Rattle.hotel_model.specs.declared.command.Command.{Command}
 use Rattle.hotel_model.specs.declared.command.Command.TheVariants as command
-use Rattle.hotel_asks.specs.{declared.asks.Ask.Ask, declared.values.Lock.Lock}
+use Rattle.hotel_core.specs.declared.asks.Ask.{Ask}
+use Rattle.hotel_asks.specs.declared.values.Lock.{Lock}
 use Rattle.hotel_asks.specs.{declared.values.ValueFault.ValueFault, declared.values.ValueFault.TheVariants.Number}
-use Rattle.hotel_asks.specs.declared.asks.Ask.TheVariants as ask
-use Rattle.hotel_asks.specs.declared.lists.ListAsk.TheVariants as list
+use Rattle.hotel_core.specs.declared.asks.Ask.TheVariants as ask
+use Rattle.hotel_core.specs.declared.asks.ListAsk.TheVariants as list
 use Rattle.hotel_asks.specs.declared.values.ValueName.TheVariants.{Day, Arrive, Old, New, From, To}
 use Rattle.hotel_asks.specs.declared.verbs.Verb.{Verb}
 use Rattle.hotel_asks.specs.declared.verbs.Verb.TheVariants.{Begin, AddKind, AddRoom, Reserve, Cancel, CheckIn, Spare}

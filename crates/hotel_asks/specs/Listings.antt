@@ -6,8 +6,8 @@ use Rattle.hotel_lists.specs.Listings.{Listing, listing, of_room, arrivals_listi
 use Rattle.hotel_lists.specs.Listings.{left_behind_listing, audit_listing}
 use Rattle.hotel_lists.specs.Lines.{arrivals_header, in_house_header, chain_header, left_behind_header, audit_header}
 use Rattle.hotel_lists.specs.Lines.{arrival_line, house_line, chain_line, behind_line, note_line}
-use Rattle.hotel_asks.specs.declared.lists.ListAsk.{ListAsk}
-use Rattle.hotel_asks.specs.declared.lists.ListAsk.TheVariants.{Arrivals, InHouse, ChainOf, LeftBehind, AuditOf}
+use Rattle.hotel_core.specs.declared.asks.ListAsk.{ListAsk}
+use Rattle.hotel_core.specs.declared.asks.ListAsk.TheVariants.{Arrivals, InHouse, ChainOf, LeftBehind, AuditOf}
 
 -- The listing of a list over a history.
 abbrev pub listing_over : History → ListAsk → Option Listing

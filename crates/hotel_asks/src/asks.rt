@@ -5,23 +5,15 @@ ghost use Rattle.hotel_asks.specs.{Values.IsReading, Names.names_of, declared.va
 ghost use Rattle.hotel_asks.specs.{declared.values.ValueFault.TheVariants.Number};
 ghost use Rattle.hotel_asks.specs.Asks.{ask_copies, of_none, of_one, of_two, of_four, of_five, of_six, ask_of};
 
-use crate::lists::ListAsk;
 use crate::notes::{read_card_report, report_of};
 use crate::values::{
     AskFault, ValueFault, ValueName, read_code, read_count, read_day, read_guest, read_kind,
     read_lock, read_moment, read_nights, read_party, read_room,
 };
 use crate::verbs::Verb;
-use hotel_core::Command;
+use hotel_core::{Ask, Command, ListAsk};
 use keycard_rules::Act;
 use std::alloc::Global;
-
-/// What is asked of the desk.
-#[derive(Drop)]
-pub enum Ask {
-    Command(Command),
-    List(ListAsk),
-}
 
 /// What a verb without values asks for.
 fn read_none(verb: Verb) -> Result<Ask, AskFault>

@@ -4,14 +4,13 @@
 
 mod asks;
 mod listings;
-mod lists;
 mod notes;
 mod values;
 mod verbs;
 
-pub use asks::{Ask, read_ask};
-pub use listings::write_list;
-pub use lists::ListAsk;
+pub use asks::read_ask;
+pub use hotel_core::{Ask, ListAsk};
+pub use listings::{ListDesk, write_list};
 pub use values::{
     AskFault, Lock, ValueFault, ValueName, read_card, read_code, read_count, read_day, read_guest,
     read_kind, read_lock, read_moment, read_nights, read_party, read_room,

@@ -2,11 +2,12 @@
 
 ghost use Rattle.std.specs.Prelude.{[]};
 ghost use Rattle.hotel_lists.specs.Calls.{CountsWrites, OnErrOf};
-ghost use Rattle.hotel_lists.specs.{Lines.LooksAt, Listings.ListEnds};
+ghost use Rattle.hotel_core.specs.declared.asks.Ask.{Ask};
+ghost use Rattle.hotel_core.specs.declared.asks.Ask.TheVariants as ask;
+ghost use Rattle.hotel_lists.specs.{Lines.LooksAt, Lines.Vouches, Listings.ListEnds};
 ghost use Rattle.hotel_asks.specs.Listings.{listing_on};
 
-use crate::lists::ListAsk;
-use hotel_core::Walks;
+use hotel_core::{Desk, ListAsk, ListBooks, StoppingBooks, Walks};
 use hotel_lists::{
     IoCalls, ListFault, write_arrivals, write_audit_of, write_chain_of, write_in_house,
     write_left_behind,
@@ -33,5 +34,46 @@ pub fn write_list<W: Write, B: Walks>(
         ListAsk::ChainOf(room) => write_chain_of(alloc, books, *room, writer, calls),
         ListAsk::LeftBehind => write_left_behind(alloc, books, writer, calls),
         ListAsk::AuditOf(room) => write_audit_of(alloc, books, *room, writer, calls),
+    }
+}
+
+/// Desks that write the list that they are asked for, by a call of its own (as [`Desk`] carries out a command).
+pub trait ListDesk: Desk {
+    /// Writes the text of a list, as [`write_list`] does.
+    fn write_list<W: Write>(
+        &mut self,
+        alloc: Global,
+        list: &ListAsk,
+        writer: &mut W,
+        calls: &mut IoCalls,
+    ) -> Result<(), ListFault>
+        ensures text { Self.is_honest self.new → ListEnds [] (listing_on (Self.rows self.old) list.now)
+            (W.contents writer.old) (W.contents writer.new) result }
+        ensures books { LooksAt Self.Issued self.old self.new result }
+        ensures asked { Vouches (Self.Issued.has_answered Ask (ask.List list.now) self.old self.new) result }
+        ensures calls { CountsWrites calls.old calls.new (OnErrOf result ListFault.Write) };
+}
+
+impl ListDesk for ListBooks {
+    fn write_list<W: Write>(
+        &mut self,
+        alloc: Global,
+        list: &ListAsk,
+        writer: &mut W,
+        calls: &mut IoCalls,
+    ) -> Result<(), ListFault> {
+        write_list(alloc, list, writer, self, calls)
+    }
+}
+
+impl ListDesk for StoppingBooks {
+    fn write_list<W: Write>(
+        &mut self,
+        alloc: Global,
+        list: &ListAsk,
+        writer: &mut W,
+        calls: &mut IoCalls,
+    ) -> Result<(), ListFault> {
+        write_list(alloc, list, writer, self, calls)
     }
 }

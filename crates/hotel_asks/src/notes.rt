@@ -3,12 +3,11 @@
 ghost use Rattle.std.specs.Prelude.{◌≡◌};
 ghost use Rattle.hotel_asks.specs.Asks.{report_of, link_in, card_act, card_report};
 
-use crate::asks::Ask;
 use crate::values::{
     Lock, ValueFault, ValueName, read_card, read_code, read_count, read_lock, read_moment,
 };
 use crate::verbs::Verb;
-use hotel_core::Command;
+use hotel_core::{Ask, Command};
 use hotel_nights::Moment;
 use keycard_rules::{Act, CardNo, Count, Link};
 

@@ -1,6 +1,6 @@
 -- How an import ends: with all lines answered, with those before one that failed, or before the first.
 use Rattle.std.proofs.Common.{ℕ, Bool, ◌≡◌, ◌≢◌, ◌⊎◌, ◌+◌, ◌∙◌, List, [], ◌∷◌, ◌++◌, Result, Ok, Err, OnOk, take, drop}
-use Rattle.std.proofs.Common.{length, map, true, sym, refl, ap, append_assoc}
+use Rattle.std.proofs.Common.{length, sym, refl, ap, append_assoc}
 use Rattle.std.specs.Prelude.{zip}
 use Rattle.hotel_core.proofs.{Names.Rows, Names.since_refl, OfCode.Calls.calls_before}
 use Rattle.hotel_model.proofs.LeadsOn.{leads_of}
@@ -14,7 +14,8 @@ use Rattle.keycard_rules.specs.declared.issued.LookFault.{LookFault}
 use Rattle.keycard_rules.specs.declared.issued.LookFault.TheVariants as look
 use Rattle.hotel_core.specs.{Books.Happens.HaveCalls, Books.Passes.Passes}
 use Rattle.hotel_audit.specs.Import.{AreAnswered, EndsAfter, Imports, LeavesBehind, LineGoes, LineHappens}
-use Rattle.hotel_audit.specs.Import.{IsFrontOf, LinesLeadOn, NextFails, Vouches, has_taken, replies_in, stopped}
+use Rattle.hotel_audit.specs.Import.{IsFrontOf, LinesLeadOn, NextFails, Vouches, asked_of, has_taken, replies_in}
+use Rattle.hotel_audit.specs.Import.{stopped}
 use Rattle.hotel_audit.proofs.LineAnswers.{lead-none, lead-same}
 
 -- an import that was stopped ended after a front of the file's lines
@@ -42,7 +43,7 @@ module _ {B : Type 0} (I : IssuedOf B) (rows : B → Rows) (old new : B) (honest
   ended : (file : Result (List Line) AuditFault) (outcome : Result (List LineAnswer) ImportFault) (lines : List Line)
       (answers : List LineAnswer) → AreAnswered lines answers → EndsAfter file outcome lines answers
       → (I.is_honest new → LinesLeadOn (I.is_clean old) (rows old) lines answers (I.is_clean new) (rows new))
-      → HaveCalls I old new (map (λ given. true) (replies_in answers))
+      → HaveCalls I old new (asked_of lines)
       → (I.is_honest new → replies_in answers ≢ [] → I.is_clean old)
       → (I.is_honest new → OnOk outcome (replies_in answers ≢ [] → I.is_clean new))
       → OnOk outcome (replies_in answers ≡ [] → I.is_clean old → I.is_clean new)
@@ -73,7 +74,7 @@ module _ {B : Type 0} (I : IssuedOf B) (rows : B → Rows) (old new : B) (honest
       → AreAnswered lines answers → (I.is_clean new → I.is_clean old)
       → (I.is_honest new → LinesLeadOn (I.is_clean old) (rows old) lines answers (I.is_clean new) (rows new))
       → (I.is_honest new → replies_in answers ≢ [] → I.is_clean new)
-      → HaveCalls I old new (map (λ given. true) (replies_in answers))
+      → HaveCalls I old new (asked_of lines)
       → (replies_in answers ≡ [] → I.is_clean old → I.is_clean new)
       → Passes (LineHappens I rows) old (zip lines answers) new → Imports I rows (Ok lines) old new (Ok answers)
   all_answered lines answers each was_clean happened vouched asked unasked through =
@@ -94,7 +95,7 @@ module _ {B : Type 0} (I : IssuedOf B) (rows : B → Rows) (old new : B) (honest
       → (I.is_clean new → rows new ≡ rows mid)
       → (I.is_honest mid → LinesLeadOn (I.is_clean old) (rows old) (take i lines) answers (I.is_clean mid) (rows mid))
       → (I.is_honest mid → replies_in answers ≢ [] → I.is_clean mid)
-      → HaveCalls I old mid (map (λ given. true) (replies_in answers))
+      → HaveCalls I old mid (asked_of (take i lines))
       → Passes (LineHappens I rows) old (zip (take i lines) answers) mid
       → NextFails I rows (Ok lines) (take i lines) mid by new
       → Imports I rows (Ok lines) old new (Err (stopped by (length answers) (has_taken answers)))
@@ -104,7 +105,7 @@ module _ {B : Type 0} (I : IssuedOf B) (rows : B → Rows) (old new : B) (honest
       (drop i lines, ap (λ ls. Ok ls) (sym (take-append-drop i lines)), refl, refl))
       (λ now. lead-same (I.is_clean old) (I.is_clean mid) (I.is_clean new) (rows old) (rows mid) (rows new)
       (take i lines) answers last.was_clean same (happened (last.was_honest now)))
-      (calls_before I old mid new (map (λ given. true) (replies_in answers)) asked last)
+      (calls_before I old mid new (asked_of (take i lines)) asked last)
       (λ now noted. before.was_clean (vouched (last.was_honest now) noted)) (λ now. tt) tt mid through
       (leaves_stopped I rows by (Ok lines) (take i lines) mid new (length answers) (has_taken answers) fails)
 

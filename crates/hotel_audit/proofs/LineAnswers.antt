@@ -1,9 +1,8 @@
 -- The lines of a file, one after the other.
-use Rattle.std.proofs.Common.{◌≡◌, ◌≢◌, ◌∙◌, List, [], ◌∷◌, ◌++◌, refl, ap, arith, length, map, true, Ok}
+use Rattle.std.proofs.Common.{◌≡◌, ◌≢◌, ◌∙◌, List, [], ◌∷◌, ◌++◌, refl, ap, arith, length, map, Ok}
 use Rattle.std.specs.Prelude.{zip}
 use Rattle.hotel_core.proofs.{Names.Stream, Names.Note, Names.Rows, Names.Steps, OfCode.Passes.passes_push}
 use Rattle.hotel_core.proofs.{OfCode.Happens.zip-push, OfCode.Calls.calls_join}
-use Rattle.hotel_core.proofs.{Names.Since, Names.WasAsked, Names.since_refl}
 use Rattle.hotel_core.specs.{Books.Happens.HaveCalls, Books.Passes.Passes}
 use Rattle.keycard_rules.specs.declared.issued.Issued.{Ghosts as IssuedOf}
 use Rattle.std.proofs.lemmas.List.{map-append}
@@ -14,7 +13,8 @@ use Rattle.hotel_model.specs.declared.reply.Reply.TheVariants as reply
 use Rattle.hotel_audit.specs.{declared.answer.LineAnswer.LineAnswer, declared.line.Cause.Cause, declared.line.Line.Line}
 use Rattle.hotel_audit.specs.declared.answer.LineAnswer.TheVariants as answer
 use Rattle.hotel_audit.specs.declared.line.Line.TheVariants as line
-use Rattle.hotel_audit.specs.Import.{AreAnswered, LinesLeadOn, answer_of, commands_of, replies_in}
+use Rattle.hotel_audit.specs.Import.{AreAnswered, LinesLeadOn, answer_of, asked_of, command_asked, commands_of}
+use Rattle.hotel_audit.specs.Import.{replies_in}
 use Rattle.hotel_audit.proofs.NoteReplies.{answered_reply}
 
 commands_of-append : (lines more : List Line) → commands_of (lines ++ more) ≡ commands_of lines ++ commands_of more
@@ -92,24 +92,13 @@ vouched_next answers answer.Taken before now first same last some = last (λ non
 vouched_next answers answer.Seen before now first same last some = last (λ none. cc none)
 vouched_next answers (answer.Refused why) before now first same last some = last (λ none. cc none)
 
--- an answer has a call of its own where it is to a note
-calls_once : {B : Type 0} {I : IssuedOf B} {old new : B} (a : LineAnswer)
-    → (replies_in (a ∷ []) ≢ [] → WasAsked I old new)
-    → Since I.is_clean I.is_honest I.failures old new → HaveCalls I old new (map (λ given. true) (replies_in (a ∷ [])))
-calls_once (answer.Unread cause) asked since = since
-calls_once {new = new} answer.Taken asked since = (new, asked (λ none. cc none), since_refl)
-calls_once {new = new} answer.Seen asked since = (new, asked (λ none. cc none), since_refl)
-calls_once {new = new} (answer.Refused why) asked since = (new, asked (λ none. cc none), since_refl)
-
--- so has one more
-pub calls_next : {B : Type 0} {I : IssuedOf B} (old : B) {mid new : B} (answers : List LineAnswer) (a : LineAnswer)
-    → HaveCalls I old mid (map (λ given. true) (replies_in answers)) → (replies_in (a ∷ []) ≢ [] → WasAsked I mid new)
-    → Since I.is_clean I.is_honest I.failures mid new
-    → HaveCalls I old new (map (λ given. true) (replies_in (answers ++ a ∷ [])))
-calls_next {I = I} old {mid = mid} {new = new} answers a before asked since =
-    rw (replies_in-append answers (a ∷ []), map-append (λ given. true) (replies_in answers) (replies_in (a ∷ [])))
-    (calls_join I old mid new (map (λ given. true) (replies_in answers)) (map (λ given. true) (replies_in (a ∷ [])))
-    before (calls_once a asked since))
+-- one more line's note, if it has one, has a call of its own
+pub calls_next : {B : Type 0} (I : IssuedOf B) (old mid new : B) (lines : List Line) (l : Line)
+    → HaveCalls I old mid (asked_of lines) → HaveCalls I mid new (asked_of (l ∷ []))
+    → HaveCalls I old new (asked_of (lines ++ l ∷ []))
+calls_next I old mid new lines l before last =
+    rw (commands_of-append lines (l ∷ []), map-append command_asked (commands_of lines) (commands_of (l ∷ [])))
+    (calls_join I old mid new (asked_of lines) (asked_of (l ∷ [])) before last)
 
 -- answers of which none is to a note
 pub unasked_both : (answers : List LineAnswer) (a : LineAnswer)

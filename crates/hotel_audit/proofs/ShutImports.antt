@@ -8,6 +8,8 @@ use Rattle.keycard_rules.specs.{Since.Since, declared.issued.Issued.Ghosts as Is
 use Rattle.keycard_rules.proofs.Sinces.{since_refl}
 use Rattle.hotel_audit.specs.{declared.answer.LineAnswer.LineAnswer, declared.line.Line.Line}
 use Rattle.hotel_audit.specs.declared.line.Line.TheVariants as line
+use Rattle.hotel_core.specs.declared.asks.Ask.TheVariants as ask
+use Rattle.hotel_model.specs.declared.command.Command.TheVariants as command
 use Rattle.hotel_audit.specs.{Import.LineGoes, Import.LineHappens, Shut.ImportsNothing, Shut.IsUnread}
 use Rattle.hotel_audit.proofs.NoteReplies.{answered_sure}
 
@@ -20,7 +22,8 @@ unread_by : {B : Type 0} (I : IssuedOf B) (rows : B → Rows) (old new : B) (l :
 unread_by I rows old new (line.Unread cause) a went shut = tt
 unread_by I rows old new (line.Note note) a went shut =
     let s = happens_shut (went.2 no_words) shut in
-    absurd (false≢true (sym (answered_sure went.0 a went.1) ∙ reply_fails (is_failed went.0) (tells_shut s.2.1 shut)))
+    let fails = reply_fails (is_failed went.0) (ask.Command (command.Reported note)) (tells_shut s.2.1 shut) in
+    absurd (false≢true (sym (answered_sure went.0 a went.1) ∙ fails))
 
 since_line : {B : Type 0} (I : IssuedOf B) (rows : B → Rows) (old new : B) (l : Line) (a : LineAnswer)
     → LineGoes I rows old l (Ok a) new → Since I.is_clean I.is_honest I.failures old new

@@ -1,6 +1,6 @@
 -- The import of an audit file: its notes are reported in order, and its unread lines do nothing.
 use Rattle.std.specs.Prelude.{ℕ, ◌≡◌, ◌≢◌, ◌⊎◌, Bool, true, false, List, [], ◌∷◌, ◌++◌, length, map, zip}
-use Rattle.std.specs.Prelude.{if◌then◌else◌}
+use Rattle.std.specs.Prelude.{if◌then◌else◌, Option, Some}
 use Rattle.std.specs.Prelude.{Result, Ok, Err, OnOk}
 use Rattle.rand_core.specs.Stream.{Stream}
 use Rattle.keycard_rules.specs.{declared.issued.LookFault.LookFault, declared.issued.Issued.Ghosts as IssuedOf}
@@ -13,6 +13,8 @@ use Rattle.hotel_model.specs.declared.reply.Refusal.TheVariants as refusal
 use Rattle.hotel_model.specs.Run.{Runs, is_failed}
 use Rattle.hotel_core.specs.Books.Failures.{refusal_of}
 use Rattle.hotel_core.specs.Books.Happens.{Happens, HaveCalls, StepTold}
+use Rattle.hotel_core.specs.declared.asks.Ask.{Ask}
+use Rattle.hotel_core.specs.declared.asks.Ask.TheVariants as ask
 use Rattle.hotel_core.specs.Books.Passes.{Passes}
 use Rattle.hotel_audit.specs.{declared.answer.LineAnswer.LineAnswer, declared.audit_file.AuditFault.AuditFault}
 use Rattle.hotel_audit.specs.{declared.imports.ImportFault.ImportFault}
@@ -27,6 +29,14 @@ abbrev pub commands_of : List Line → List Command
 commands_of [] = []
 commands_of (line.Note note ∷ lines) = command.Reported note ∷ commands_of lines
 commands_of (line.Unread cause ∷ lines) = commands_of lines
+
+-- the books answered this command
+abbrev pub command_asked : Command → Option Ask
+command_asked command = Some (ask.Command command)
+
+-- what the books answered of these lines: their notes
+abbrev pub asked_of : List Line → List (Option Ask)
+asked_of lines = map command_asked (commands_of lines)
 
 -- the reply to a line's note, or why the line is none
 abbrev pub reply_or_cause : LineAnswer → Result Reply Cause
@@ -112,7 +122,7 @@ EndsAfter file (Err (Store answered taken)) lines answers = IsFrontOf file lines
 pub record Vouches {B : Type 0} (I : IssuedOf B) (rows : B → Rows) (lines : List Line) (answers : List LineAnswer)
     (old new : B) (outcome : Result (List LineAnswer) ImportFault) : Type 0 where
   pub happened : LinesLeadOn (I.is_clean old) (rows old) lines answers (I.is_clean new) (rows new)
-  pub asked : HaveCalls I old new (map (λ reply. true) (replies_in answers))
+  pub asked : HaveCalls I old new (asked_of lines)
   pub was_clean : replies_in answers ≢ [] → I.is_clean old
   pub is_clean : OnOk outcome (replies_in answers ≢ [] → I.is_clean new)
   pub unasked : OnOk outcome (replies_in answers ≡ [] → I.is_clean old → I.is_clean new)

@@ -1,16 +1,18 @@
-//! The import of an audit file into any books.
+//! The import of an audit file into any books that take notes.
 ghost use Rattle.std.specs.Prelude.{◌≡◌, ◌≢◌, ◌<◌, [], ◌∷◌, length, IfOk, IfErr, OnErr, Ok, Err};
-ghost use Rattle.keycard_rules.specs.{Since.Since, Asked.WasAsked};
+ghost use Rattle.keycard_rules.specs.Since.{Since};
+ghost use Rattle.hotel_core.specs.Books.Happens.{HaveCalls};
 ghost use Rattle.hotel_core.specs.{Books.Failures.AreCounted, Books.Failures.refusal_of};
 ghost use Rattle.hotel_audit.specs.{declared.audit_file.AuditFault.AuditFault, AuditFile.audit_lines};
 ghost use Rattle.hotel_audit.specs.declared.audit_file.TheConstants.{AUDIT_BYTES};
 ghost use Rattle.hotel_audit.specs.Import.{Imports, IsAnswerTo, LineGoes, LinesLeadOn};
-ghost use Rattle.hotel_audit.specs.Import.{answer_of, failures_of, has_taken, outcome_of, replies_in, stopped};
+ghost use Rattle.hotel_audit.specs.Import.{answer_of, asked_of, failures_of, has_taken, outcome_of, replies_in};
+ghost use Rattle.hotel_audit.specs.Import.{stopped};
 
 use crate::answer::{LineAnswer, has_taken};
 use crate::audit_file::{AuditFault, read_notes};
 use crate::line::Line;
-use hotel_core::{Books, Refusal, Reply, report};
+use hotel_core::{Desk, Refusal, Reply};
 use keycard_rules::LookFault;
 use std::alloc::Global;
 
@@ -42,7 +44,7 @@ const fn answer_of(reply: &Reply) -> Result<LineAnswer, LookFault>
 }
 
 /// Carries out one line.
-fn answer_line<B: Books>(books: &mut B, line: &Line) -> Result<LineAnswer, LookFault>
+fn answer_line<B: Desk>(books: &mut B, line: &Line) -> Result<LineAnswer, LookFault>
     ensures answer { IfOk result (λ answer. IsAnswerTo line.now answer) }
     ensures went { LineGoes B.Issued B.rows books.old line.now result books.new }
     ensures happened { IfOk result (λ answer. B.is_honest books.new →
@@ -50,8 +52,7 @@ fn answer_line<B: Books>(books: &mut B, line: &Line) -> Result<LineAnswer, LookF
         (B.rows books.new)) }
     ensures vouched { IfOk result (λ answer. B.is_honest books.new → replies_in (answer ∷ []) ≢ []
         → B.is_clean books.new) }
-    ensures asked { IfOk result (λ answer. replies_in (answer ∷ []) ≢ []
-        → WasAsked B.Issued books.old books.new) }
+    ensures asked { IfOk result (λ answer. HaveCalls B.Issued books.old books.new (asked_of (line.now ∷ []))) }
     ensures unasked { IfOk result (λ answer. replies_in (answer ∷ []) ≡ [] → books.new ≡ books.old) }
     ensures unchanged { OnErr result (B.is_clean books.new → B.rows books.new ≡ B.rows books.old) }
     ensures failed { IfErr result (λ why. B.is_clean books.new
@@ -60,7 +61,7 @@ fn answer_line<B: Books>(books: &mut B, line: &Line) -> Result<LineAnswer, LookF
 {
     match line {
         Line::Unread(cause) => Ok(LineAnswer::Unread(*cause)),
-        Line::Note(note) => answer_of(&report(books, note)),
+        Line::Note(note) => answer_of(&books.report(note)),
     }
 }
 
@@ -76,7 +77,7 @@ fn stopped(answers: &[LineAnswer], by: LookFault) -> ImportFault
 }
 
 /// Carries out lines in order. The memory for all answers is taken before the first line.
-fn import_lines<B: Books>(
+fn import_lines<B: Desk>(
     alloc: Global,
     books: &mut B,
     lines: &[Line],
@@ -106,7 +107,7 @@ fn import_lines<B: Books>(
 ///
 /// The file is read whole and the memory for all answers is taken first. The answers are those to the lines, in order:
 /// the reply to the line's note, or Unread with its cause. Unread and refused lines don't stop the import.
-pub fn import<B: Books>(
+pub fn import<B: Desk>(
     alloc: Global,
     books: &mut B,
     bytes: &[u8],

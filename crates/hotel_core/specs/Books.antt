@@ -4,4 +4,5 @@ pub mod Failures
 pub mod Passes
 pub mod Walks
 pub mod Happens
+pub mod Stepped
 pub mod Shut

@@ -1,4 +1,4 @@
-//! Commands one after the other, over any books.
+//! Commands one after the other, over any desk.
 ghost use Rattle.std.specs.Prelude.{◌≡◌, true, IfOk, IfErr, length, zip};
 ghost use Rattle.keycard_rules.specs.{Since.Since};
 ghost use Rattle.hotel_core.specs.Books.Happens.{CommandHappens};
@@ -6,8 +6,7 @@ ghost use Rattle.hotel_core.specs.Books.Passes.{Passes};
 ghost use Rattle.hotel_core.specs.{Books.Failures.AreCounted, Books.Failures.failures_in};
 ghost use Rattle.hotel_model.specs.{Leads.Leads, Leads.LeadsOn, Run.Runs, Run.any_answered, Run.last_answered};
 
-use crate::books::Books;
-use crate::steps::step;
+use crate::desk::Desk;
 use hotel_model::{Command, Reply};
 use rand_core::Rng;
 use std::alloc::Global;
@@ -19,7 +18,7 @@ pub struct RunFault {
 }
 
 /// Carries out commands in order. The memory for all replies is taken before the first command.
-pub fn run<B: Books, R: Rng>(
+pub fn run<B: Desk, R: Rng>(
     alloc: Global,
     books: &mut B,
     source: &mut R,
@@ -48,7 +47,7 @@ pub fn run<B: Books, R: Rng>(
         return Err(RunFault { answered: 0 });
     };
     for command in commands {
-        let reply = step(books, source, command);
+        let reply = books.step(source, command);
         let Ok(()) = replies.push(reply) else {
             unreachable!()
         };

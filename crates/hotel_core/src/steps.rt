@@ -1,13 +1,10 @@
 //! One command, over any books.
 ghost use Rattle.std.specs.Prelude.{◌≡◌, true, false};
-ghost use Rattle.rand_core.specs.Stream.{Stream};
-ghost use Rattle.keycard_rules.specs.{Since.Since, Asked.WasAsked};
-ghost use Rattle.hotel_core.specs.{Books.Failures.AreCounted, Books.Failures.failure_in};
-ghost use Rattle.hotel_model.specs.{Leads.Leads, Leads.LeadsOn, NoteReplies.IsNoteReply, Run.Steps, Run.is_failed};
-ghost use Rattle.hotel_model.specs.{Ranges.IsCommand, Ranges.IsReply};
+ghost use Rattle.keycard_rules.specs.{Asked.WasCalled};
+ghost use Rattle.hotel_core.specs.Books.Stepped.{Noted, Stepped};
+ghost use Rattle.hotel_model.specs.{Ranges.IsCommand, Run.is_failed};
 ghost use Rattle.hotel_core.specs.{Refinement.Finds.reply_of, Refinement.StepOnRows.CarriesOut};
 ghost use Rattle.hotel_model.specs.Refinement.Fits.{takes_none};
-ghost use Rattle.hotel_model.specs.declared.command.Command.TheVariants as command;
 
 use crate::books::Books;
 use crate::commands::bookings::{cancel, reserve};
@@ -67,18 +64,9 @@ fn carry_out<B: Books, R: Rng>(
 ///
 /// `Memory` and `Store` may stand in place of any answer; the books count these failures.
 pub fn step<B: Books, R: Rng>(books: &mut B, source: &mut R, command: &Command) -> Reply
-    ensures step { B.is_clean books.new → Leads (B.rows books.old)
-        (λ h h'. Steps h (R.stream source.old) command.now result h' (R.stream source.new)) (B.rows books.new) }
-    ensures failed { B.is_clean books.new →
-        AreCounted (B.failures books.old) (B.failures books.new) (failure_in result) }
-    ensures happened { B.is_honest books.new → LeadsOn (B.is_clean books.old) (B.rows books.old)
-        (λ h h'. Steps h (R.stream source.old) command.now result h' (R.stream source.new)) (B.is_clean books.new)
-        (B.rows books.new) }
-    ensures vouched { B.is_honest books.new → is_failed result ≡ false → B.is_clean books.new }
-    ensures asked { is_failed result ≡ false → WasAsked B.Issued books.old books.new }
-    ensures since { Since B.is_clean B.is_honest B.failures books.old books.new }
-    ensures range { IsReply result }
-    ensures sure { B.never_fails → takes_none command.now ≡ true → is_failed result ≡ false }
+    ensures steps { Stepped B.Issued B.rows command.now books.old books.new (R.stream source.old)
+        (R.stream source.new) result }
+    ensures asked { is_failed result ≡ false → WasCalled B.Issued books.old books.new }
 {
     known_command(command);
     books.known_sound();
@@ -90,18 +78,8 @@ pub fn step<B: Books, R: Rng>(books: &mut B, source: &mut R, command: &Command) 
 
 /// Takes a note of a lock: `step` of [`Command::Reported`], which draws nothing.
 pub fn report<B: Books>(books: &mut B, note: &LockNote) -> Reply
-    ensures step { B.is_clean books.new → (source : Stream) → Leads (B.rows books.old)
-        (λ h h'. Steps h source (command.Reported note.now) result h' source) (B.rows books.new) }
-    ensures note { B.is_clean books.new → IsNoteReply result }
-    ensures unchanged { B.is_clean books.new → is_failed result ≡ true → B.rows books.new ≡ B.rows books.old }
-    ensures failed { B.is_clean books.new →
-        AreCounted (B.failures books.old) (B.failures books.new) (failure_in result) }
-    ensures happened { B.is_honest books.new → (source : Stream) → LeadsOn (B.is_clean books.old) (B.rows books.old)
-        (λ h h'. Steps h source (command.Reported note.now) result h' source) (B.is_clean books.new)
-        (B.rows books.new) }
-    ensures vouched { B.is_honest books.new → is_failed result ≡ false → B.is_clean books.new }
-    ensures asked { is_failed result ≡ false → WasAsked B.Issued books.old books.new }
-    ensures since { Since B.is_clean B.is_honest B.failures books.old books.new }
+    ensures noted { Noted B.Issued B.rows note.now books.old books.new result }
+    ensures asked { is_failed result ≡ false → WasCalled B.Issued books.old books.new }
 {
     known_note(note);
     books.known_sound();

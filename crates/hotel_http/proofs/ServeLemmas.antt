@@ -1,35 +1,35 @@
 -- What comes of a request, as it is answered.
-use Rattle.std.proofs.Common.{◌≡◌, ◌≢◌, ◌∙◌, ℕ, List, [], ◌∷◌, ◌++◌, map, refl, sym, ap, subst, inl, inr, append-nil}
+use Rattle.std.proofs.Common.{◌≡◌, ◌≢◌, ◌∙◌, ℕ, List, [], ◌∷◌, ◌++◌, length, map, refl, sym, ap, subst, inl, inr, arith}
+use Rattle.std.proofs.Common.{append-nil}
 use Rattle.std.proofs.Common.{Option, Some, None, Result, Ok, Err, Bool, true, false, not, OnOk, OnErr}
-use Rattle.std.specs.Prelude.{zip}
 use Rattle.hotel_core.proofs.{Names.false≢true, Names.Stream, Names.AreCounted, Names.failure_in, Names.is_failed}
-use Rattle.hotel_core.proofs.{Names.History, Names.Note, Names.Rows, Names.since_refl, Names.since_then}
-use Rattle.hotel_core.proofs.{Names.WasAsked, Names.asked_before, Names.asked_then}
+use Rattle.hotel_core.proofs.{Names.History, Names.Rows, Names.since_refl}
+use Rattle.hotel_core.proofs.{Names.asked_now, OfCode.Calls.calls_join}
+use Rattle.hotel_core.proofs.OfCode.Happens.{answer_in, known_on}
 use Rattle.hotel_model.proofs.Invariants.Assurance.{assured}
 use Rattle.hotel_core.proofs.OfCode.Happens.{happens_as, happens_idle, happens_so, tells_once}
 use Rattle.std.specs.Result.{IsErrAnd}
 use Rattle.std.specs.Io.KnownBytes.{Appends}
 use Rattle.std.proofs.KnownBytes.{Appends-trans}
 use Rattle.keycard_rules.specs.{Since.Since, declared.issued.Issued.Ghosts as IssuedOf}
-use Rattle.keycard_rules.specs.{declared.issued.LookFault.LookFault}
 use Rattle.hotel_model.specs.{declared.command.Command.Command, declared.reply.Reply.Reply}
 use Rattle.hotel_model.specs.{declared.reply.Refusal.Refusal}
 use Rattle.hotel_core.specs.{Books.Happens.Happens, Books.Happens.HaveCalls, Books.Happens.StepTold}
-use Rattle.hotel_core.specs.{Books.Happens.Tells, Books.Passes.Passes}
-use Rattle.hotel_model.specs.{Run.Reached, RowsOf.rows_of}
+use Rattle.hotel_core.specs.Books.Happens.{Tells, Told, asked_if, has_answer, known_after}
 use Rattle.hotel_model.specs.declared.reply.Reply.TheVariants as reply
 use Rattle.hotel_model.specs.declared.reply.Refusal.TheVariants as refusal
 use Rattle.hotel_lists.specs.{Bytes.AppendsFront, declared.calls.WriteFailed.WriteFailed}
 use Rattle.hotel_lists.proofs.BytesLemmas.{front_next}
-use Rattle.hotel_asks.specs.declared.asks.Ask.TheVariants as ask
+use Rattle.hotel_core.specs.declared.asks.Ask.{Ask}
+use Rattle.hotel_core.specs.declared.asks.Ask.TheVariants as ask
 use Rattle.hotel_lists.specs.{Listings.Listing, Lines.Vouches, declared.fault.ListFault.ListFault}
 use Rattle.hotel_lists.specs.declared.fault.ListFault.TheVariants as fault
-use Rattle.hotel_asks.specs.{declared.lists.ListAsk.ListAsk, Listings.listing_on, Listings.listing_over}
+use Rattle.hotel_core.specs.declared.asks.ListAsk.{ListAsk}
+use Rattle.hotel_asks.specs.{Listings.listing_on, Listings.listing_over}
 use Rattle.hotel_asks.proofs.ListingLemmas.{listing_stands}
 use Rattle.hotel_audit.specs.{AuditFile.audit_lines, Import.EndsAfter, Import.Imports, Import.Vouches as FileVouches}
-use Rattle.hotel_audit.specs.{Import.has_taken, Import.replies_in, declared.answer.LineAnswer.LineAnswer}
-use Rattle.hotel_audit.specs.{Import.AreAnswered, Import.LeavesBehind, Import.LineGoes, Import.LineHappens}
-use Rattle.hotel_audit.specs.{Import.answer_of}
+use Rattle.hotel_audit.specs.{Import.replies_in, declared.answer.LineAnswer.LineAnswer}
+use Rattle.hotel_audit.specs.{Import.AreAnswered, Import.asked_of, Import.command_asked, Import.commands_of}
 use Rattle.hotel_audit.specs.declared.line.Line.TheVariants as line
 use Rattle.hotel_audit.specs.{declared.audit_file.AuditFault.AuditFault}
 use Rattle.hotel_audit.specs.{declared.imports.ImportFault.ImportFault, declared.line.Line.Line}
@@ -41,12 +41,12 @@ use Rattle.hotel_http.specs.{declared.status.Status.TheVariants.Success, declare
 use Rattle.hotel_http.specs.{declared.serve.ServeFault.ServeFault}
 use Rattle.hotel_http.specs.{declared.serve.ServeFault.TheVariants.Write, Answer.list_answer, Body.interim_where}
 use Rattle.hotel_http.specs.{Request.EndsRequest}
-use Rattle.hotel_http.specs.Serve.{Outcome, outcome, rejected, replied, imported, import_failures, stopped_behind}
+use Rattle.hotel_http.specs.Serve.{Outcome, outcome, rejected, replied, imported, import_failures}
 use Rattle.hotel_http.specs.Serve.{ListComes, AskComes, FileComes, TaskComes, Comes, EndsAs, Answered, ended}
 use Rattle.hotel_http.specs.Serve.{IsListText, is_answered, list_failures, list_refusal, WasAnswered}
 
 -- an answer that was written or not
-pub ends_as : (text : List ℕ) (status : Status) (acted : Bool) (answered : List Bool)
+pub ends_as : (text : List ℕ) (status : Status) (acted : Bool) (answered : List (Option Ask))
     (written : Result (Unit {0}) WriteFailed) (old new : Option (List ℕ)) (end : Result Served Cut)
     → end ≡ ended written status acted → OnOk written (Appends old new text) → OnErr written (AppendsFront old new text)
     → EndsAs (outcome text status acted answered) [] old new end
@@ -58,34 +58,38 @@ ends_as text status acted answered (Err failed) old new end e ok err =
 -- where more is told, it was answered so too
 answered_weaker : (came : History → Stream → Outcome → List Refusal → History → Stream → Type 0) (s t : Stream)
     (before : List ℕ) (old new : Option (List ℕ)) (end : Result Served Cut)
-    (told told' : List Refusal → List Bool → Type 0) (h h' : History)
-    → ((failed : List Refusal) (answered : List Bool) → told failed answered → told' failed answered)
+    (told told' : Told) (h h' : History)
+    → ((failed : List Refusal) (answered : List (Option Ask)) → told failed answered → told' failed answered)
     → Answered came s t before old new end told h h' → Answered came s t before old new end told' h h'
 answered_weaker came s t before old new end told told' h h' more a = (a.0, a.1, a.2, a.3, more a.1 a.0.answered a.4)
 
 -- a command is carried out
 pub command_came : {S : Type 0} {I : IssuedOf S} {rows : S → Rows} {a b : S} (s t : Stream) (command : Command)
     (given : Reply) (old new : Option (List ℕ)) (end : Result Served Cut)
-    → Happens I rows a (StepTold s command given t) b → EndsAs (replied given) [] old new end
+    → Happens I rows a (StepTold s command given t) b → EndsAs (replied (ask.Command command) given) [] old new end
     → Happens I rows a (Answered (AskComes (ask.Command command)) s t [] old new end) b
 command_came s t command given old new end step ends =
-    happens_as (λ told h h' went. (replied given, failure_in given, (given, went.0, refl, refl), ends, went.1)) step
+    happens_as (λ told h h' went.
+    (replied (ask.Command command) given, failure_in given, (given, went.0, refl, refl), ends, went.1)) step
 
 -- a list is answered, and nothing changes
 pub list_came : {S : Type 0} {I : IssuedOf S} {rows : S → Rows} {a b : S} (its_list : ListAsk) (out : Outcome)
     (answers : Bool) (failed : List Refusal) (old new : Option (List ℕ)) (end : Result Served Cut)
     → ((x : S) → I.is_clean x → I.is_honest x) → Since I.is_clean I.is_honest I.failures a b
     → (I.is_clean b → rows b ≡ rows a) → (I.is_honest b → answers ≡ true → I.is_clean b)
-    → (answers ≡ true → WasAsked I a b) → out.answered ≡ answers ∷ []
+    → (answers ≡ true → I.has_answered Ask (ask.List its_list) a b)
+    → out.answered ≡ asked_if answers (ask.List its_list) ∷ []
     → ((listing : Option Listing) → (I.is_clean b → listing ≡ listing_on (rows a) its_list) → I.is_honest b
-    → ListComes listing out failed) → EndsAs out [] old new end → AreCounted (I.failures a) (I.failures b) failed
+    → ListComes its_list listing out failed) → EndsAs out [] old new end
+    → AreCounted (I.failures a) (I.failures b) failed
     → (s : Stream) → Happens I rows a (Answered (AskComes (ask.List its_list)) s s [] old new end) b
 list_came {I = I} {rows = rows} {a = a} {b = b} its_list out answers failed old new end honest_is since same vouched
     asked said comes ends are_counted s =
     happens_so (answered_weaker (AskComes (ask.List its_list)) s s [] old new end) honest_is since
     (λ honest h reached stands.
-    let told = subst (λ (l : List Bool). Tells I a b failed l) (sym said)
-    (tells_once answers (λ clean. are_counted) (vouched honest) asked since) in
+    let told = subst (λ (l : List (Option Ask)). Tells I a b failed l) (sym said)
+    (tells_once answers (ask.List its_list) (λ clean. are_counted) (vouched honest)
+    (λ k. asked_now since (asked k)) since) in
     let its = comes (listing_over h its_list)
     (λ clean. sym (listing_stands h (rows a) its_list (reached, stands (since.was_clean clean)))) honest in (
       h,
@@ -96,135 +100,82 @@ list_came {I = I} {rows = rows} {a = a} {b = b} its_list out answers failed old 
     ))
 
 -- the text of a list that was made
-pub list_there : (listing : Option Listing) (text : List ℕ)
-    → IsListText listing (Ok text) → ListComes listing (outcome (list_answer text) Success false (true ∷ [])) []
-list_there (Some listing) text is =
-    inl (ap (λ (t : List ℕ). outcome (list_answer t) Success false (true ∷ [])) is, refl)
-list_there None text is = absurd is
+pub list_there : (its_list : ListAsk) (listing : Option Listing) (text : List ℕ) → IsListText listing (Ok text)
+    → ListComes its_list listing (outcome (list_answer text) Success false (Some (ask.List its_list) ∷ [])) []
+list_there its_list (Some listing) text is =
+    inl (ap (λ (t : List ℕ). outcome (list_answer t) Success false (Some (ask.List its_list) ∷ [])) is, refl)
+list_there its_list None text is = absurd is
 
--- answers to notes vouch
-noted : {S : Type 0} {I : IssuedOf S} {a b : S} (replies : List Reply)
-    → (replies ≢ [] → I.is_clean a) → (replies ≢ [] → I.is_clean b) → (replies ≡ [] → I.is_clean a → I.is_clean b)
-    → (I.is_clean b → AreCounted (I.failures a) (I.failures b) []) → HaveCalls I a b (map (λ reply. true) replies)
-    → Tells I a b [] (map (λ reply. true) replies)
-noted [] before after same counted calls = record {
-  counted = counted;
-  asked = calls;
-  began = λ k. absurd (false≢true k);
-  ends = λ was. same refl was;
-}
-noted {I = I} {a = a} {b = b} (reply ∷ replies) before after same counted calls = record {
-  counted = counted;
-  asked = calls;
-  began = λ k. before (λ e. cc e);
-  ends = λ k. after (λ e. cc e);
-}
+-- there are as many replies as notes
+pub as_many_replies : (lines : List Line) (answers : List LineAnswer)
+    → AreAnswered lines answers → length (replies_in answers) ≡ length (commands_of lines)
+as_many_replies [] [] each = refl
+as_many_replies (line.Unread cause ∷ lines) (given ∷ answers) each = rw each.0 (as_many_replies lines answers each.1)
+as_many_replies (line.Note note ∷ lines) (answer.Taken ∷ answers) each =
+    omega (arith, as_many_replies lines answers each.1)
+as_many_replies (line.Note note ∷ lines) (answer.Seen ∷ answers) each =
+    omega (arith, as_many_replies lines answers each.1)
+as_many_replies (line.Note note ∷ lines) (answer.Refused why ∷ answers) each =
+    omega (arith, as_many_replies lines answers each.1)
+as_many_replies (line.Note note ∷ lines) (answer.Unread cause ∷ answers) each = absurd each.0
+as_many_replies [] (given ∷ answers) each = absurd each
+as_many_replies (asks ∷ lines) [] each = absurd each
 
--- a reply to a note that has an answer is no failure
-answered_sure : (given : Reply) (its_answer : LineAnswer) → Ok its_answer ≡ answer_of given → is_failed given ≡ false
-answered_sure (reply.Refused why) its_answer e = by (is_failed (reply.Refused why)) refl
-  where
-    by : (b : Bool) → is_failed (reply.Refused why) ≡ b → is_failed (reply.Refused why) ≡ false
-    by true q = let f = rw q at e in cc f
-    by false q = q
-answered_sure _ its_answer e = refl
+-- where one of these commands was answered, there is a reply
+some_reply : (commands : List Command) (replies : List Reply) → length replies ≡ length commands
+    → has_answer (map command_asked commands) ≡ true → replies ≢ []
+some_reply [] replies n k = absurd (false≢true k)
+some_reply (command ∷ commands) [] n k = absurd (omega (arith, n))
+some_reply (command ∷ commands) (reply ∷ replies) n k = λ e. cc e
 
-module _ {S : Type 0} (I : IssuedOf S) (rows : S → Rows) (s : Stream) where
-  -- what is left over no line and over one
-  same_since : {a b : S} → b ≡ a → Since I.is_clean I.is_honest I.failures a b
-  same_since {a} {b} e = subst (Since I.is_clean I.is_honest I.failures a) (sym e) since_refl
-
-  line_since : {a b : S} (asks : Line) (came : Result LineAnswer LookFault)
-      → LineGoes I rows a asks came b → Since I.is_clean I.is_honest I.failures a b
-  line_since (line.Unread cause) came goes = same_since goes.1
-  line_since (line.Note note) came goes = (goes.2 s).since
-
-  -- over several, and over what came behind them
-  lines_since : (a b : S) (items : List (Line × LineAnswer))
-      → Passes (LineHappens I rows) a items b → Since I.is_clean I.is_honest I.failures a b
-  lines_since a b [] p = same_since p
-  lines_since a b (item ∷ later) p = since_then (line_since item.0 (Ok item.1) p.1) (lines_since p.0 b later p.2)
-
-  leaves_since : {a b : S} (file : Result (List Line) AuditFault) (lines : List Line)
-      (end : Result (List LineAnswer) ImportFault)
-      → LeavesBehind I rows file lines a end b → Since I.is_clean I.is_honest I.failures a b
-  leaves_since file lines (Ok given) leaves = same_since leaves
-  leaves_since file lines (Err (import.File why)) leaves = same_since leaves
-  leaves_since file lines (Err (import.Memory answered taken)) leaves = line_since leaves.0 _ leaves.3
-  leaves_since file lines (Err (import.Store answered taken)) leaves = line_since leaves.0 _ leaves.3
-
-  -- a note that has an answer has its call
-  note_asked : {a b : S} (note : Note) (given : LineAnswer) (h : History)
-      → Reached h → (I.is_clean a → rows a ≡ rows_of h) → I.is_honest b
-      → LineGoes I rows a (line.Note note) (Ok given) b → WasAsked I a b
-  note_asked {a} {b} note given h reached stands honest goes =
-      let told = ((goes.2 s).happened honest h reached stands).3.1 in
-      let calls = subst (λ (failed : Bool). HaveCalls I a b (not failed ∷ [])) (answered_sure goes.0 given goes.1)
-      told.asked in
-      asked_before calls.1 calls.2
-
-  -- lines of which one is a note that has an answer have a call
-  lines_asked : (a b : S) (lines : List Line) (answers : List LineAnswer) (h : History)
-      → Reached h → (I.is_clean a → rows a ≡ rows_of h) → I.is_honest b → AreAnswered lines answers
-      → Passes (LineHappens I rows) a (zip lines answers) b → replies_in answers ≢ [] → WasAsked I a b
-  lines_asked a b [] [] h reached stands honest each p some = absurd (some refl)
-  lines_asked a b (line.Unread cause ∷ lines) (given ∷ answers) h reached stands honest each p some =
-      let later : replies_in answers ≢ [] = λ none. some (rw each.0 none) in
-      let mid = subst (λ (x : S). I.is_clean x → rows x ≡ rows_of h) (sym p.1.1) stands in
-      asked_then (same_since p.1.1) (lines_asked p.0 b lines answers h reached mid honest each.1 p.2 later)
-  lines_asked a b (line.Note note ∷ lines) (given ∷ answers) h reached stands honest each p some =
-      let after = lines_since p.0 b (zip lines answers) p.2 in
-      asked_before (note_asked note given h reached stands (after.was_honest honest) p.1) after
-  lines_asked a b [] (given ∷ answers) h reached stands honest each p some = absurd each
-  lines_asked a b (asks ∷ lines) [] h reached stands honest each p some = absurd each
-
--- an answer that is Taken is one to a note
-taken_is_reply : (answers : List LineAnswer) → has_taken answers ≡ true → replies_in answers ≢ []
-taken_is_reply [] k = absurd (false≢true k)
-taken_is_reply (answer.Taken ∷ answers) k = λ e. cc e
-taken_is_reply (answer.Seen ∷ answers) k = λ e. cc e
-taken_is_reply (answer.Unread cause ∷ answers) k = taken_is_reply answers k
-taken_is_reply (answer.Refused why ∷ answers) k = λ e. cc e
+-- what is known after these commands were answered
+known_of : (was is : Type 0) (commands : List Command) (replies : List Reply) → length replies ≡ length commands
+    → (replies ≢ [] → is) → (replies ≡ [] → was → is) → known_after was (map command_asked commands) → is
+known_of was is [] [] n after same k = same refl k
+known_of was is [] (reply ∷ replies) n after same k = absurd (omega (arith, n))
+known_of was is (command ∷ commands) [] n after same k = absurd (omega (arith, n))
+known_of was is (command ∷ commands) (reply ∷ replies) n after same k = after (λ e. cc e)
 
 -- an import was stopped
-stopped : {S : Type 0} {I : IssuedOf S} {a b : S} (failed : List Refusal) (taken : Bool) (answers : List LineAnswer)
-    → has_taken answers ≡ taken → (replies_in answers ≢ [] → I.is_clean a) → (replies_in answers ≢ [] → WasAsked I a b)
-    → Since I.is_clean I.is_honest I.failures a b
-    → (I.is_clean b → AreCounted (I.failures a) (I.failures b) failed) → Tells I a b failed (stopped_behind taken)
-stopped {b = b} failed true answers e before asked since counted =
-    let some = taken_is_reply answers e in record {
-      counted = counted;
-      asked = (b, asked some, since_refl);
-      began = λ k. before some;
-      ends = λ k. absurd k;
-    }
-stopped failed false answers e before asked since counted =
-    record { counted = counted; asked = since; began = λ k. absurd (false≢true k); ends = λ k. absurd k }
+stopped_tells : {S : Type 0} {I : IssuedOf S} {a b : S} (failed : List Refusal) (lines : List Line)
+    (answers : List LineAnswer) → AreAnswered lines answers → (replies_in answers ≢ [] → I.is_clean a)
+    → HaveCalls I a b (asked_of lines) → (I.is_clean b → AreCounted (I.failures a) (I.failures b) failed)
+    → Tells I a b failed (asked_of lines ++ None ∷ [])
+stopped_tells {I = I} {a = a} {b = b} failed lines answers each before calls counted = record {
+  counted = counted;
+  asked = calls_join I a b b (asked_of lines) (None ∷ []) calls since_refl;
+  began = answer_in (I.is_clean a) (asked_of lines) (None ∷ [])
+      (λ k. before (some_reply (commands_of lines) (replies_in answers) (as_many_replies lines answers each) k))
+      (λ k. absurd (false≢true k));
+  ends = λ k. absurd (known_on (I.is_clean a) (asked_of lines) (None ∷ []) k);
+}
 
 -- what an import tells
 import_tells : {S : Type 0} {I : IssuedOf S} {rows : S → Rows} {a b : S} (file : Result (List Line) AuditFault)
     (end : Result (List LineAnswer) ImportFault) (lines : List Line) (answers : List LineAnswer)
-    → EndsAfter file end lines answers → FileVouches I rows lines answers a b end
-    → (replies_in answers ≢ [] → WasAsked I a b) → Since I.is_clean I.is_honest I.failures a b
-    → ((why : AuditFault) → end ≡ Err (import.File why) → b ≡ a)
+    → AreAnswered lines answers → EndsAfter file end lines answers → FileVouches I rows lines answers a b end
+    → Since I.is_clean I.is_honest I.failures a b → ((why : AuditFault) → end ≡ Err (import.File why) → b ≡ a)
     → (I.is_clean b → AreCounted (I.failures a) (I.failures b) (import_failures end))
-    → Tells I a b (import_failures end) (imported end).answered
-import_tells {I = I} {a = a} {b = b} file (Ok given) lines answers ends_after v asked since same counted =
-    noted (replies_in given) (subst (λ (l : List LineAnswer). replies_in l ≢ [] → I.is_clean a) ends_after.1
-    v.was_clean) (subst (λ (l : List LineAnswer). replies_in l ≢ [] → I.is_clean b) ends_after.1 v.is_clean)
-    (subst (λ (l : List LineAnswer). replies_in l ≡ [] → I.is_clean a → I.is_clean b) ends_after.1 v.unasked) counted
-    (subst (λ (l : List LineAnswer). HaveCalls I a b (map (λ reply. true) (replies_in l))) ends_after.1 v.asked)
-import_tells {I = I} {a = a} {b = b} file (Err (import.File why)) lines answers ends_after v asked since same counted =
+    → Tells I a b (import_failures end) (imported lines end).answered
+import_tells {I = I} {a = a} {b = b} file (Ok given) lines answers each ends v since same counted = record {
+  counted = counted;
+  asked = v.asked;
+  began = λ k. v.was_clean (some_reply (commands_of lines) (replies_in answers)
+      (as_many_replies lines answers each) k);
+  ends = known_of (I.is_clean a) (I.is_clean b) (commands_of lines) (replies_in answers)
+      (as_many_replies lines answers each) v.is_clean v.unasked;
+}
+import_tells {I = I} {a = a} {b = b} file (Err (import.File why)) lines answers each ends v since same counted =
     record {
       counted = counted;
       asked = since;
       began = λ k. absurd (false≢true k);
       ends = λ was. subst (λ x. I.is_clean x) (sym (same why refl)) was;
     }
-import_tells file (Err (import.Memory answered taken)) lines answers ends_after v asked since same counted =
-    stopped _ taken answers ends_after.3 v.was_clean asked since counted
-import_tells file (Err (import.Store answered taken)) lines answers ends_after v asked since same counted =
-    stopped _ taken answers ends_after.3 v.was_clean asked since counted
+import_tells file (Err (import.Memory answered taken)) lines answers each ends v since same counted =
+    stopped_tells _ lines answers each v.was_clean v.asked counted
+import_tells file (Err (import.Store answered taken)) lines answers each ends v since same counted =
+    stopped_tells _ lines answers each v.was_clean v.asked counted
 
 -- an audit file is imported
 pub file_came : {S : Type 0} {I : IssuedOf S} {rows : S → Rows} {a b : S} (file : List ℕ)
@@ -233,25 +184,22 @@ pub file_came : {S : Type 0} {I : IssuedOf S} {rows : S → Rows} {a b : S} (fil
     → Imports I rows (audit_lines file) a b import_end
     → ((why : AuditFault) → import_end ≡ Err (import.File why) → b ≡ a)
     → (I.is_clean b → AreCounted (I.failures a) (I.failures b) (import_failures import_end))
-    → EndsAs (imported import_end) [] old new end
+    → ((lines : List Line) → EndsAs (imported lines import_end) [] old new end)
     → (s : Stream) → Happens I rows a (Answered (FileComes file) s s [] old new end) b
 file_came {I = I} {rows = rows} {a = a} {b = b} file import_end old new end honest_is since i same failed ends s =
     happens_so (answered_weaker (FileComes file) s s [] old new end) honest_is since
     (λ honest h reached stands.
     let v = i.5 honest in
-    let p = v.happened s h reached stands in
-    let after = leaves_since I rows s (audit_lines file) i.0 import_end i.8 in
-    let asked : replies_in i.1 ≢ [] → WasAsked I a b = λ some. asked_before
-    (lines_asked I rows s a i.6 i.0 i.1 h reached stands (after.was_honest honest) i.2 i.7 some) after in (
+    let p = v.happened s h reached stands in (
       p.0,
       p.1,
       p.2,
       (
-        imported import_end,
+        imported i.0 import_end,
         import_failures import_end,
         (import_end, i.0, i.1, i.2, i.3, p.3, refl, refl, refl),
-        ends,
-        import_tells (audit_lines file) import_end i.0 i.1 i.3 v asked since same failed,
+        ends i.0,
+        import_tells (audit_lines file) import_end i.0 i.1 i.2 i.3 v since same failed,
       ),
       p.4,
     ))
@@ -285,25 +233,26 @@ behind_interim came s t before old mid new end first =
     (λ told h h' went. (went.0, went.1, went.2, after_interim before went.0 old mid new end first went.3, went.4))
 
 -- a list that was refused
-pub list_refused : (listing : Option Listing) (why : Refusal)
-    → IsListText listing (Err why) → ListComes listing (replied (reply.Refused why)) (list_failures (Err why))
-list_refused (Some listing) refusal.Memory is = inr (inl (refl, refl))
-list_refused (Some listing) refusal.Store is = inr (inr (refl, refl))
-list_refused (Some listing) _ is = absurd is
-list_refused None refusal.NoRoom is = inl (refl, refl)
-list_refused None refusal.Memory is = inr (inl (refl, refl))
-list_refused None refusal.Store is = inr (inr (refl, refl))
-list_refused None _ is = absurd is
+pub list_refused : (its_list : ListAsk) (listing : Option Listing) (why : Refusal) → IsListText listing (Err why)
+    → ListComes its_list listing (replied (ask.List its_list) (reply.Refused why)) (list_failures (Err why))
+list_refused its_list (Some listing) refusal.Memory is = inr (inl (refl, refl))
+list_refused its_list (Some listing) refusal.Store is = inr (inr (refl, refl))
+list_refused its_list (Some listing) _ is = absurd is
+list_refused its_list None refusal.NoRoom is = inl (refl, refl)
+list_refused its_list None refusal.Memory is = inr (inl (refl, refl))
+list_refused its_list None refusal.Store is = inr (inr (refl, refl))
+list_refused its_list None _ is = absurd is
 
 -- the same over each listing that is the books' where they are kept
-pub list_comes : {C H : Type 0} (there listing : Option Listing) (made : Result (List ℕ) Refusal) (out : Outcome)
+pub list_comes : {C H : Type 0} (its_list : ListAsk) (there listing : Option Listing)
+    (made : Result (List ℕ) Refusal) (out : Outcome)
     → (H → IsListText there made) → (H → is_answered made ≡ true → C) → (C → listing ≡ there) → H
-    → ((l : Option Listing) → IsListText l made → ListComes l out (list_failures made))
-    → (is_answered made ≡ false → ListComes listing out (list_failures made))
-    → ListComes listing out (list_failures made)
-list_comes there listing made out text vouched same honest of_text failed = by (is_answered made) refl
+    → ((l : Option Listing) → IsListText l made → ListComes its_list l out (list_failures made))
+    → (is_answered made ≡ false → ListComes its_list listing out (list_failures made))
+    → ListComes its_list listing out (list_failures made)
+list_comes its_list there listing made out text vouched same honest of_text failed = by (is_answered made) refl
   where
-    by : (b : Bool) → is_answered made ≡ b → ListComes listing out (list_failures made)
+    by : (b : Bool) → is_answered made ≡ b → ListComes its_list listing out (list_failures made)
     by true k =
         let clean = vouched honest k in
         of_text listing (subst (λ (l : Option Listing). IsListText l made) (sym (same clean)) (text honest))
@@ -318,11 +267,11 @@ text_vouched fault.Store C v k = cc k
 text_vouched fault.Write C v k = cc k
 
 -- a list that failed has no listing
-pub list_failed : (listing : Option Listing) (why : Refusal)
-    → is_answered (Err why) ≡ false → ListComes listing (replied (reply.Refused why)) (list_failures (Err why))
-list_failed listing refusal.Memory k = inr (inl (refl, refl))
-list_failed listing refusal.Store k = inr (inr (refl, refl))
-list_failed listing _ k = cc k
+pub list_failed : (its_list : ListAsk) (listing : Option Listing) (why : Refusal) → is_answered (Err why) ≡ false
+    → ListComes its_list listing (replied (ask.List its_list) (reply.Refused why)) (list_failures (Err why))
+list_failed its_list listing refusal.Memory k = inr (inl (refl, refl))
+list_failed its_list listing refusal.Store k = inr (inr (refl, refl))
+list_failed its_list listing _ k = cc k
 
 -- a request that was read is answered
 pub request_served : {S : Type 0} (I : IssuedOf S) (rows : S → Rows) (a b : S) (s t : Stream)

@@ -1,21 +1,24 @@
 -- What comes of a request: its answer, and the history of the books after it.
-use Rattle.std.specs.Prelude.{◌≡◌, ◌⊎◌, ℕ, Bool, true, false, not, List, [], ◌∷◌, ◌++◌, map, Option, Some, None, IfSome}
+use Rattle.std.specs.Prelude.{◌≡◌, ◌⊎◌, ℕ, Bool, true, false, not, List, [], ◌∷◌, ◌++◌, Option, Some, None, IfSome}
 use Rattle.std.specs.Prelude.{Result, Ok, Err}
 use Rattle.std.specs.{Io.KnownBytes.Appends, Option.unwrap_or}
 use Rattle.rand_core.specs.Stream.{Stream}
 use Rattle.keycard_rules.specs.{declared.issued.Issued.Ghosts as IssuedOf}
 use Rattle.hotel_model.specs.{declared.reply.Reply.Reply, declared.reply.Refusal.Refusal, History.History}
 use Rattle.hotel_model.specs.Rows.{Rows}
-use Rattle.hotel_core.specs.{Books.Failures.failure_in, Books.Happens.Happens, Books.Happens.answered_by}
+use Rattle.hotel_core.specs.{Books.Failures.failure_in, Books.Happens.Happens, Books.Happens.Told}
+use Rattle.hotel_core.specs.{Books.Happens.asked_if, declared.asks.ListAsk.ListAsk}
 use Rattle.hotel_model.specs.declared.reply.Reply.TheVariants as reply
 use Rattle.hotel_model.specs.declared.reply.Refusal.TheVariants as refusal
 use Rattle.hotel_model.specs.Run.{Steps, Runs, is_failed}
 use Rattle.hotel_lists.specs.{Bytes.AppendsFront, declared.calls.WriteFailed.WriteFailed}
 use Rattle.hotel_lists.specs.{Faults.told_refusal, declared.fault.ListFault.ListFault}
 use Rattle.hotel_lists.specs.Listings.{Listing, in_full}
-use Rattle.hotel_asks.specs.{declared.asks.Ask.Ask, Listings.listing_over}
-use Rattle.hotel_asks.specs.declared.asks.Ask.TheVariants as ask
-use Rattle.hotel_audit.specs.{AuditFile.audit_lines, Import.AreAnswered, Import.EndsAfter, Import.commands_of}
+use Rattle.hotel_core.specs.declared.asks.Ask.{Ask}
+use Rattle.hotel_asks.specs.Listings.{listing_over}
+use Rattle.hotel_core.specs.declared.asks.Ask.TheVariants as ask
+use Rattle.hotel_audit.specs.{AuditFile.audit_lines, Import.AreAnswered, Import.EndsAfter, Import.asked_of}
+use Rattle.hotel_audit.specs.{Import.commands_of}
 use Rattle.hotel_audit.specs.{Import.replies_in, Import.has_taken, Import.failures_of}
 use Rattle.hotel_audit.specs.{declared.answer.LineAnswer.LineAnswer, declared.imports.ImportFault.ImportFault}
 use Rattle.hotel_audit.specs.{declared.line.Line.Line}
@@ -33,16 +36,16 @@ use Rattle.hotel_http.specs.{Body.interim_text, Body.interim_where}
 use Rattle.hotel_http.specs.{Request.Wanted, Request.Requests, Request.IsAwaited, Request.AtMostInterim}
 use Rattle.hotel_http.specs.{Status.number_of}
 
--- An answer: its bytes, its status, and whether the books took something of the request; and of each time that they
--- were asked for it whether they answered.
+-- An answer: its bytes, its status, whether the books took something of the request, and each time that they were asked
+-- for it: what they answered (Some), or that they failed (None).
 pub record Outcome : Type 0 where
   pub text : List ℕ
   pub status : ℕ
   pub acted : Bool
-  pub answered : List Bool
+  pub answered : List (Option Ask)
 
 -- an answer of this status
-abbrev pub outcome : List ℕ → Status → Bool → List Bool → Outcome
+abbrev pub outcome : List ℕ → Status → Bool → List (Option Ask) → Outcome
 outcome text status acted answered =
     record { text = text; status = number_of status; acted = acted; answered = answered }
 
@@ -54,13 +57,16 @@ abbrev pub is_accepted : Reply → Bool
 is_accepted (reply.Refused why) = false
 is_accepted _ = true
 
-abbrev pub replied : Reply → Outcome
-replied given = outcome (reply_answer given) (reply_status given) (is_accepted given) (answered_by given)
+-- the reply to what was asked
+abbrev pub replied : Ask → Reply → Outcome
+replied wanted given = outcome (reply_answer given) (reply_status given) (is_accepted given)
+    (asked_if (not (is_failed given)) wanted ∷ [])
 
 -- A list in full, or that its room isn't there.
-abbrev pub listed : Option Listing → Outcome
-listed None = replied (reply.Refused refusal.NoRoom)
-listed (Some listing) = outcome (list_answer (in_full [] (Some listing))) Success false (true ∷ [])
+abbrev pub listed : ListAsk → Option Listing → Outcome
+listed its_list None = replied (ask.List its_list) (reply.Refused refusal.NoRoom)
+listed its_list (Some listing) =
+    outcome (list_answer (in_full [] (Some listing))) Success false (Some (ask.List its_list) ∷ [])
 
 -- a line was taken before an import ended without answers
 abbrev pub taken_by : ImportFault → Bool
@@ -68,21 +74,16 @@ taken_by (import.File why) = false
 taken_by (import.Memory answered taken) = taken
 taken_by (import.Store answered taken) = taken
 
--- the books failed behind a line that was taken, or behind none
-abbrev pub stopped_behind : Bool → List Bool
-stopped_behind true = true ∷ false ∷ []
-stopped_behind false = false ∷ []
+-- how the books answered in an import that ended without answers, behind these lines: they failed behind them
+abbrev pub stopped_by : List Line → ImportFault → List (Option Ask)
+stopped_by lines (import.File why) = []
+stopped_by lines (import.Memory answered taken) = asked_of lines ++ None ∷ []
+stopped_by lines (import.Store answered taken) = asked_of lines ++ None ∷ []
 
--- how the books answered in an import that ended without answers
-abbrev pub stopped_by : ImportFault → List Bool
-stopped_by (import.File why) = []
-stopped_by (import.Memory answered taken) = stopped_behind taken
-stopped_by (import.Store answered taken) = stopped_behind taken
-
-abbrev pub imported : Result (List LineAnswer) ImportFault → Outcome
-imported (Ok answers) =
-    outcome (lines_answer answers) Success (has_taken answers) (map (λ reply. true) (replies_in answers))
-imported (Err why) = outcome (fault_answer why) (fault_status why) (taken_by why) (stopped_by why)
+-- an import of which these lines were answered
+abbrev pub imported : List Line → Result (List LineAnswer) ImportFault → Outcome
+imported lines (Ok answers) = outcome (lines_answer answers) Success (has_taken answers) (asked_of lines)
+imported lines (Err why) = outcome (fault_answer why) (fault_status why) (taken_by why) (stopped_by lines why)
 
 -- the failures that the books counted in an import that ended so
 abbrev pub import_failures : Result (List LineAnswer) ImportFault → List Refusal
@@ -91,17 +92,19 @@ import_failures (Err why) = failures_of why
 
 -- The answer to a list, with the failures that the books counted: it in full or that its room isn't there, or that
 -- memory or the store failed. The memory of the list's text is its own: want of it isn't counted.
-abbrev pub ListComes : Option Listing → Outcome → List Refusal → Type 0
-ListComes listing out failed =
-    ((out ≡ listed listing) × (failed ≡ []))
-    ⊎ (((out ≡ replied (reply.Refused refusal.Memory)) × (failed ≡ []))
-    ⊎ ((out ≡ replied (reply.Refused refusal.Store)) × (failed ≡ refusal.Store ∷ [])))
+abbrev pub ListComes : ListAsk → Option Listing → Outcome → List Refusal → Type 0
+ListComes its_list listing out failed =
+    ((out ≡ listed its_list listing) × (failed ≡ []))
+    ⊎ (((out ≡ replied (ask.List its_list) (reply.Refused refusal.Memory)) × (failed ≡ []))
+    ⊎ ((out ≡ replied (ask.List its_list) (reply.Refused refusal.Store)) × (failed ≡ refusal.Store ∷ [])))
 
 -- What comes of a command, which is a step, or of a list, which changes nothing.
 abbrev pub AskComes : Ask → History → Stream → Outcome → List Refusal → History → Stream → Type 0
 AskComes (ask.Command command) h s out failed h' s' =
-    (given : Reply) × Steps h s command given h' s' × (out ≡ replied given) × (failed ≡ failure_in given)
-AskComes (ask.List its_list) h s out failed h' s' = ListComes (listing_over h its_list) out failed × (h' ≡ h) × (s' ≡ s)
+    (given : Reply) × Steps h s command given h' s' × (out ≡ replied (ask.Command command) given)
+    × (failed ≡ failure_in given)
+AskComes (ask.List its_list) h s out failed h' s' =
+    ListComes its_list (listing_over h its_list) out failed × (h' ≡ h) × (s' ≡ s)
 
 -- What comes of an audit file: the run of the notes of its answered lines.
 abbrev pub FileComes : List ℕ → History → Stream → Outcome → List Refusal → History → Stream → Type 0
@@ -109,7 +112,7 @@ FileComes file h s out failed h' s' =
     (end : Result (List LineAnswer) ImportFault) × (lines : List Line) × (answers : List LineAnswer)
     × AreAnswered lines answers
     × EndsAfter (audit_lines file) end lines answers × Runs h s (commands_of lines) (replies_in answers) h' s
-    × (out ≡ imported end) × (failed ≡ import_failures end) × (s' ≡ s)
+    × (out ≡ imported lines end) × (failed ≡ import_failures end) × (s' ≡ s)
 
 -- What comes of a task with its body.
 abbrev pub TaskComes : Task → List ℕ → History → Stream → Outcome → List Refusal → History → Stream → Type 0
@@ -134,7 +137,7 @@ EndsAs out before old new (Err cut) = (cut.acted ≡ out.acted) × AppendsFront 
 -- This came, its answer was written so behind this text, and of its failures and the books' answers this is told.
 abbrev pub Answered : (History → Stream → Outcome → List Refusal → History → Stream → Type 0) → Stream → Stream → List ℕ
     → Option (List ℕ) → Option (List ℕ)
-    → AnswerEnd → (List Refusal → List Bool → Type 0) → History → History → Type 0
+    → AnswerEnd → Told → History → History → Type 0
 Answered came s s' before old new end told h h' =
     (out : Outcome) × (failed : List Refusal) × came h s out failed h' s' × EndsAs out before old new end
     × told failed out.answered

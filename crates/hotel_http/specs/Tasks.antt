@@ -3,7 +3,8 @@ use Rattle.std.specs.Prelude.{ℕ, ◌+◌, ◌==◌, Bool, true, false, List, [
 use Rattle.std.specs.Prelude.{Result, Ok, Err}
 use Rattle.std.specs.List.{position_or_len}
 use Rattle.hotel_nights.specs.Days.{◌>>=◌}
-use Rattle.hotel_asks.specs.{declared.asks.Ask.Ask, declared.verbs.Verb.Verb, declared.values.ValueFault.ValueFault}
+use Rattle.hotel_core.specs.declared.asks.Ask.{Ask}
+use Rattle.hotel_asks.specs.{declared.verbs.Verb.Verb, declared.values.ValueFault.ValueFault}
 use Rattle.hotel_asks.specs.{Asks.ask_of}
 use Rattle.hotel_asks.specs.declared.verbs.Verb.TheVariants.{Begin, AddKind, AddRoom, Reserve, Cancel, CheckIn, Spare}
 use Rattle.hotel_asks.specs.declared.verbs.Verb.TheVariants.{Reissue, Transfer, CheckOut, Refit, NextDay, Entered, Left}

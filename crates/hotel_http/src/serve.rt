@@ -2,13 +2,14 @@
 
 ghost use Rattle.std.specs.Prelude.{◌≡◌, [], true, OnErr};
 ghost use Rattle.rand_core.specs.Stream.{Stream};
-ghost use Rattle.keycard_rules.specs.{Since.Since, Asked.WasAsked};
+ghost use Rattle.keycard_rules.specs.Since.{Since};
 ghost use Rattle.hotel_core.specs.{Books.Failures.AreCounted, Books.Happens.Happens};
 ghost use Rattle.hotel_lists.specs.Calls.{CountsReads, CountsWrites, OnErrOf};
 ghost use Rattle.hotel_asks.specs.Listings.{listing_on};
 ghost use Rattle.hotel_http.specs.Reads.{ReadsWhile};
 ghost use Rattle.hotel_http.specs.Request.{WantsMore};
-ghost use Rattle.hotel_asks.specs.declared.asks.Ask.TheVariants as ask;
+ghost use Rattle.hotel_core.specs.declared.asks.Ask.{Ask};
+ghost use Rattle.hotel_core.specs.declared.asks.Ask.TheVariants as ask;
 ghost use Rattle.hotel_http.specs.declared.serve.ServeFault.TheVariants.{Read, Write};
 ghost use Rattle.hotel_http.specs.Serve.{rejected, replied, is_accepted, is_answered, taken_by, AskComes};
 ghost use Rattle.hotel_http.specs.Serve.{FileComes, TaskComes, EndsAs, Answered, ended, IsListText};
@@ -21,9 +22,9 @@ use crate::requests::{Request, RequestFault, read_request};
 use crate::routes::{Routes, make_routes};
 use crate::status::Status;
 use crate::tasks::Task;
-use hotel_asks::{Ask, ListAsk, write_list};
+use hotel_asks::{Ask, ListAsk, ListDesk};
 use hotel_audit::{ImportFault, has_taken, import};
-use hotel_core::{Command, Refusal, Reply, Walks, step};
+use hotel_core::{Command, Refusal, Reply};
 use hotel_lists::{IoCalls, ListFault, WriteFailed};
 use rand_core::Rng;
 use std::alloc::Global;
@@ -116,7 +117,8 @@ fn is_accepted(reply: &Reply) -> bool
 }
 
 fn answer_reply<W: Write>(reply: &Reply, writer: &mut W, calls: &mut IoCalls) -> Result<Served, Cut>
-    ensures ends { EndsAs (replied reply.now) [] (W.contents writer.old) (W.contents writer.new) result }
+    ensures ends { (asked : Ask) → EndsAs (replied asked reply.now) [] (W.contents writer.old) (W.contents writer.new)
+        result }
     ensures calls { CountsWrites calls.old calls.new (OnErr result) }
 {
     let written = write_reply(writer, reply, calls);
@@ -124,7 +126,7 @@ fn answer_reply<W: Write>(reply: &Reply, writer: &mut W, calls: &mut IoCalls) ->
 }
 
 /// Carries out a command and answers its reply. No memory but the command's own is taken.
-fn answer_command<W: Write, B: Walks, R: Rng>(
+fn answer_command<W: Write, B: ListDesk, R: Rng>(
     command: &Command,
     writer: &mut W,
     books: &mut B,
@@ -136,7 +138,7 @@ fn answer_command<W: Write, B: Walks, R: Rng>(
         (W.contents writer.old) (W.contents writer.new) result) books.new }
     ensures calls { CountsWrites calls.old calls.new (OnErr result) }
 {
-    let reply = step(books, source, command);
+    let reply = books.step(source, command);
     answer_reply(&reply, writer, calls)
 }
 
@@ -149,25 +151,26 @@ fn list_refusal(fault: ListFault) -> Refusal
 }
 
 /// The text of a list, made whole in memory; or why it is refused.
-fn list_text<B: Walks>(alloc: Global, list: &ListAsk, books: &mut B) -> Result<Vec<u8>, Refusal>
+fn list_text<B: ListDesk>(alloc: Global, list: &ListAsk, books: &mut B) -> Result<Vec<u8>, Refusal>
     ensures text { B.is_honest books.new → IsListText (listing_on (B.rows books.old) list.now)
         (text_in (λ t. t.items) result) }
     ensures vouched { B.is_honest books.new → is_answered (text_in (λ t. t.items) result) ≡ true
         → B.is_clean books.new }
-    ensures asked { is_answered (text_in (λ t. t.items) result) ≡ true → WasAsked B.Issued books.old books.new }
+    ensures asked { is_answered (text_in (λ t. t.items) result) ≡ true
+        → B.has_answered Ask (ask.List list.now) books.old books.new }
     ensures kept { B.is_clean books.new → B.is_kept books.old books.new }
     ensures since { Since B.is_clean B.is_honest B.failures books.old books.new }
     ensures failures { AreCounted (B.failures books.old) (B.failures books.new)
         (list_failures (text_in (λ t. t.items) result)) }
 {
     let mut text = Vec::new(alloc);
-    match write_list(alloc, list, &mut text, books, &mut IoCalls::none()) {
+    match books.write_list(alloc, list, &mut text, &mut IoCalls::none()) {
         Ok(()) => Ok(text),
         Err(fault) => Err(list_refusal(fault)),
     }
 }
 
-fn answer_list<W: Write, B: Walks>(
+fn answer_list<W: Write, B: ListDesk>(
     alloc: Global,
     list: &ListAsk,
     writer: &mut W,
@@ -198,7 +201,7 @@ fn taken_by(why: &ImportFault) -> bool
 }
 
 /// Imports an audit file and answers. No memory but the import's own is taken.
-fn answer_audit<W: Write, B: Walks>(
+fn answer_audit<W: Write, B: ListDesk>(
     alloc: Global,
     file: &[u8],
     writer: &mut W,
@@ -223,7 +226,7 @@ fn answer_audit<W: Write, B: Walks>(
 }
 
 /// Carries out a command, or makes a list, and answers.
-fn answer_ask<W: Write, B: Walks, R: Rng>(
+fn answer_ask<W: Write, B: ListDesk, R: Rng>(
     alloc: Global,
     asked: &Ask,
     writer: &mut W,
@@ -243,7 +246,7 @@ fn answer_ask<W: Write, B: Walks, R: Rng>(
 }
 
 /// Carries out what a request asks for, and answers.
-fn answer_request<W: Write, B: Walks, R: Rng>(
+fn answer_request<W: Write, B: ListDesk, R: Rng>(
     alloc: Global,
     request: &Request,
     writer: &mut W,
@@ -264,7 +267,7 @@ fn answer_request<W: Write, B: Walks, R: Rng>(
 
 /// Reads one request, carries out what it asks for, and answers, as `serve_one` does. The caller made the table of
 /// routes, once for all its requests, and no memory is taken for it here. The reads and writes are added to the calls.
-pub fn serve_by<I: Read, W: Write, B: Walks, R: Rng>(
+pub fn serve_by<I: Read, W: Write, B: ListDesk, R: Rng>(
     alloc: Global,
     routes: &Routes,
     reader: &mut I,
@@ -293,7 +296,7 @@ pub fn serve_by<I: Read, W: Write, B: Walks, R: Rng>(
 /// are written from buffers of fixed size, and a list's text is made whole before its answer begins. The interrupted
 /// reads and writes of the call are counted together; the thousandth is a fault. The writer is not flushed.
 #[tactic(auto, using(crate::proofs::RequestLemmas::none_read))]
-pub fn serve_one<I: Read, W: Write, B: Walks, R: Rng>(
+pub fn serve_one<I: Read, W: Write, B: ListDesk, R: Rng>(
     alloc: Global,
     reader: &mut I,
     writer: &mut W,

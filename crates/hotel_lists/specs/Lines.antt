@@ -5,7 +5,7 @@ use Rattle.std.specs.Fmt.{decimal}
 use Rattle.std.specs.Io.KnownBytes.{Keeps}
 use Rattle.csv.specs.Writing.{default_writer, row_text}
 use Rattle.keycard_rules.specs.{Rise.HasRisen, declared.issued.Issued.Ghosts as IssuedOf}
-use Rattle.keycard_rules.specs.{Since.Since, Asked.WasAsked}
+use Rattle.keycard_rules.specs.{Since.Since, Asked.WasCalled}
 use Rattle.keycard_rules.specs.{Numerals.code_text, Note.Note, declared.note.Act.Act}
 use Rattle.keycard_rules.specs.declared.issued.LookFault.TheVariants as look
 use Rattle.keycard_rules.specs.declared.note.Act.TheVariants.{Entered, Left, Recoded}
@@ -101,7 +101,7 @@ pub record LooksAt {B : Type 0} (I : IssuedOf B) (old new : B) (result : Result 
   pub kept : I.is_clean new → I.is_kept old new
   pub since : Since I.is_clean I.is_honest I.failures old new
   pub vouched : I.is_honest new → Vouches (I.is_clean new) result
-  pub asked : Vouches (WasAsked I old new) result
+  pub asked : Vouches (WasCalled I old new) result
   pub store : result ≡ Err fault.Store → HasRisen (I.failures old look.Store) (I.failures new look.Store)
 
 -- no row and no header can have been written

@@ -1,12 +1,12 @@
 -- A script over a new desk, and how the program ends by it.
-use Rattle.std.proofs.Common.{◌≡◌, ◌≤◌, ◌<◌, ℕ, Bool, List, length, take, Option, Result, Ok, Err, refl, sym, subst}
+use Rattle.std.proofs.Common.{◌≡◌, ◌≤◌, ◌<◌, ℕ, List, length, take, Option, Result, Ok, Err, refl, sym, subst}
 use Rattle.std.specs.Prelude.{IfOk, IfSome, IsErrOf, ⊤}
 use Rattle.rand_core.specs.Stream.{Stream}
 use Rattle.keycard_rules.specs.declared.issued.LookFault.{LookFault}
 use Rattle.keycard_rules.specs.Rise.{of_memory}
 use Rattle.keycard_rules.specs.declared.issued.Issued.{Ghosts as IssuedOf}
 use Rattle.hotel_core.specs.Books.Failures.{AreCounted}
-use Rattle.hotel_core.specs.Books.Happens.{HappensBy}
+use Rattle.hotel_core.specs.Books.Happens.{HappensBy, Told}
 use Rattle.hotel_model.specs.declared.reply.Refusal.{Refusal}
 use Rattle.hotel_model.specs.Rows.{Rows, no_rows}
 use Rattle.hotel_model.specs.History.{History, start}
@@ -23,7 +23,7 @@ use Rattle.hotel_program.specs.Script.WholeScript.{ScriptAnswered, ScriptCut, Li
 use Rattle.hotel_program.specs.Script.WholeScript.{IfUnbegun, NothingBegun}
 
 new_desk : {B : Type 0} {I : IssuedOf B} {rows : B → Rows} {books books' : B} (went : Stream → Stream → Type 0
-    → (List Refusal → List Bool → Type 0) → History → History → Type 0) (s s' : Stream) (n m : ℕ)
+    → Told → History → History → Type 0) (s s' : Stream) (n m : ℕ)
     → I.is_clean books' → rows books ≡ no_rows → n ≡ 0 → I.failures books ≡ of_memory n
     → I.failures books' ≡ of_memory m → s ≡ zero_seeded → IsSound no_rows
     → HappensBy I rows books (went s s') books' → OverNewDesk went

@@ -1,5 +1,5 @@
 -- What the program does without words: a script over a new desk.
-use Rattle.std.specs.Prelude.{◌≡◌, ◌≢◌, ◌≤◌, ◌<◌, ℕ, Bool, length, take, map, replicate, List, [], Option, IfSome}
+use Rattle.std.specs.Prelude.{◌≡◌, ◌≢◌, ◌≤◌, ◌<◌, ℕ, length, take, map, replicate, List, [], Option, IfSome}
 use Rattle.std.specs.Prelude.{Result, Ok, Err, ⊤, Vec, String, string_bytes}
 use Rattle.std.specs.Global.{Global}
 use Rattle.std.specs.IoError.{error_kind}
@@ -9,7 +9,7 @@ use Rattle.rand_core.specs.Stream.{Stream}
 use Rattle.rand_core.specs.Steps.{steps_u32, stream_of}
 use Rattle.rand_chacha.specs.ChaCha.{of_seed, next_word}
 use Rattle.hotel_model.specs.declared.reply.Refusal.{Refusal}
-use Rattle.hotel_core.specs.Books.Failures.{AreCounted}
+use Rattle.hotel_core.specs.{Books.Failures.AreCounted, Books.Happens.Told}
 use Rattle.keycard_rules.specs.Rise.{of_memory}
 use Rattle.hotel_model.specs.Rows.{no_rows}
 use Rattle.hotel_model.specs.History.{History, start}
@@ -50,7 +50,7 @@ zero_seeded = stream_of (steps_u32 (next_word 10)) (of_seed (replicate SEED_BYTE
 
 -- This went over a new desk in memory: from no rows, a source of zeros and no failure, to a history of which what is
 -- assured holds, while so many calls found no memory.
-abbrev pub OverNewDesk : (Stream → Stream → Type 0 → (List Refusal → List Bool → Type 0) → History → History → Type 0)
+abbrev pub OverNewDesk : (Stream → Stream → Type 0 → Told → History → History → Type 0)
     → Type 0
 OverNewDesk went = (h : History) × (s : Stream) × (n : ℕ)
     × went zero_seeded s ⊤ (λ failed answered. AreCounted (of_memory 0) (of_memory n) failed) (start no_rows) h

@@ -1,11 +1,12 @@
 -- What scripts and servers answer behind a failure that shut the books, where nobody else wrote what they are kept in.
-use Rattle.std.specs.Prelude.{◌≡◌, ℕ, Bool, false, length, List, Option, Some, Ok, Err, ⊤}
+use Rattle.std.specs.Prelude.{◌≡◌, ℕ, false, length, List, Option, Some, Ok, Err, ⊤}
 use Rattle.std.specs.List.{AllByRecursion, concat}
 use Rattle.std.specs.Io.KnownBytes.{Appends}
 use Rattle.rand_core.specs.Stream.{Stream}
 use Rattle.keycard_rules.specs.declared.issued.Issued.{Ghosts as IssuedOf}
 use Rattle.hotel_model.specs.{declared.reply.Refusal.Refusal, History.History, Rows.Rows}
 use Rattle.hotel_core.specs.{Books.Passes.Passes, Books.Happens.has_answer, Books.Shut.BeganShut}
+use Rattle.hotel_core.specs.declared.asks.Ask.{Ask}
 use Rattle.hotel_http.specs.declared.serve.ServeFault.TheVariants.{Write}
 use Rattle.hotel_program.specs.Script.WholeScript.{LineHappens, answers_to}
 use Rattle.hotel_program.specs.Connections.{ConnectionCame, ConnectionEnd, ConnectionHappens}
@@ -26,7 +27,7 @@ TookNothing _ = ⊤
 
 -- A connection ended so, the books answered nothing of it, and nothing was taken.
 abbrev pub ComesToNothing : ConnectionEnd → Type 0
-ComesToNothing end = (h h' : History) × (s s' : Stream) × (failed : List Refusal) × (answered : List Bool)
+ComesToNothing end = (h h' : History) × (s s' : Stream) × (failed : List Refusal) × (answered : List (Option Ask))
     × ConnectionCame end h s failed answered h' s' × (has_answer answered ≡ false) × TookNothing end
 
 -- connections that were served one after the other, from such a state on: each came to nothing

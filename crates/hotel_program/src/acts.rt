@@ -13,7 +13,7 @@ use crate::script::{ScriptEnd, ScriptFault, run_script};
 use crate::server::run_serve;
 use crate::statuses::DONE;
 use crate::surroundings::Surroundings;
-use hotel_core::Walks;
+use hotel_asks::ListDesk;
 use hotel_lists::IoCalls;
 use rand_core::Rng;
 use std::alloc::Global;
@@ -36,7 +36,7 @@ pub fn end_of_script(end: Result<ScriptEnd, ScriptFault>) -> Result<u8, Fault>
 /// Carries out an act over books, and tells the fault that came instead. `file` has the bytes of an audit file where
 /// that is what is asked
 /// for. It answers the exit status.
-pub fn run_act<B: Walks, R: Rng, I: Read, W: Write, F: FaultSink, E: Surroundings>(
+pub fn run_act<B: ListDesk, R: Rng, I: Read, W: Write, F: FaultSink, E: Surroundings>(
     alloc: Global,
     act: &DeskAct,
     file: &[u8],

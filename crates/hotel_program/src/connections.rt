@@ -13,7 +13,7 @@ ghost use Rattle.hotel_program.specs.Connections.{faults_of, serve_end};
 use crate::faults::{Fault, FaultSink};
 use crate::statuses::DONE;
 use crate::timed::{TimedReader, TimedWriter, has_limits};
-use hotel_core::Walks;
+use hotel_asks::ListDesk;
 use hotel_http::{Routes, ServeFault, Served, make_routes, serve_by, serve_one};
 use hotel_lists::IoCalls;
 use rand_core::Rng;
@@ -38,7 +38,7 @@ fn serve_end(end: Result<Served, ServeFault>) -> Result<(), Fault>
 /// Answers the request of a connection, by the table of routes that was made for all connections. Where it wasn't made,
 /// the request
 /// makes its own.
-fn serve_stream<I: Read, W: Write, B: Walks, R: Rng>(
+fn serve_stream<I: Read, W: Write, B: ListDesk, R: Rng>(
     alloc: Global,
     routes: Option<&Routes>,
     reader: &mut I,
@@ -64,7 +64,7 @@ fn serve_stream<I: Read, W: Write, B: Walks, R: Rng>(
 }
 
 /// Takes a connection and answers its request.
-fn serve_connection<B: Walks, R: Rng, C: Clock>(
+fn serve_connection<B: ListDesk, R: Rng, C: Clock>(
     alloc: Global,
     routes: Option<&Routes>,
     listener: &TcpListener,
@@ -88,7 +88,7 @@ fn serve_connection<B: Walks, R: Rng, C: Clock>(
 }
 
 /// Takes a connection, answers its request, and tells the fault that came instead.
-fn serve_and_tell<B: Walks, R: Rng, F: FaultSink, C: Clock>(
+fn serve_and_tell<B: ListDesk, R: Rng, F: FaultSink, C: Clock>(
     alloc: Global,
     routes: Option<&Routes>,
     listener: &TcpListener,
@@ -113,7 +113,7 @@ fn serve_and_tell<B: Walks, R: Rng, F: FaultSink, C: Clock>(
 /// request's bytes and ten for its answer's, whatever pieces come in; then its peer is given up. The
 /// table of routes is made once, before the first connection; where memory for it was wanting, each
 /// request makes its own. It answers 0.
-pub fn serve_connections<B: Walks, R: Rng, F: FaultSink, C: Clock>(
+pub fn serve_connections<B: ListDesk, R: Rng, F: FaultSink, C: Clock>(
     alloc: Global,
     listener: &TcpListener,
     clock: &C,

@@ -19,7 +19,8 @@ use crate::files::SEED_BYTES;
 use crate::script::run_script;
 use crate::statuses::{DONE, USAGE};
 use crate::surroundings::{Databases, Surroundings};
-use hotel_core::{Books, ListBooks, Walks};
+use hotel_asks::ListDesk;
+use hotel_core::{Books, ListBooks};
 use hotel_lists::{IoCalls, WriteFailed, write_bytes};
 use keycard_rules::Issued;
 use rand_chacha::ChaCha20Rng;
@@ -44,7 +45,7 @@ fn answer_script<I: Read, W: Write>(
 }
 
 /// Carries out an act over empty books in memory.
-fn run_in_memory<I: Read, W: Write, F: FaultSink, B: Walks + Drop, E: Databases<B>>(
+fn run_in_memory<I: Read, W: Write, F: FaultSink, B: ListDesk + Drop, E: Databases<B>>(
     alloc: Global,
     act: &DeskAct,
     file: &[u8],
@@ -69,7 +70,7 @@ fn run_in_memory<I: Read, W: Write, F: FaultSink, B: Walks + Drop, E: Databases<
 }
 
 /// Carries out an act over the books of a database.
-fn run_on_database<I: Read, W: Write, F: FaultSink, B: Walks + Drop, E: Databases<B>>(
+fn run_on_database<I: Read, W: Write, F: FaultSink, B: ListDesk + Drop, E: Databases<B>>(
     alloc: Global,
     name: &FileName,
     act: &DeskAct,
@@ -100,7 +101,7 @@ fn run_on_database<I: Read, W: Write, F: FaultSink, B: Walks + Drop, E: Database
 }
 
 /// Carries out an act over the books that are asked for: those of a database, or empty ones in memory.
-fn run_over_books<I: Read, W: Write, F: FaultSink, B: Walks + Drop, E: Databases<B>>(
+fn run_over_books<I: Read, W: Write, F: FaultSink, B: ListDesk + Drop, E: Databases<B>>(
     alloc: Global,
     plan: &Plan,
     file: &[u8],
@@ -148,7 +149,7 @@ fn audit_file<E: Surroundings>(
 /// Carries out a plan. The seed is read first, then an audit file, then the books are opened, and then a port is
 /// listened on; the first
 /// fault is told and ends it.
-fn run_plan<I: Read, W: Write, F: FaultSink, B: Walks + Drop, E: Databases<B>>(
+fn run_plan<I: Read, W: Write, F: FaultSink, B: ListDesk + Drop, E: Databases<B>>(
     alloc: Global,
     plan: &Plan,
     reader: &mut I,
@@ -205,7 +206,7 @@ fn say_usage<W: Write, F: FaultSink>(why: &UsageFault, writer: &mut W, faults: &
 }
 
 /// Carries out what the words ask for.
-fn run_words<I: Read, W: Write, F: FaultSink, B: Walks + Drop, E: Databases<B>>(
+fn run_words<I: Read, W: Write, F: FaultSink, B: ListDesk + Drop, E: Databases<B>>(
     alloc: Global,
     words: &[String],
     reader: &mut I,
@@ -243,7 +244,7 @@ fn words_fault(why: &io::Error) -> Fault
 /// words it carries
 /// out what they ask for, over the surroundings `around`. A fault is told to `faults`; where that goes wrong, nobody
 /// hears of it.
-pub fn run_program<I: Read, W: Write, F: FaultSink, B: Walks + Drop, E: Databases<B>>(
+pub fn run_program<I: Read, W: Write, F: FaultSink, B: ListDesk + Drop, E: Databases<B>>(
     alloc: Global,
     words: io::Result<Vec<String>>,
     reader: &mut I,

@@ -17,7 +17,7 @@ mod words;
 
 use crate::script::line_answers::answer_line;
 use crate::script::lines::{first_line, is_silent, without_return};
-use hotel_core::Walks;
+use hotel_asks::ListDesk;
 use hotel_lists::{IoCalls, WholeFault, read_whole};
 use rand_core::Rng;
 use std::alloc::Global;
@@ -63,7 +63,7 @@ impl From<WholeFault> for ScriptFault {
 }
 
 /// Answers the lines of a script. Each answer is written before the next line is begun.
-fn answer_lines<W: Write, B: Walks, R: Rng>(
+fn answer_lines<W: Write, B: ListDesk, R: Rng>(
     alloc: Global,
     script: &[u8],
     writer: &mut W,
@@ -101,7 +101,7 @@ fn answer_lines<W: Write, B: Walks, R: Rng>(
 /// then each line is carried out and its answer written before the next line is begun. The
 /// interrupted reads and writes of the call are counted together, those of its lists among them; the
 /// thousandth is a fault. The writer is not flushed.
-pub fn run_script<I: Read, W: Write, B: Walks, R: Rng>(
+pub fn run_script<I: Read, W: Write, B: ListDesk, R: Rng>(
     alloc: Global,
     reader: &mut I,
     writer: &mut W,

@@ -1,5 +1,6 @@
 //! What the books say of room 101, and what an audit file's lines are answered.
 use crate::desks::room;
+use hotel_asks::ListDesk;
 use hotel_audit::{LineAnswer, answer_text, import};
 use hotel_core::{Books, FitRow};
 use keycard_rules::{CardNo, Code, Count, FitNo, LockNote, PartyNo, RoomNo};
@@ -119,7 +120,11 @@ fn texts_of(alloc: Global, answers: &[LineAnswer]) -> Result<Vec<u8>, Fail> {
 }
 
 /// The texts of the answers to a file's lines.
-pub fn answers_to<B: Books>(alloc: Global, books: &mut B, bytes: &[u8]) -> Result<Vec<u8>, Fail> {
+pub fn answers_to<B: ListDesk>(
+    alloc: Global,
+    books: &mut B,
+    bytes: &[u8],
+) -> Result<Vec<u8>, Fail> {
     let Ok(answers) = import(alloc, books, bytes) else {
         return Err(Fail::from("stopped"));
     };

@@ -13,6 +13,7 @@ ghost use Rattle.hotel_tables.specs.Causes.{LookUpFails};
 
 mod books;
 mod changes;
+mod desk;
 mod walks;
 
 use hotel_core::{KindRooms, NightIndex};
@@ -104,7 +105,7 @@ impl<S: Alter> Issued for TableBooks<S> {
 
     ghost never_fails = { ⊥ };
 
-    ghost has_answered = { λ _ b. HasCleanDisk (state S.Store b.conn) → IsKept (state S.Store b.conn) };
+    ghost has_answered = { λ _ _ _ b. HasCleanDisk (state S.Store b.conn) → IsKept (state S.Store b.conn) };
 
     fn is_issued(&mut self, code: Code) -> Result<bool, LookFault> {
         self.answers = false;

@@ -1,7 +1,7 @@
 //! A script, a list and a request of which each read and each write fails in turn, and some are interrupted.
 use crate::lists::{list_of, write_alone};
 use crate::wrong_calls::{Wrong, WrongReader, WrongWriter};
-use hotel_core::Walks;
+use hotel_asks::ListDesk;
 use hotel_http::{ServeFault, Served, serve_one};
 use hotel_lists::ListFault;
 use hotel_program::{ScriptEnd, ScriptFault, run_script};
@@ -191,7 +191,7 @@ impl Asked {
     /// Asks the desk.
     fn ask(
         &self,
-        desk: &mut Desk<impl Walks>,
+        desk: &mut Desk<impl ListDesk>,
         reader: &mut WrongReader<'_>,
         writer: &mut WrongWriter,
     ) -> Result<End, Fail> {
@@ -218,7 +218,7 @@ impl Asked {
 fn ends_so(
     rt: &(impl Abort + AllocGlobal),
     asked: &Asked,
-    desk: &mut Desk<impl Walks>,
+    desk: &mut Desk<impl ListDesk>,
     wrong: (Wrong, Wrong),
     end: End,
     text: &[u8],

@@ -1,7 +1,7 @@
 //! Drawing a code that was never issued.
 ghost use Rattle.std.specs.Prelude.{◌≡◌, false, Err, IfOk, IfSome, None};
 ghost use Rattle.keycard_rules.specs.{Words.is_one_of, Draw.words, Draw.past, Draw.MovedAtMost, Draw.Draws};
-ghost use Rattle.keycard_rules.specs.{Since.Since, Asked.WasAsked};
+ghost use Rattle.keycard_rules.specs.{Since.Since, Asked.WasCalled};
 ghost use Rattle.keycard_rules.specs.declared.draw.TheConstants.{MOST_WORDS};
 ghost use Rattle.keycard_rules.specs.{Draw.AllIssued, Draw.fault_in, Rise.HasRisen};
 
@@ -42,7 +42,7 @@ pub fn draw_fresh<R: Rng, I: Issued>(source: &mut R, issued: &mut I) -> Result<C
     ensures kept { I.is_clean issued.new → I.is_kept issued.old issued.new }
     ensures since { Since I.is_clean I.is_honest I.failures issued.old issued.new }
     ensures vouched { I.is_honest issued.new → fault_in result ≡ None → I.is_clean issued.new }
-    ensures asked { fault_in result ≡ None → WasAsked I.Issued issued.old issued.new }
+    ensures asked { fault_in result ≡ None → WasCalled I.Issued issued.old issued.new }
     ensures fault { IfSome (fault_in result) (λ why. HasRisen (I.failures issued.old why) (I.failures issued.new why)) }
     ensures sure { I.never_fails → fault_in result ≡ None }
 {

@@ -1,35 +1,38 @@
 -- What went over books, made of its parts.
 use Rattle.std.proofs.Common.{◌≡◌, Bool, true, false, not, List, [], ◌∷◌, ◌++◌, length, zip, refl, ap, arith}
+use Rattle.std.proofs.Common.{Option, Some, None}
 use Rattle.std.specs.Prelude.{⊤}
 use Rattle.std.proofs.lemmas.Bool.{not-true}
 use Rattle.hotel_core.proofs.Names.{false≢true, Stream, Since, since_refl, since_then, AreCounted, failure_in}
-use Rattle.hotel_core.proofs.{Names.WasAsked, OfCode.Calls.calls_join}
+use Rattle.hotel_core.proofs.{Names.WasAsked, Names.asked_now, OfCode.Calls.calls_join}
+use Rattle.hotel_core.specs.declared.asks.Ask.{Ask}
+use Rattle.hotel_core.specs.declared.asks.Ask.TheVariants as ask
 use Rattle.hotel_core.proofs.Names.{is_failed, Steps, Command, Reply, Refusal, Rows, History}
 use Rattle.hotel_model.proofs.Invariants.Assurance.{assured}
 use Rattle.hotel_core.proofs.{OfCode.FailuresCounted.none_counted, OfCode.FailuresCounted.counted_join}
 use Rattle.hotel_model.specs.Leads.{LeadsOn}
-use Rattle.hotel_core.specs.Books.Happens.{Happens, HappensBy, StepTold, Tells, has_answer}
+use Rattle.hotel_core.specs.Books.Happens.{Happens, HappensBy, StepTold, Tells, Told, asked_if, has_answer}
 use Rattle.hotel_core.specs.Books.Happens.{known_after}
 use Rattle.keycard_rules.specs.declared.issued.Issued.{Ghosts as IssuedOf}
 
 -- what is known after answers follows from what was known before them
-known_from : (A B : Type 0) (answered : List Bool) → (A → B) → known_after A answered → known_after B answered
+known_from : (A B : Type 0) (answered : List (Option Ask)) → (A → B) → known_after A answered → known_after B answered
 known_from A B [] f k = f k
-known_from A B (true ∷ later) f k = k
-known_from A B (false ∷ later) f k = k
+known_from A B (Some asked ∷ later) f k = k
+known_from A B (None ∷ later) f k = k
 
-known_on : (A : Type 0) (first more : List Bool)
+pub known_on : (A : Type 0) (first more : List (Option Ask))
     → known_after A (first ++ more) → known_after (known_after A first) more
 known_on A [] more k = k
-known_on A (true ∷ first) more k = known_on ⊤ first more k
-known_on A (false ∷ first) more k = known_on ⊥ first more k
+known_on A (Some asked ∷ first) more k = known_on ⊤ first more k
+known_on A (None ∷ first) more k = known_on ⊥ first more k
 
 -- an answer among some and others
-answer_in : (P : Type 0) (first more : List Bool)
+pub answer_in : (P : Type 0) (first more : List (Option Ask))
     → (has_answer first ≡ true → P) → (has_answer more ≡ true → P) → has_answer (first ++ more) ≡ true → P
 answer_in P [] more f g k = g k
-answer_in P (true ∷ first) more f g k = f refl
-answer_in P (false ∷ first) more f g k = answer_in P first more f g k
+answer_in P (Some asked ∷ first) more f g k = f refl
+answer_in P (None ∷ first) more f g k = answer_in P first more f g k
 
 -- books that weren't asked
 pub tells_none : {S : Type 0} (I : IssuedOf S) (old : S) → Tells I old old [] []
@@ -40,22 +43,29 @@ tells_none I old = record {
   ends = λ was. was;
 }
 
--- books that were asked once
-pub tells_once : {S : Type 0} {I : IssuedOf S} {old new : S} {failed : List Refusal} (answers : Bool)
+-- books that failed
+pub tells_failed : {S : Type 0} {I : IssuedOf S} {old new : S} {failed : List Refusal}
     → (I.is_clean new → AreCounted (I.failures old) (I.failures new) failed)
-    → (answers ≡ true → I.is_clean new) → (answers ≡ true → WasAsked I old new)
-    → Since I.is_clean I.is_honest I.failures old new → Tells I old new failed (answers ∷ [])
-tells_once {new = new} true counted vouched asked since = record {
+    → Since I.is_clean I.is_honest I.failures old new → Tells I old new failed (None ∷ [])
+tells_failed counted since =
+    record { counted = counted; asked = since; began = λ k. absurd (false≢true k); ends = λ k. absurd k }
+
+-- books that were asked once
+pub tells_once : {S : Type 0} {I : IssuedOf S} {old new : S} {failed : List Refusal} (answers : Bool) (asked : Ask)
+    → (I.is_clean new → AreCounted (I.failures old) (I.failures new) failed)
+    → (answers ≡ true → I.is_clean new) → (answers ≡ true → WasAsked I asked old new)
+    → Since I.is_clean I.is_honest I.failures old new → Tells I old new failed (asked_if answers asked ∷ [])
+tells_once {new = new} true wanted counted vouched asked since = record {
   counted = counted;
   asked = (new, asked refl, since_refl);
   began = λ k. since.was_clean (vouched refl);
   ends = λ k. vouched refl;
 }
-tells_once false counted vouched asked since =
-    record { counted = counted; asked = since; began = λ k. absurd (false≢true k); ends = λ k. absurd k }
+tells_once false wanted counted vouched asked since = tells_failed counted since
 
 -- books that were asked, and then asked again
-pub tells_join : {S : Type 0} {I : IssuedOf S} {old mid new : S} (failed more : List Refusal) (first later : List Bool)
+pub tells_join : {S : Type 0} {I : IssuedOf S} {old mid new : S} (failed more : List Refusal)
+    (first later : List (Option Ask))
     → Since I.is_clean I.is_honest I.failures old mid
     → Since I.is_clean I.is_honest I.failures mid new → Tells I old mid failed first → Tells I mid new more later
     → Tells I old new (failed ++ more) (first ++ later)
@@ -70,9 +80,10 @@ tells_join {I = I} {old = old} {mid = mid} {new = new} failed more first later b
 
 -- What happened over honest books led over clean ones.
 pub so_by : {S : Type 0} {I : IssuedOf S} {rows : S → Rows} {old new : S}
-    {went : Type 0 → (List Refusal → List Bool → Type 0) → History → History → Type 0}
-    → ((kept kept' : Type 0) (told told' : List Refusal → List Bool → Type 0) (h h' : History)
-    → (kept' → kept) → ((failed : List Refusal) (answered : List Bool) → told failed answered → told' failed answered)
+    {went : Type 0 → Told → History → History → Type 0}
+    → ((kept kept' : Type 0) (told told' : Told) (h h' : History)
+    → (kept' → kept)
+    → ((failed : List Refusal) (answered : List (Option Ask)) → told failed answered → told' failed answered)
     → went kept told h h' → went kept' told' h h')
     → ((a : S) → I.is_clean a → I.is_honest a) → Since I.is_clean I.is_honest I.failures old new
     → (I.is_honest new
@@ -89,9 +100,9 @@ so_by {I = I} {rows = rows} {old = old} {new = new} {went = went} weaken clean_h
 }
 
 pub happens_so : {S : Type 0} {I : IssuedOf S} {rows : S → Rows} {old new : S}
-    {went : (List Refusal → List Bool → Type 0) → History → History → Type 0}
-    → ((told told' : List Refusal → List Bool → Type 0) (h h' : History) → ((failed : List Refusal)
-    (answered : List Bool) → told failed answered → told' failed answered) → went told h h' → went told' h h')
+    {went : Told → History → History → Type 0}
+    → ((told told' : Told) (h h' : History) → ((failed : List Refusal)
+    (answered : List (Option Ask)) → told failed answered → told' failed answered) → went told h h' → went told' h h')
     → ((a : S) → I.is_clean a → I.is_honest a) → Since I.is_clean I.is_honest I.failures old new
     → (I.is_honest new → LeadsOn (I.is_clean old) (rows old) (went (Tells I old new)) (I.is_clean new) (rows new))
     → Happens I rows old went new
@@ -99,8 +110,8 @@ happens_so weaken = so_by (λ kept kept' told told' h h' back more. weaken told 
 
 -- Nothing was asked of the books.
 pub idle_by : {S : Type 0} (I : IssuedOf S) (rows : S → Rows) (old : S)
-    (went : Type 0 → (List Refusal → List Bool → Type 0) → History → History → Type 0)
-    → ((kept : Type 0) (told : List Refusal → List Bool → Type 0) (h : History) → told [] [] → went kept told h h)
+    (went : Type 0 → Told → History → History → Type 0)
+    → ((kept : Type 0) (told : Told) (h : History) → told [] [] → went kept told h h)
     → HappensBy I rows old went old
 idle_by I rows old went stays = record {
   leads = λ clean h stands. (
@@ -116,20 +127,20 @@ idle_by I rows old went stays = record {
 }
 
 pub happens_idle : {S : Type 0} (I : IssuedOf S) (rows : S → Rows) (old : S)
-    (went : (List Refusal → List Bool → Type 0) → History → History → Type 0)
-    → ((told : List Refusal → List Bool → Type 0) (h : History) → told [] [] → went told h h)
+    (went : Told → History → History → Type 0)
+    → ((told : Told) (h : History) → told [] [] → went told h h)
     → Happens I rows old went old
 happens_idle I rows old went stays = idle_by I rows old (λ kept. went) (λ kept. stays)
 
 -- What is told of two that went one after the other.
-abbrev pub Joins : (told first then : List Refusal → List Bool → Type 0) → Type 0
-Joins told first then = (failed more : List Refusal) (answered later : List Bool)
+abbrev pub Joins : (told first then : Told) → Type 0
+Joins told first then = (failed more : List Refusal) (answered later : List (Option Ask))
     → first failed answered → then more later → told (failed ++ more) (answered ++ later)
 
 -- One went, and then the other.
 pub then_by : {S : Type 0} {I : IssuedOf S} {rows : S → Rows} {old mid new : S}
-    {went next both : Type 0 → (List Refusal → List Bool → Type 0) → History → History → Type 0}
-    → ((before kept : Type 0) (told first then : List Refusal → List Bool → Type 0) (h k h' : History)
+    {went next both : Type 0 → Told → History → History → Type 0}
+    → ((before kept : Type 0) (told first then : Told) (h k h' : History)
     → (kept → before) → Joins told first then → went before first h k → next kept then k h' → both kept told h h')
     → HappensBy I rows old went mid → HappensBy I rows mid next new → HappensBy I rows old both new
 then_by {I = I} {rows = rows} {old = old} {mid = mid} {new = new} {went = went} {next = next} {both = both} join a b =
@@ -154,16 +165,16 @@ then_by {I = I} {rows = rows} {old = old} {mid = mid} {new = new} {went = went} 
     }
 
 pub happens_then : {S : Type 0} {I : IssuedOf S} {rows : S → Rows} {old mid new : S}
-    {went next both : (List Refusal → List Bool → Type 0) → History → History → Type 0}
-    → ((told first then : List Refusal → List Bool → Type 0) (h k h' : History)
+    {went next both : Told → History → History → Type 0}
+    → ((told first then : Told) (h k h' : History)
     → Joins told first then → went first h k → next then k h' → both told h h')
     → Happens I rows old went mid → Happens I rows mid next new → Happens I rows old both new
 happens_then join = then_by (λ before kept told first then h k h' back. join told first then h k h')
 
 -- What went is said otherwise.
 pub as_by : {S : Type 0} {I : IssuedOf S} {rows : S → Rows} {old new : S}
-    {went other : Type 0 → (List Refusal → List Bool → Type 0) → History → History → Type 0}
-    → ((kept : Type 0) (told : List Refusal → List Bool → Type 0) (h h' : History)
+    {went other : Type 0 → Told → History → History → Type 0}
+    → ((kept : Type 0) (told : Told) (h h' : History)
     → went kept told h h' → other kept told h h') → HappensBy I rows old went new → HappensBy I rows old other new
 as_by {I = I} {old = old} {new = new} say a = record {
   leads = λ clean h stands. let p = a.leads clean h stands in
@@ -174,8 +185,8 @@ as_by {I = I} {old = old} {new = new} say a = record {
 }
 
 pub happens_as : {S : Type 0} {I : IssuedOf S} {rows : S → Rows} {old new : S}
-    {went other : (List Refusal → List Bool → Type 0) → History → History → Type 0}
-    → ((told : List Refusal → List Bool → Type 0) (h h' : History) → went told h h' → other told h h')
+    {went other : Told → History → History → Type 0}
+    → ((told : Told) (h h' : History) → went told h h' → other told h h')
     → Happens I rows old went new → Happens I rows old other new
 happens_as say = as_by (λ kept. say)
 
@@ -187,7 +198,7 @@ pub step_happens : {S : Type 0} {I : IssuedOf S} {rows : S → Rows} {old new : 
     → LeadsOn (I.is_clean old) (rows old) (λ h h'. Steps h s command reply h' s') (I.is_clean new) (rows new))
     → (I.is_clean new → AreCounted (I.failures old) (I.failures new) (failure_in reply))
     → (I.is_honest new → is_failed reply ≡ false → I.is_clean new)
-    → (is_failed reply ≡ false → WasAsked I old new)
+    → (is_failed reply ≡ false → I.has_answered Ask (ask.Command command) old new)
     → Happens I rows old (StepTold s command reply s') new
 step_happens s s' command reply clean_honest since step failed vouched asked =
     happens_so (λ told told' h h' more went. (went.0, more _ _ went.1)) clean_honest since
@@ -198,8 +209,9 @@ step_happens s s' command reply clean_honest since step failed vouched asked =
       p.2,
       (
         p.3,
-        tells_once (not (is_failed reply)) failed (λ k. vouched honest (not-true (is_failed reply) k))
-            (λ k. asked (not-true (is_failed reply) k)) since,
+        tells_once (not (is_failed reply)) (ask.Command command) failed
+            (λ k. vouched honest (not-true (is_failed reply) k))
+            (λ k. asked_now since (asked (not-true (is_failed reply) k))) since,
       ),
       p.4,
     ))

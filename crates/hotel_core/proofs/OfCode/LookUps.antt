@@ -39,7 +39,7 @@ module _ {S A : Type 0} {I : IssuedOf S} {B : BooksOf S} {old new : S}
       vouched = λ honest k. l.vouched honest;
       fault = λ clean whole cause e. cc;
     };
-    asked = λ k. asked_now l.asked;
+    asked = λ k. asked_now l.since l.asked;
   }
 
   -- what is known of the books
@@ -70,7 +70,7 @@ module _ {S A : Type 0} {I : IssuedOf S} {B : BooksOf S} {old new : S}
           fault = λ clean whole cause n. absurd (false≢true (sym k
               ∙ (ap is_failed (let s : ◌≡◌ {A = Reply} (Refused _) (Refused _) = cc in s) ∙ faults cause)));
         };
-        asked = λ _. asked_now l.asked;
+        asked = λ _. asked_now l.since l.asked;
       })
   finds_there {why = why} wanted (Err fault) result k l e =
       subst (λ x. Finds I B AnyRows why wanted old new x) (sym e) (failed fault l)

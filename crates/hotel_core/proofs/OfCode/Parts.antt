@@ -4,7 +4,7 @@ use Rattle.std.proofs.Common.{arith, subst, IsErrAnd, List, [], ◌∷◌, ◌++
 use Rattle.hotel_core.proofs.Names.{false≢true, Stream, past, HasRisen, LookFault, Since, since_refl, since_then}
 use Rattle.hotel_core.proofs.Names.{Change, Reply, Refused, Refusal, Store, Rows, number_after, is_failed, Outcome}
 use Rattle.hotel_core.proofs.Names.{refused, accepted, unless, made, GoesIf, Goes, made_by, AreWhole, StepsAs, Finds}
-use Rattle.hotel_core.proofs.Names.{FindsGiven, WasAsked, asked_then, asked_before}
+use Rattle.hotel_core.proofs.Names.{FindsGiven, WasCalled, asked_then, asked_before}
 use Rattle.hotel_core.proofs.Names.{AnyRows, reply_of, refusal_of, first_refusal, Ghosts as BooksOf}
 use Rattle.keycard_rules.proofs.Drawing.{past-zero}
 use Rattle.keycard_rules.specs.Draw.{MovedAtMost}
@@ -19,7 +19,7 @@ pub record SoFar {S : Type 0} (I : IssuedOf S) (B : BooksOf S) (v : Bool) (facts
   pub same : I.is_clean now → B.rows now ≡ B.rows start
   pub since : Since I.is_clean I.is_honest I.failures start now
   pub vouched : v ≡ true → I.is_honest now → I.is_clean now
-  pub asked : v ≡ true → WasAsked I start now
+  pub asked : v ≡ true → WasCalled I start now
 
 -- a fault's refusal is a failure
 pub faults : (fault : LookFault) → is_failed (Refused (refusal_of fault)) ≡ true
@@ -49,7 +49,7 @@ at_now {facts = facts} s clean = subst facts (sym (s.same clean)) (s.facts_hold 
 -- something was found, and this is known of calls before it or in it
 known_by : {S A : Type 0} {I : IssuedOf S} {B : BooksOf S} {v : Bool} {facts : Rows → Type 0}
     {are_whole : Rows → Type 0} {why : Refusal} {wanted : Rows → Option A} {start old new : S} {a : A}
-    → SoFar I B v facts start old → FindsGiven I B are_whole why wanted old new (Ok a) → WasAsked I start new
+    → SoFar I B v facts start old → FindsGiven I B are_whole why wanted old new (Ok a) → WasCalled I start new
     → SoFar I B true (λ rs. facts rs × (wanted rs ≡ Some a)) start new
 known_by {wanted = wanted} s f asked = record {
   facts_hold = λ clean.
@@ -100,7 +100,7 @@ stopped_by : {S A : Type 0} {I : IssuedOf S} {B : BooksOf S} {v : Bool} {facts :
     {are_whole : Rows → Type 0} {why : Refusal} {wanted : Rows → Option A} {start old new : S} {e : Refusal}
     {outcome : Rows → Outcome Change} {source : Stream}
     → SoFar I B v facts start old → FindsGiven I B are_whole why wanted old new (Err e)
-    → (is_failed (Refused e) ≡ false → WasAsked I start new)
+    → (is_failed (Refused e) ≡ false → WasCalled I start new)
     → (AreWhole (B.rows start) → facts (B.rows start) → are_whole (B.rows start))
     → (facts (B.rows start) → wanted (B.rows start) ≡ None → is_failed (Refused why) ≡ false
     → outcome (B.rows start) ≡ refused why)
@@ -233,7 +233,7 @@ made_at false answer change rows later source k same = (refl, same, sym (past-ze
 pub makes : {S : Type 0} {I : IssuedOf S} {B : BooksOf S} {old new : S} (answer : Reply)
     (change : Change) (source : Stream)
     → is_failed answer ≡ false → (I.is_clean new → B.rows new ≡ made change (B.rows old))
-    → Since I.is_clean I.is_honest I.failures old new → (I.is_honest new → I.is_clean new) → WasAsked I old new
+    → Since I.is_clean I.is_honest I.failures old new → (I.is_honest new → I.is_clean new) → WasCalled I old new
     → StepsAs I B (λ _. accepted answer change) old new source source answer
 makes {B = B} {old = old} {new = new} answer change source k m since v asked = record {
   goes = λ clean. made_at (is_failed answer) answer change (B.rows old) (B.rows new) source k (m clean);

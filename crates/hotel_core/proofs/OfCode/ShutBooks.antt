@@ -1,10 +1,13 @@
 -- Books that were not clean as a call began answer with failures.
 use Rattle.std.proofs.Common.{◌≡◌, Bool, true, false, not, List, [], ◌∷◌, Result, Ok, Err, OnOk, IsErr, refl, subst}
 use Rattle.std.specs.List.{AllByRecursion}
+use Rattle.std.proofs.Common.{Option}
+use Rattle.hotel_core.specs.declared.asks.Ask.{Ask}
+use Rattle.hotel_core.specs.declared.asks.Ask.TheVariants as ask
 use Rattle.hotel_core.proofs.Names.{Command, History, LookFault, Refusal, Reply, Rows, Stream, is_failed, start}
 use Rattle.hotel_model.specs.Rows.{no_rows}
 use Rattle.hotel_model.proofs.SoundRows.NoRows.{none_sound}
-use Rattle.hotel_core.specs.Books.Happens.{CommandHappens, HappensBy, Tells, has_answer}
+use Rattle.hotel_core.specs.Books.Happens.{CommandHappens, HappensBy, Tells, Told, asked_if, has_answer}
 use Rattle.hotel_core.specs.Books.Passes.{Passes}
 use Rattle.hotel_core.specs.Books.Shut.{BeganShut, FindsNothing, ChangesNothing, RepliesNothing, RunsNothing}
 use Rattle.keycard_rules.specs.declared.issued.Issued.{Ghosts as IssuedOf}
@@ -55,7 +58,7 @@ passes_shut I books asks comes honest clean each old new (item ∷ later) p shut
 
 -- what went over books that were not clean as it began, which they aren't as it ends either
 pub happens_shut : {S : Type 0} {I : IssuedOf S} {rows : S → Rows} {old new : S}
-    {went : Type 0 → (List Refusal → List Bool → Type 0) → History → History → Type 0}
+    {went : Type 0 → Told → History → History → Type 0}
     → HappensBy I rows old went new → BeganShut I old new
     → (h h' : History) × went (I.is_clean new) (Tells I old new) h h' × (I.is_clean new → ⊥)
 happens_shut a shut =
@@ -67,14 +70,14 @@ none_is true k = absurd (k refl)
 none_is false k = refl
 
 -- such books answered nothing
-pub tells_shut : {S : Type 0} {I : IssuedOf S} {old new : S} {failed : List Refusal} {answered : List Bool}
+pub tells_shut : {S : Type 0} {I : IssuedOf S} {old new : S} {failed : List Refusal} {answered : List (Option Ask)}
     → Tells I old new failed answered → BeganShut I old new → has_answer answered ≡ false
 tells_shut {answered = answered} t shut = none_is (has_answer answered) (λ k. shut.1 (t.began k))
 
 -- a reply that is no answer is a failure
-pub reply_fails : (failed : Bool) → has_answer (not failed ∷ []) ≡ false → failed ≡ true
-reply_fails true k = refl
-reply_fails false k = cc k
+pub reply_fails : (failed : Bool) (asked : Ask) → has_answer (asked_if (not failed) asked ∷ []) ≡ false → failed ≡ true
+reply_fails true asked k = refl
+reply_fails false asked k = cc k
 
 -- a command's reply in such a state
 command_fails : {S R : Type 0} (I : IssuedOf S) (rows : S → Rows) (stream : R → Stream)
@@ -82,7 +85,7 @@ command_fails : {S R : Type 0} (I : IssuedOf S) (rows : S → Rows) (stream : R 
     → CommandHappens I rows stream old asked new → BeganShut I old.0 new.0 → is_failed asked.1 ≡ true
 command_fails I rows stream old new asked went shut =
     let s = happens_shut went shut in
-    reply_fails (is_failed asked.1) (tells_shut s.2.1 shut)
+    reply_fails (is_failed asked.1) (ask.Command asked.0) (tells_shut s.2.1 shut)
 
 pub runs_nothing : {S R : Type 0} (I : IssuedOf S) (rows : S → Rows) (stream : R → Stream) → RunsNothing I rows stream
 runs_nothing I rows stream =

@@ -3,7 +3,7 @@ use Rattle.std.specs.Prelude.{ℕ, ◌≡◌, Bool, true, false, List, [], ◌�
 use Rattle.rand_core.specs.Stream.{Stream}
 use Rattle.keycard_rules.specs.declared.draw.TheConstants.{MOST_WORDS}
 use Rattle.keycard_rules.specs.{Draw.Draw, Draw.words, Draw.past, Draw.draw_from, Draw.MovedAtMost, Rise.HasRisen}
-use Rattle.keycard_rules.specs.{Since.Since, Asked.WasAsked}
+use Rattle.keycard_rules.specs.{Since.Since, Asked.WasCalled}
 use Rattle.keycard_rules.specs.{declared.issued.LookFault.LookFault}
 use Rattle.keycard_rules.specs.{declared.draw.DrawFault.DrawFault, declared.issued.Issued.Ghosts as IssuedOf}
 use Rattle.keycard_rules.specs.declared.draw.DrawFault.TheVariants as draw
@@ -55,7 +55,7 @@ pub record FindsGiven {S A : Type 0} (I : IssuedOf S) (B : BooksOf S) (are_whole
 pub record Finds {S A : Type 0} (I : IssuedOf S) (B : BooksOf S) (are_whole : Rows → Type 0) (why : Refusal)
     (wanted : Rows → Option A) (old new : S) (result : Result A Refusal) : Type 0 where
   pub found : FindsGiven I B are_whole why wanted old new result
-  pub asked : has_failed result ≡ false → WasAsked I old new
+  pub asked : has_failed result ≡ false → WasCalled I old new
 
 -- all rows are whole enough
 abbrev pub AnyRows : Rows → Type 0

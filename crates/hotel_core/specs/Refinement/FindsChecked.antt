@@ -1,6 +1,6 @@
 -- What a part of a step checks in the books: the checks pass, or one of them refuses.
 use Rattle.std.specs.Prelude.{◌≡◌, false, List, Option, Some, None, Result, Ok, Err}
-use Rattle.keycard_rules.specs.{declared.issued.LookFault.LookFault, Rise.HasRisen, Since.Since, Asked.WasAsked}
+use Rattle.keycard_rules.specs.{declared.issued.LookFault.LookFault, Rise.HasRisen, Since.Since, Asked.WasCalled}
 use Rattle.keycard_rules.specs.declared.issued.Issued.{Ghosts as IssuedOf}
 use Rattle.hotel_model.specs.{declared.reply.Refusal.Refusal, Rows.Rows, Run.is_failed}
 use Rattle.hotel_model.specs.declared.reply.Reply.TheVariants as reply
@@ -20,6 +20,6 @@ pub record FindsChecked {S : Type 0} (I : IssuedOf S) (B : BooksOf S) (checks : 
   pub same : I.is_clean new → B.rows new ≡ B.rows old
   pub since : Since I.is_clean I.is_honest I.failures old new
   pub vouched : I.is_honest new → has_failed result ≡ false → I.is_clean new
-  pub asked : has_failed result ≡ false → WasAsked I old new
+  pub asked : has_failed result ≡ false → WasCalled I old new
   pub fault : I.is_clean new → (cause : LookFault) → result ≡ Err (refusal_of cause)
       → HasRisen (I.failures old cause) (I.failures new cause)

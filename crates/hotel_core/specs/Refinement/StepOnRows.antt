@@ -2,7 +2,7 @@
 use Rattle.std.specs.Prelude.{◌⊎◌, ◌≡◌, true, false}
 use Rattle.keycard_rules.specs.{declared.issued.LookFault.LookFault, Draw.MovedAtMost, Draw.words, Rise.HasRisen}
 use Rattle.keycard_rules.specs.declared.draw.TheConstants.{MOST_WORDS}
-use Rattle.keycard_rules.specs.{Since.Since, Asked.WasAsked}
+use Rattle.keycard_rules.specs.{Since.Since, Asked.WasCalled}
 use Rattle.rand_core.specs.Stream.{Stream}
 use Rattle.hotel_model.specs.{declared.command.Command.Command, declared.change.Change.Change}
 use Rattle.hotel_model.specs.{declared.reply.Reply.Reply, Rows.Rows}
@@ -22,7 +22,7 @@ pub record StepsAs {S : Type 0} (I : IssuedOf S) (B : BooksOf S) (outcome : Rows
   pub goes : I.is_clean new → Goes (outcome (B.rows old)) (B.rows old) source answer (B.rows new) rest
   pub since : Since I.is_clean I.is_honest I.failures old new
   pub vouched : I.is_honest new → is_failed answer ≡ false → I.is_clean new
-  pub asked : is_failed answer ≡ false → WasAsked I old new
+  pub asked : is_failed answer ≡ false → WasCalled I old new
   pub moved : I.is_honest new → is_failed answer ≡ true → (rest ≡ source)
       ⊎ (I.is_clean old × MovedAtMost (outcome (B.rows old)).examined source rest)
   pub fault : I.is_clean new → AreWhole (B.rows old) → (cause : LookFault) → answer ≡ reply.Refused (refusal_of cause)

@@ -6,12 +6,12 @@ use Rattle.std.proofs.lemmas.Bool.{not-true}
 use Rattle.rand_core.specs.Stream.{Stream}
 use Rattle.keycard_rules.specs.{Since.Since, declared.issued.Issued.Ghosts as IssuedOf}
 use Rattle.keycard_rules.proofs.Sinces.{since_refl}
-use Rattle.hotel_core.proofs.Names.{WasAsked, false≢true}
+use Rattle.hotel_core.proofs.Names.{asked_now, false≢true}
 use Rattle.hotel_model.proofs.Invariants.Assurance.{assured}
 use Rattle.hotel_core.proofs.OfCode.FailuresCounted.{none_counted}
-use Rattle.hotel_core.proofs.OfCode.Happens.{so_by, tells_none, tells_once}
+use Rattle.hotel_core.proofs.OfCode.Happens.{so_by, tells_failed, tells_none, tells_once}
 use Rattle.hotel_core.specs.Books.Failures.{AreCounted, failure_in}
-use Rattle.hotel_core.specs.Books.Happens.{HappensBy, Tells}
+use Rattle.hotel_core.specs.Books.Happens.{HappensBy, Tells, Told}
 use Rattle.hotel_model.specs.declared.command.Command.{Command}
 use Rattle.hotel_model.specs.declared.reply.Reply.{Reply}
 use Rattle.hotel_model.specs.declared.reply.Refusal.{Refusal}
@@ -24,9 +24,9 @@ use Rattle.hotel_core.specs.Texts.{reply_text}
 use Rattle.hotel_lists.specs.{Bytes.AppendsFront, declared.calls.WriteFailed.WriteFailed, Listings.Listing}
 use Rattle.hotel_asks.specs.Asks.{copies, ask_copies}
 use Rattle.hotel_asks.specs.Listings.{listing_on, listing_over}
-use Rattle.hotel_asks.specs.declared.asks.Ask.{Ask}
-use Rattle.hotel_asks.specs.declared.asks.Ask.TheVariants as ask
-use Rattle.hotel_asks.specs.declared.lists.ListAsk.{ListAsk}
+use Rattle.hotel_core.specs.declared.asks.Ask.{Ask}
+use Rattle.hotel_core.specs.declared.asks.Ask.TheVariants as ask
+use Rattle.hotel_core.specs.declared.asks.ListAsk.{ListAsk}
 use Rattle.hotel_asks.proofs.ListingLemmas.{listing_stands}
 use Rattle.hotel_program.specs.Script.Copies.{counted_in}
 use Rattle.hotel_program.specs.Script.Asks.{AsksCopy}
@@ -39,8 +39,8 @@ use Rattle.hotel_program.proofs.OfScript.ScriptLemmas.{ask_weaker, ask_without_m
 -- where more is told and known, it ended so too
 ends_weaker : (wanted : Option Ask) (s s' : Stream) (old new : Option (List ℕ))
     (written : Result (Unit {0}) WriteFailed) (kept kept' : Type 0)
-    (told told' : List Refusal → List Bool → Type 0) (h h' : History)
-    → (kept' → kept) → ((failed : List Refusal) (answered : List Bool) → told failed answered → told' failed answered)
+    (told told' : Told) (h h' : History) → (kept' → kept)
+    → ((failed : List Refusal) (answered : List (Option Ask)) → told failed answered → told' failed answered)
     → AskEnds wanted s s' old new written kept told h h' → AskEnds wanted s s' old new written kept' told' h h'
 ends_weaker wanted s s' old new (Ok done) kept kept' told told' h h' back more a = (
   a.0,
@@ -54,7 +54,7 @@ ends_weaker wanted s s' old new (Err failed) kept kept' told told' h h' back mor
   a.1,
   ask_weaker (λ text. kept) (λ text. kept') wanted h h' s s' a.0 a.1 (λ text now. back now) a.2,
   a.3,
-  more a.1 (false ∷ []) a.4,
+  more a.1 (None ∷ []) a.4,
 )
 
 -- a command is carried out
@@ -63,7 +63,8 @@ pub command_ends : {S : Type 0} {I : IssuedOf S} {rows : S → Rows} {a b : S} (
     → ((x : S) → I.is_clean x → I.is_honest x) → Since I.is_clean I.is_honest I.failures a b
     → (I.is_honest b → LeadsOn (I.is_clean a) (rows a) (λ h h'. Steps h s command reply h' t) (I.is_clean b) (rows b))
     → (I.is_clean b → AreCounted (I.failures a) (I.failures b) (failure_in reply))
-    → (I.is_honest b → is_failed reply ≡ false → I.is_clean b) → (is_failed reply ≡ false → WasAsked I a b)
+    → (I.is_honest b → is_failed reply ≡ false → I.is_clean b) → (is_failed reply ≡ false
+    → I.has_answered Ask (ask.Command command) a b)
     → OnOk written (Appends old new (reply_text reply)) → OnErr written (AppendsFront old new (reply_text reply))
     → HappensBy I rows a (AskEnds (Some (ask.Command command)) s t old new written) b
 command_ends {I = I} {a = a} {b = b} s t command reply old new
@@ -71,19 +72,18 @@ command_ends {I = I} {a = a} {b = b} s t command reply old new
     so_by (ends_weaker (Some (ask.Command command)) s t old new (Ok done)) honest_is since
     (λ honest h reached stands.
     let p = step honest h reached stands in
-    let told = tells_once (not (tells_failure (reply_text reply)))
+    let told = tells_once (not (tells_failure (reply_text reply))) (ask.Command command)
     (λ clean. known_counted (I.failures a) (I.failures b) reply (copies command) since.counted (failed clean))
     (λ k. vouched honest (reply_sure reply (not-true (tells_failure (reply_text reply)) k)))
-    (λ k. asked (reply_sure reply (not-true (tells_failure (reply_text reply)) k))) since in
+    (λ k. asked_now since (asked (reply_sure reply (not-true (tells_failure (reply_text reply)) k)))) since in
     (p.0, p.1, p.2, (reply_text reply, counted_in reply (copies command), (reply, p.3, refl, refl), whole, told), p.4))
 command_ends {I = I} {a = a} {b = b} s t command reply old new
     (Err cut) honest_is since step failed vouched asked whole front =
     so_by (ends_weaker (Some (ask.Command command)) s t old new (Err cut)) honest_is since
     (λ honest h reached stands.
     let p = step honest h reached stands in
-    let told = tells_once false (λ clean. known_counted (I.failures a) (I.failures b) reply
-    (copies command) since.counted (failed clean)) (λ k. absurd (false≢true k))
-    (λ k. absurd (false≢true k)) since in
+    let told = tells_failed (λ clean. known_counted (I.failures a) (I.failures b) reply
+    (copies command) since.counted (failed clean)) since in
     (p.0, p.1, p.2, (reply_text reply, counted_in reply (copies command), (reply, p.3, refl, refl), front, told), p.4))
 
 either : {C : Type 0} (b : Bool) → (b ≡ true → C) → (b ≡ false → C) → C
@@ -97,7 +97,7 @@ pub list_cut : {S : Type 0} {I : IssuedOf S} {rows : S → Rows} {a b : S} (its_
     → (I.is_clean b → rows b ≡ rows a)
     → (I.is_honest b
     → ListAnswered (listing_on (rows a) its_list) (AppendsFront old new) (AreCounted (I.failures a) (I.failures b)))
-    → HappensBy I rows a (λ kept. AskAnswered (λ text. kept) (AppendsFront old new) (λ text. false ∷ [])
+    → HappensBy I rows a (λ kept. AskAnswered (λ text. kept) (AppendsFront old new) (λ text. None ∷ [])
     (Some (ask.List its_list)) s s) b
 list_cut {I = I} {rows = rows} {a = a} {b = b} its_list s old new honest_is since same front =
     so_by (λ kept kept' told told' h h' back more w. (
@@ -105,7 +105,7 @@ list_cut {I = I} {rows = rows} {a = a} {b = b} its_list s old new honest_is sinc
       w.1,
       ask_weaker (λ text. kept) (λ text. kept') (Some (ask.List its_list)) h h' s s w.0 w.1 (λ text now. back now) w.2,
       w.3,
-      more w.1 (false ∷ []) w.4,
+      more w.1 (None ∷ []) w.4,
     ))
     honest_is since
     (λ honest h reached stands.
@@ -113,7 +113,7 @@ list_cut {I = I} {rows = rows} {a = a} {b = b} its_list s old new honest_is sinc
     let answers : I.is_clean b → AnswersList (listing_over h its_list) it.0 it.1 =
     λ clean. subst (λ (l : Option Listing). AnswersList l it.0 it.1)
     (listing_stands h (rows a) its_list (reached, stands (since.was_clean clean))) it.2 in
-    let told = tells_once false (λ clean. it.4) (λ k. absurd (false≢true k)) (λ k. absurd (false≢true k)) since in (
+    let told = tells_failed (λ clean. it.4) since in (
       h,
       reached,
       (λ clean. same clean ∙ stands (since.was_clean clean)),
@@ -127,7 +127,8 @@ pub list_ends : {S : Type 0} {I : IssuedOf S} {rows : S → Rows} {a b : S} (its
     → ((x : S) → I.is_clean x → I.is_honest x) → Since I.is_clean I.is_honest I.failures a b
     → (I.is_clean b → rows b ≡ rows a)
     → (I.is_honest b → OnOk written (ListAnswered (listing_on (rows a) its_list)
-    (Whole old new (I.is_clean b × WasAsked I a b)) (AreCounted (I.failures a) (I.failures b))))
+    (Whole old new (I.is_clean b × I.has_answered Ask (ask.List its_list) a b))
+    (AreCounted (I.failures a) (I.failures b))))
     → (I.is_honest b → OnErr written (ListAnswered (listing_on (rows a) its_list) (AppendsFront old new)
     (AreCounted (I.failures a) (I.failures b))))
     → HappensBy I rows a (AskEnds (Some (ask.List its_list)) s s old new written) b
@@ -138,8 +139,9 @@ list_ends {I = I} {rows = rows} {a = a} {b = b} its_list s old new (Ok done) hon
     let answers : I.is_clean b → AnswersList (listing_over h its_list) it.0 it.1 =
     λ clean. subst (λ (l : Option Listing). AnswersList l it.0 it.1)
     (listing_stands h (rows a) its_list (reached, stands (since.was_clean clean))) it.2 in
-    let told = tells_once (not (tells_failure it.0)) (λ clean. it.4)
-    (λ k. (it.3.1 (not-true (tells_failure it.0) k)).0) (λ k. (it.3.1 (not-true (tells_failure it.0) k)).1) since in (
+    let vouched = λ (k : not (tells_failure it.0) ≡ true). it.3.1 (not-true (tells_failure it.0) k) in
+    let told = tells_once (not (tells_failure it.0)) (ask.List its_list) (λ clean. it.4) (λ k. (vouched k).0)
+    (λ k. asked_now since (vouched k).1) since in (
       h,
       reached,
       (λ clean. same clean ∙ stands (since.was_clean clean)),
@@ -170,8 +172,7 @@ quiet_ends {I = I} a wanted s text old new (Ok done) honest_is goes tells whole 
 quiet_ends {I = I} a wanted s text old new (Err cut) honest_is goes tells whole front =
     so_by (ends_weaker wanted s s old new (Err cut)) honest_is since_refl
     (λ honest h reached stands.
-    let told = tells_once false (λ clean. none_counted (I.failures a) (I.failures a) (λ cause. omega arith))
-    (λ k. absurd (false≢true k)) (λ k. absurd (false≢true k)) since_refl in
+    let told = tells_failed (λ clean. none_counted (I.failures a) (I.failures a) (λ cause. omega arith)) since_refl in
     (h, reached, stands, (text, [], goes (λ t. I.is_clean a) h, front, told), assured h reached))
 
 -- an unread line is answered
@@ -189,7 +190,7 @@ without_memory_tells : {S : Type 0} {I : IssuedOf S} (a : S) (wanted : Option As
     → AsksCopy ask_copies wanted → Tells I a a [] (answered_to wanted (refusal_text refusal.Memory))
 without_memory_tells a None copied = absurd copied
 without_memory_tells {I = I} a (Some given) copied =
-    tells_once (not (tells_failure (refusal_text refusal.Memory)))
+    tells_once (not (tells_failure (refusal_text refusal.Memory))) given
     (λ clean. none_counted (I.failures a) (I.failures a) (λ cause. omega arith))
     (λ k. absurd (no_answer k)) (λ k. absurd (no_answer k)) since_refl
   where

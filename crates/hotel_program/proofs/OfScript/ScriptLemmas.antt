@@ -1,5 +1,5 @@
 -- Lines of a script, answered one after the other.
-use Rattle.std.proofs.Common.{◌≡◌, ℕ, Bool, zero, suc, ◌+◌, ◌≤◌, List, [], ◌∷◌, ◌++◌, length, take, drop, arith, refl}
+use Rattle.std.proofs.Common.{◌≡◌, ℕ, zero, suc, ◌+◌, ◌≤◌, List, [], ◌∷◌, ◌++◌, length, take, drop, arith, refl}
 use Rattle.std.proofs.Common.{sym, ap, subst, ◌∙◌, append_assoc, append-nil, length-append, take-append-drop, add-one}
 use Rattle.std.proofs.Common.{Option, Some, None, false, Result, Ok, Err}
 use Rattle.std.proofs.Math.Seq.{take-append-add}
@@ -15,8 +15,8 @@ use Rattle.hotel_core.proofs.OfCode.Happens.{idle_by, then_by}
 use Rattle.hotel_core.proofs.OfCode.Passes.{passes_push}
 use Rattle.hotel_core.specs.Books.Happens.{HappensBy}
 use Rattle.hotel_core.specs.Books.Passes.{Passes}
-use Rattle.hotel_asks.specs.declared.asks.Ask.{Ask}
-use Rattle.hotel_asks.specs.declared.asks.Ask.TheVariants as ask
+use Rattle.hotel_core.specs.declared.asks.Ask.{Ask}
+use Rattle.hotel_core.specs.declared.asks.Ask.TheVariants as ask
 use Rattle.hotel_model.specs.declared.reply.Reply.TheVariants.{Refused}
 use Rattle.hotel_model.specs.declared.reply.Refusal.{Refusal}
 use Rattle.hotel_model.specs.declared.reply.Refusal.TheVariants.{Memory}
@@ -100,7 +100,7 @@ answers_push : (sure : List ℕ → Type 0) (ls texts : List (List ℕ)) (h h' :
 unfolding ScriptGoes answers_to
 answers_push sure [] [] h h' s s' failed line text r = append-nil (answered_to (ask_in line) text)
 answers_push sure (first ∷ later) (one ∷ texts) h h' s s' failed line text r =
-    ap (λ (l : List Bool). answered_to (ask_in first) one ++ l)
+    ap (λ (l : List (Option Ask)). answered_to (ask_in first) one ++ l)
     (answers_push sure later texts r.0 h' r.1 s' r.3 line text r.5)
     ∙ sym (append_assoc (answered_to (ask_in first) one) (answers_to later texts) (answered_to (ask_in line) text))
 answers_push sure [] (one ∷ texts) h h' s s' failed line text r = absurd r
@@ -112,7 +112,7 @@ answers_before : (sure : List ℕ → Type 0) (ls texts : List (List ℕ)) (h h'
 unfolding ScriptGoes answers_to
 answers_before sure [] [] h h' s s' failed line r = refl
 answers_before sure (first ∷ later) (one ∷ texts) h h' s s' failed line r =
-    ap (λ (l : List Bool). answered_to (ask_in first) one ++ l)
+    ap (λ (l : List (Option Ask)). answered_to (ask_in first) one ++ l)
     (answers_before sure later texts r.0 h' r.1 s' r.3 line r.5)
 answers_before sure [] (one ∷ texts) h h' s s' failed line r = absurd r
 answers_before sure (first ∷ later) [] h h' s s' failed line r = absurd r
@@ -172,7 +172,7 @@ answered_next s t u all done line later old mid new first e next =
       f.1 ++ n.1,
       went_next (Sure kept) h k h' s t u all done line later f.0 n.0 f.1 n.1 e went n.2,
       subst (Appends old new) (sym (concat-push f.0 n.0)) (Appends-trans old mid new (concat f.0) n.0 f.3 n.3),
-      subst (λ (l : List Bool). told (f.1 ++ n.1) l) (sym answers)
+      subst (λ (l : List (Option Ask)). told (f.1 ++ n.1) l) (sym answers)
           (join f.1 n.1 (answers_to (take done all) f.0) (answered_to (ask_in line) n.0) f.4 n.4),
     )) first next
 
@@ -196,8 +196,8 @@ cut_next s t u all done line later old mid new failed first e next =
       front.0,
       front.1,
       Appends-trans old mid new (concat f.0) (take front.0 n.0) f.3 front.2,
-      subst (λ (l : List Bool). told (f.1 ++ n.1) (l ++ false ∷ [])) (sym answers)
-          (join f.1 n.1 (answers_to (take done all) f.0) (false ∷ []) f.4 n.4),
+      subst (λ (l : List (Option Ask)). told (f.1 ++ n.1) (l ++ None ∷ [])) (sym answers)
+          (join f.1 n.1 (answers_to (take done all) f.0) (None ∷ []) f.4 n.4),
     )) first next
 
 -- no line is answered yet

@@ -9,8 +9,8 @@ use Rattle.hotel_model.specs.Run.{Runs}
 use Rattle.hotel_asks.specs.Asks.{copies}
 use Rattle.hotel_program.specs.Script.Copies.{counted_in}
 use Rattle.hotel_program.specs.Script.Asks.{ask_in}
-use Rattle.hotel_asks.specs.declared.asks.Ask.{Ask}
-use Rattle.hotel_asks.specs.declared.asks.Ask.TheVariants as ask
+use Rattle.hotel_core.specs.declared.asks.Ask.{Ask}
+use Rattle.hotel_core.specs.declared.asks.Ask.TheVariants as ask
 use Rattle.hotel_program.specs.Script.LineAnswers.{AskGoes, LineGoes}
 use Rattle.hotel_program.specs.Script.WholeScript.{ScriptGoes}
 use Rattle.hotel_program.specs.Script.ScriptRun.{commands_of, texts_of, failed_of, ScriptsRun, ListsBetween}

@@ -1,7 +1,7 @@
 -- What a script's line asks for.
 use Rattle.std.specs.Prelude.{◌≡◌, ℕ, zero, suc, Bool, true, List, [], ◌∷◌, if◌then◌else◌, Option, Some, None, Result}
 use Rattle.std.specs.Prelude.{Ok, Err}
-use Rattle.hotel_asks.specs.declared.asks.Ask.{Ask}
+use Rattle.hotel_core.specs.declared.asks.Ask.{Ask}
 use Rattle.hotel_asks.specs.declared.values.ValueFault.{ValueFault}
 use Rattle.hotel_asks.specs.declared.verbs.Verb.{Verb}
 use Rattle.hotel_asks.specs.declared.verbs.Verb.TheVariants.{Reserve}

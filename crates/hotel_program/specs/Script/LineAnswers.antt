@@ -1,5 +1,5 @@
 -- What a script's line comes to.
-use Rattle.std.specs.Prelude.{◌≡◌, ℕ, Bool, true, false, not, List, [], ◌∷◌, ◌++◌, Option, Some, None, codes, Result}
+use Rattle.std.specs.Prelude.{◌≡◌, ℕ, true, not, List, [], ◌∷◌, ◌++◌, Option, Some, None, codes, Result}
 use Rattle.std.specs.Prelude.{Ok, Err}
 use Rattle.std.specs.Io.KnownBytes.{Appends}
 use Rattle.rand_core.specs.Stream.{Stream}
@@ -9,13 +9,13 @@ use Rattle.hotel_model.specs.History.{History}
 use Rattle.hotel_model.specs.Run.{Steps}
 use Rattle.hotel_asks.specs.Asks.{copies}
 use Rattle.hotel_program.specs.Script.Copies.{counted_in}
-use Rattle.hotel_core.specs.Texts.{reply_text}
+use Rattle.hotel_core.specs.{Books.Happens.Told, Books.Happens.asked_if, Texts.reply_text}
 use Rattle.hotel_program.specs.Script.Asks.{ask_in}
 use Rattle.hotel_lists.specs.{Bytes.AppendsFront, declared.calls.WriteFailed.WriteFailed}
 use Rattle.hotel_program.specs.Script.ListAnswers.{AnswersList, tells_failure}
 use Rattle.hotel_asks.specs.Listings.{listing_over}
-use Rattle.hotel_asks.specs.declared.asks.Ask.{Ask}
-use Rattle.hotel_asks.specs.declared.asks.Ask.TheVariants as ask
+use Rattle.hotel_core.specs.declared.asks.Ask.{Ask}
+use Rattle.hotel_core.specs.declared.asks.Ask.TheVariants as ask
 use Rattle.hotel_program.specs.declared.script.line_answers.ScriptAnswer.{ScriptAnswer}
 use Rattle.hotel_program.specs.declared.script.line_answers.ScriptAnswer.TheVariants.{Replied, Unread}
 
@@ -45,13 +45,13 @@ LineGoes sure h s line text failed h' s' = AskGoes sure (ask_in line) h s text f
 
 -- how the books answered for what is asked, where this is the answer: not at all where nothing is asked, and they
 -- failed where it says so
-abbrev pub answered_to : Option Ask → List ℕ → List Bool
+abbrev pub answered_to : Option Ask → List ℕ → List (Option Ask)
 answered_to None text = []
-answered_to (Some wanted) text = not (tells_failure text) ∷ []
+answered_to (Some wanted) text = asked_if (not (tells_failure text)) wanted ∷ []
 
 -- What is asked went with an answer that was written so, and this is told of its failures and how the books answered.
-abbrev pub AskAnswered : (List ℕ → Type 0) → (List ℕ → Type 0) → (List ℕ → List Bool) → Option Ask → Stream → Stream
-    → (List Refusal → List Bool → Type 0) → History → History → Type 0
+abbrev pub AskAnswered : (List ℕ → Type 0) → (List ℕ → Type 0) → (List ℕ → List (Option Ask)) → Option Ask
+    → Stream → Stream → Told → History → History → Type 0
 AskAnswered sure written answered wanted s s' told h h' =
     (text : List ℕ) × (failed : List Refusal) × AskGoes sure wanted h s text failed h' s' × written text
     × told failed (answered text)
@@ -62,7 +62,7 @@ Sure kept text = tells_failure text ≡ true → kept
 
 -- What is asked was answered: the answer was written whole; or a front of it, which vouches for nothing.
 abbrev pub AskEnds : Option Ask → Stream → Stream → Option (List ℕ) → Option (List ℕ) → Result (Unit {0}) WriteFailed
-    → Type 0 → (List Refusal → List Bool → Type 0) → History → History → Type 0
+    → Type 0 → Told → History → History → Type 0
 AskEnds wanted s s' old new (Ok done) kept = AskAnswered (Sure kept) (Appends old new) (answered_to wanted) wanted s s'
 AskEnds wanted s s' old new (Err failed) kept =
-    AskAnswered (λ text. kept) (AppendsFront old new) (λ text. false ∷ []) wanted s s'
+    AskAnswered (λ text. kept) (AppendsFront old new) (λ text. None ∷ []) wanted s s'

@@ -10,9 +10,9 @@ use Rattle.hotel_asks.specs.Asks.{copies}
 use Rattle.hotel_program.specs.Script.Copies.{counted_in}
 use Rattle.hotel_core.specs.Texts.{reply_text}
 use Rattle.hotel_program.specs.Script.Asks.{ask_in}
-use Rattle.hotel_asks.specs.declared.asks.Ask.{Ask}
-use Rattle.hotel_asks.specs.declared.asks.Ask.TheVariants as ask
-use Rattle.hotel_asks.specs.declared.lists.ListAsk.{ListAsk}
+use Rattle.hotel_core.specs.declared.asks.Ask.{Ask}
+use Rattle.hotel_core.specs.declared.asks.Ask.TheVariants as ask
+use Rattle.hotel_core.specs.declared.asks.ListAsk.{ListAsk}
 use Rattle.hotel_program.specs.Script.LineAnswers.{unread_text}
 use Rattle.hotel_program.specs.Script.ListAnswers.{AnswersList}
 use Rattle.hotel_asks.specs.Listings.{listing_over}

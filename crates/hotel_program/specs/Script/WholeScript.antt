@@ -1,11 +1,11 @@
 -- A script: its answered lines, one after the other.
-use Rattle.std.specs.Prelude.{◌≡◌, ◌≤◌, ℕ, Bool, false, length, take, List, [], ◌∷◌, ◌++◌, Option, IfSome, Result, Ok}
+use Rattle.std.specs.Prelude.{◌≡◌, ◌≤◌, ℕ, length, take, List, [], ◌∷◌, ◌++◌, Option, None, IfSome, Result, Ok}
 use Rattle.std.specs.Prelude.{Err, ⊤}
 use Rattle.std.specs.List.{concat}
 use Rattle.std.specs.Io.KnownBytes.{Appends}
 use Rattle.rand_core.specs.Stream.{Stream}
 use Rattle.keycard_rules.specs.declared.issued.Issued.{Ghosts as IssuedOf}
-use Rattle.hotel_core.specs.Books.Happens.{HappensBy}
+use Rattle.hotel_core.specs.{Books.Happens.HappensBy, Books.Happens.Told, declared.asks.Ask.Ask}
 use Rattle.hotel_core.specs.Books.Passes.{Passes}
 use Rattle.hotel_model.specs.declared.reply.Refusal.{Refusal}
 use Rattle.hotel_model.specs.History.{History}
@@ -31,7 +31,7 @@ ScriptGoes sure h s [] (text ∷ texts) failed h' s' = ⊥
 ScriptGoes sure h s (line ∷ later) [] failed h' s' = ⊥
 
 -- how the books answered for lines with these answers, in order
-unfoldable pub answers_to : List (List ℕ) → List (List ℕ) → List Bool
+unfoldable pub answers_to : List (List ℕ) → List (List ℕ) → List (Option Ask)
 answers_to (line ∷ lines) (text ∷ texts) = answered_to (ask_in line) text ++ answers_to lines texts
 answers_to [] texts = []
 answers_to (line ∷ lines) [] = []
@@ -39,7 +39,7 @@ answers_to (line ∷ lines) [] = []
 -- Lines were answered: they went, their answers were written whole, and this is told of their failures and how the
 -- books answered.
 abbrev pub ScriptAnswered : List (List ℕ) → Stream → Stream → Option (List ℕ) → Option (List ℕ) → Type 0
-    → (List Refusal → List Bool → Type 0) → History → History → Type 0
+    → Told → History → History → Type 0
 ScriptAnswered lines s s' old new kept told h h' =
     (texts : List (List ℕ)) × (failed : List Refusal) × ScriptGoes (Sure kept) h s lines texts failed h' s'
     × Appends old new (concat texts) × told failed (answers_to lines texts)
@@ -47,12 +47,12 @@ ScriptAnswered lines s s' old new kept told h h' =
 -- Lines were cut short at the last one: they went, and their answers were written whole, but for the last one, of which
 -- a front was written, and which vouches for nothing.
 abbrev pub ScriptCut : List (List ℕ) → Stream → Stream → Option (List ℕ) → Option (List ℕ) → Type 0
-    → (List Refusal → List Bool → Type 0) → History → History → Type 0
+    → Told → History → History → Type 0
 ScriptCut lines s s' old new kept told h h' =
     (texts : List (List ℕ)) × (last : List ℕ) × (failed : List Refusal)
     × ScriptGoes (λ text. kept) h s lines (texts ++ last ∷ []) failed h' s'
     × (n : ℕ) × (n ≤ length last) × Appends old new (concat texts ++ take n last)
-    × told failed (answers_to lines texts ++ false ∷ [])
+    × told failed (answers_to lines texts ++ None ∷ [])
 
 -- A line was answered, by books, a source of words and a writer.
 abbrev pub LineHappens : {S R W : Type 0} → IssuedOf S → (S → Rows) → (R → Stream) → (W → Option (List ℕ)) → S × R × W

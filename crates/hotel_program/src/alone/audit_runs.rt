@@ -11,7 +11,7 @@ ghost use Rattle.hotel_program.specs.Alone.AuditRuns.{WritesAnswers, ImportEnds}
 use crate::faults::{Fault, FaultSink, finish};
 use crate::statuses::{DONE, REFUSED};
 use hotel_audit::{AuditFault, ImportFault, LineAnswer, import, write_answers};
-use hotel_core::Books;
+use hotel_core::Desk;
 use hotel_lists::{IoCalls, WriteFailed};
 use keycard_rules::LookFault;
 use std::alloc::Global;
@@ -63,7 +63,7 @@ fn import_fault(fault: ImportFault) -> Fault
 
 /// Imports an audit file and writes the texts of its answers. It answers the exit status, or the
 /// fault that came instead.
-fn import_and_write<B: Books, W: Write>(
+fn import_and_write<B: Desk, W: Write>(
     alloc: Global,
     bytes: &[u8],
     books: &mut B,
@@ -90,7 +90,7 @@ fn import_and_write<B: Books, W: Write>(
 
 /// Imports an audit file: writes the answers to its lines, and tells the fault that came instead. It
 /// answers the exit status. The interrupted writes of the call are counted together, on both writers.
-pub fn run_audit<B: Books, W: Write, F: FaultSink>(
+pub fn run_audit<B: Desk, W: Write, F: FaultSink>(
     alloc: Global,
     bytes: &[u8],
     books: &mut B,

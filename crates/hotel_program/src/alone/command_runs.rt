@@ -9,14 +9,14 @@ ghost use Rattle.hotel_program.specs.declared.faults.Fault.{Fault};
 
 use crate::faults::{Fault, FaultSink, finish};
 use crate::statuses::status_of;
-use hotel_core::{Books, Command, reply_text, step};
+use hotel_core::{Command, Desk, reply_text};
 use hotel_lists::{IoCalls, WriteFailed, write_bytes};
 use rand_core::Rng;
 use std::io::Write;
 
 /// Carries out a command and writes its reply. It answers the exit status, or the fault that came
 /// instead.
-fn step_and_write<B: Books, R: Rng, W: Write>(
+fn step_and_write<B: Desk, R: Rng, W: Write>(
     command: &Command,
     books: &mut B,
     source: &mut R,
@@ -30,7 +30,7 @@ fn step_and_write<B: Books, R: Rng, W: Write>(
     ensures no_usage { end_status result ≢ 2 }
     ensures calls { CountsWrites calls.old calls.new (OnErrOf result Fault.Write) }
 {
-    let reply = step(books, source, command);
+    let reply = books.step(source, command);
     match write_bytes(writer, reply_text(&reply).as_bytes(), calls) {
         Ok(()) => Ok(status_of(&reply)),
         Err(WriteFailed) => Err(Fault::Write),
@@ -40,7 +40,7 @@ fn step_and_write<B: Books, R: Rng, W: Write>(
 /// Carries out a command and writes its reply, and tells the fault that came instead. It answers the
 /// exit status: 0, 3 where the command was refused, 4 where memory or the store failed, 5 where the
 /// reply couldn't be written. A command that was accepted stands also then.
-pub fn run_one<B: Books, R: Rng, W: Write, F: FaultSink>(
+pub fn run_one<B: Desk, R: Rng, W: Write, F: FaultSink>(
     command: &Command,
     books: &mut B,
     source: &mut R,

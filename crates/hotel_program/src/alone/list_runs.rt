@@ -10,14 +10,14 @@ ghost use Rattle.hotel_asks.specs.Listings.{listing_on};
 
 use crate::faults::{Fault, FaultSink, finish};
 use crate::statuses::{DONE, REFUSED};
-use hotel_asks::{ListAsk, write_list};
-use hotel_core::{Refusal, Reply, Walks, reply_text};
+use hotel_asks::{ListAsk, ListDesk};
+use hotel_core::{Refusal, Reply, reply_text};
 use hotel_lists::{IoCalls, ListFault, write_bytes};
 use std::alloc::Global;
 use std::io::Write;
 
 /// Writes a list's text; or, where the room isn't there, the line that says so.
-fn write_list_or_refusal<W: Write, B: Walks>(
+fn write_list_or_refusal<W: Write, B: ListDesk>(
     alloc: Global,
     list: &ListAsk,
     writer: &mut W,
@@ -29,7 +29,7 @@ fn write_list_or_refusal<W: Write, B: Walks>(
     ensures books { LooksAt B.Issued books.old books.new result }
     ensures calls { CountsWrites calls.old calls.new (OnErrOf result ListFault.Write) }
 {
-    match write_list(alloc, list, writer, books, calls) {
+    match books.write_list(alloc, list, writer, calls) {
         Err(ListFault::NoRoom) => {
             let refused = reply_text(&Reply::Refused(Refusal::NoRoom));
             write_bytes(writer, refused.as_bytes(), calls)?;
@@ -56,7 +56,7 @@ fn end_of_list(end: Result<(), ListFault>) -> Result<u8, Fault>
 /// Answers a list: writes its text, or the line that its room isn't there, and tells the fault that
 /// came instead. It answers the exit status. The interrupted writes of the call are counted together,
 /// on both writers.
-pub fn run_list<B: Walks, W: Write, F: FaultSink>(
+pub fn run_list<B: ListDesk, W: Write, F: FaultSink>(
     alloc: Global,
     list: &ListAsk,
     books: &mut B,

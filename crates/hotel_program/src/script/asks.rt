@@ -1,7 +1,7 @@
 //! What a script's line asks for.
 
 ghost use Rattle.std.specs.Prelude.{◌≡◌, ◌<◌, None, Some, IfSome, MatchOption, Result, length};
-ghost use Rattle.hotel_asks.specs.declared.asks.Ask.{Ask};
+ghost use Rattle.hotel_core.specs.declared.asks.Ask.{Ask};
 ghost use Rattle.hotel_asks.specs.declared.values.ValueFault.{ValueFault};
 ghost use Rattle.hotel_asks.specs.Values.{IsReading};
 ghost use Rattle.hotel_asks.specs.Asks.{ask_of, ask_copies};

@@ -1,7 +1,7 @@
 //! The answer to a line of a script.
 
 ghost use Rattle.std.specs.Prelude.{Some, OnErr};
-ghost use Rattle.hotel_asks.specs.declared.asks.Ask.TheVariants as ask;
+ghost use Rattle.hotel_core.specs.declared.asks.Ask.TheVariants as ask;
 ghost use Rattle.hotel_core.specs.Books.Happens.{HappensBy};
 ghost use Rattle.hotel_lists.specs.Bytes.{Writes};
 ghost use Rattle.hotel_lists.specs.Calls.{CountsWrites};
@@ -9,8 +9,8 @@ ghost use Rattle.hotel_program.specs.Script.{Asks.ask_in, LineAnswers.AskEnds, L
 
 use crate::script::asks::{LineFault, read_line};
 use crate::script::list_answers::answer_list;
-use hotel_asks::Ask;
-use hotel_core::{Command, Refusal, Reply, Walks, reply_text, step};
+use hotel_asks::{Ask, ListDesk};
+use hotel_core::{Command, Refusal, Reply, reply_text};
 use hotel_lists::{IoCalls, WriteFailed, write_bytes};
 use rand_core::Rng;
 use std::alloc::Global;
@@ -41,7 +41,7 @@ fn write_answer<W: Write>(
 }
 
 /// Carries out a command and writes the reply.
-fn answer_command<W: Write, B: Walks, R: Rng>(
+fn answer_command<W: Write, B: ListDesk, R: Rng>(
     command: &Command,
     writer: &mut W,
     books: &mut B,
@@ -53,14 +53,14 @@ fn answer_command<W: Write, B: Walks, R: Rng>(
         (W.contents writer.old) (W.contents writer.new) result) books.new }
     ensures calls { CountsWrites calls.old calls.new (OnErr result) }
 {
-    let answer = ScriptAnswer::Replied(step(books, source, command));
+    let answer = ScriptAnswer::Replied(books.step(source, command));
     write_answer(writer, &answer, calls)
 }
 
 /// Reads a line, which is without its end, carries out its command, and writes the answer; of a list,
 /// the list itself. Where a growth of memory for the line is refused, nothing is done and the answer
 /// says so. After a fault the writer took a front of the answer.
-pub fn answer_line<W: Write, B: Walks, R: Rng>(
+pub fn answer_line<W: Write, B: ListDesk, R: Rng>(
     alloc: Global,
     line: &[u8],
     writer: &mut W,

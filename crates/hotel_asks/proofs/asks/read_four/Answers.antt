@@ -2,11 +2,12 @@
 use Rattle.std.proofs.Common.{rules, ◌≡◌, ℕ, List, true, Result, Ok, Err, ap, refl, subst, sym}
 use Rattle.keycard_rules.specs.Results.{◌>>=◌}
 use Rattle.hotel_model.specs.declared.command.Command.TheVariants as command
-use Rattle.hotel_asks.specs.{declared.asks.Ask.Ask, declared.values.AskFault.AskFault}
+use Rattle.hotel_core.specs.declared.asks.Ask.{Ask}
+use Rattle.hotel_asks.specs.declared.values.AskFault.{AskFault}
 use Rattle.hotel_asks.specs.{declared.values.AskFault.TheVariants.Values, declared.values.AskFault.TheVariants.Memory}
 use Rattle.hotel_asks.specs.{declared.values.ValueFault.ValueFault, declared.values.ValueName.TheVariants.Arrive}
 use Rattle.hotel_asks.specs.{declared.verbs.Verb.Verb, declared.verbs.Verb.TheVariants.Reserve}
-use Rattle.hotel_asks.specs.declared.asks.Ask.TheVariants as ask
+use Rattle.hotel_core.specs.declared.asks.Ask.TheVariants as ask
 use Rattle.hotel_asks.specs.{Asks.of_four, Asks.ask_copies, Values.IsCopy, Values.IsReading, Values.kind_in}
 use Rattle.hotel_asks.specs.{Values.day_in, Values.nights_in, Values.guest_in}
 use Rattle.hotel_asks.proofs.asks.read_four.Goals as goal

@@ -1,7 +1,8 @@
 -- Six values are those of a note, and no verb has three, or more than six.
 use Rattle.std.proofs.Common.{◌≡◌, ◌≤◌, ◌<◌, ℕ, List, [], ◌∷◌, length, map, get_or, refl, arith, Err, Bor, Result}
 use Rattle.std.proofs.Common.{subst}
-use Rattle.hotel_asks.specs.{declared.asks.Ask.Ask, declared.values.ValueFault.ValueFault}
+use Rattle.hotel_core.specs.declared.asks.Ask.{Ask}
+use Rattle.hotel_asks.specs.declared.values.ValueFault.{ValueFault}
 use Rattle.hotel_asks.specs.{declared.values.ValueFault.TheVariants.Number, declared.verbs.Verb.Verb}
 use Rattle.hotel_asks.specs.{Asks.ask_of, Asks.of_six, Asks.ask_copies, Values.IsReading}
 use Rattle.hotel_asks.proofs.asks.read_values.Goals as goal

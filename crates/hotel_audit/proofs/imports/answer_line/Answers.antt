@@ -1,5 +1,5 @@
 use Rattle.std.proofs.Common.{◌≡◌, ◌∙◌, refl, sym, subst, Result, Ok, Err, IfOk, IfErr, OnErr}
-use Rattle.hotel_core.proofs.{Names.AreCounted, OfCode.Happens.step_happens}
+use Rattle.hotel_core.proofs.{Names.AreCounted, Names.asked_now, Names.since_refl, OfCode.Happens.step_happens}
 use Rattle.hotel_audit.proofs.{LineAnswers.lead-note, LineAnswers.lead-unread, NoteReplies.answered_reply}
 use Rattle.hotel_audit.proofs.{NoteReplies.answered_sure, NoteReplies.failed_reply, NoteReplies.failure_told}
 use Rattle.hotel_model.specs.declared.command.Command.TheVariants as command
@@ -31,7 +31,7 @@ pub returns-in-Unread-clause-vouched : goal.returns-in-Unread-clause-vouched
 returns-in-Unread-clause-vouched g c = λ honest some. absurd (some refl)
 
 pub returns-in-Unread-clause-asked : goal.returns-in-Unread-clause-asked
-returns-in-Unread-clause-asked g c = λ some. absurd (some refl)
+returns-in-Unread-clause-asked g c = rw c.in-Unread.is since_refl
 
 pub returns-in-Note-clause-answer : goal.returns-in-Note-clause-answer
 returns-in-Note-clause-answer g c = rw c.in-Note.is
@@ -39,13 +39,13 @@ returns-in-Note-clause-answer g c = rw c.in-Note.is
 
 pub returns-in-Note-clause-went : goal.returns-in-Note-clause-went
 returns-in-Note-clause-went g c =
-    let f = c.report.ensures in
+    let f = c.report.ensures.noted in
     rw c.in-Note.is (
       c.report.result,
       c.answer_of.ensures,
       (λ source. step_happens source source (command.Reported c.in-Note.note) c.report.result
           g.met.B.Issued.clean_honest f.since (λ honest. f.happened honest source) f.failed f.vouched
-          f.asked),
+          c.report.ensures.asked),
     )
 
 pub returns-in-Note-clause-happened : goal.returns-in-Note-clause-happened
@@ -53,17 +53,20 @@ returns-in-Note-clause-happened g c =
     let is_clean = g.B.Issued.is_clean in
     let rows = g.B.Books.rows in
     rw c.in-Note.is
-    (if_ok c.answer_of.result _ (λ a e honest. lead-note (is_clean c.args.books.now) (is_clean c.report.new.books)
-    (rows c.args.books.now) (rows c.report.new.books) c.in-Note.note c.report.result a (e ∙ c.answer_of.ensures)
-    (c.report.ensures.happened honest)))
+    (if_ok c.answer_of.result _ (λ a e honest. lead-note (is_clean c.args.books.now) (is_clean c.report.new.self)
+    (rows c.args.books.now) (rows c.report.new.self) c.in-Note.note c.report.result a (e ∙ c.answer_of.ensures)
+    (c.report.ensures.noted.happened honest)))
 
 pub returns-in-Note-clause-vouched : goal.returns-in-Note-clause-vouched
 returns-in-Note-clause-vouched g c = if_ok c.answer_of.result _
-    (λ a e honest some. c.report.ensures.vouched honest (answered_sure c.report.result a (e ∙ c.answer_of.ensures)))
+    (λ a e honest some. c.report.ensures.noted.vouched honest
+    (answered_sure c.report.result a (e ∙ c.answer_of.ensures)))
 
 pub returns-in-Note-clause-asked : goal.returns-in-Note-clause-asked
-returns-in-Note-clause-asked g c = if_ok c.answer_of.result _
-    (λ a e some. c.report.ensures.asked (answered_sure c.report.result a (e ∙ c.answer_of.ensures)))
+returns-in-Note-clause-asked g c = rw c.in-Note.is
+    (if_ok c.answer_of.result _ (λ a e.
+    let sure = answered_sure c.report.result a (e ∙ c.answer_of.ensures) in
+    (c.report.new.self, asked_now c.report.ensures.noted.since (c.report.ensures.asked sure), since_refl)))
 
 pub returns-in-Note-clause-unasked : goal.returns-in-Note-clause-unasked
 returns-in-Note-clause-unasked g c = if_ok c.answer_of.result _ (λ a e none.
@@ -71,13 +74,13 @@ returns-in-Note-clause-unasked g c = if_ok c.answer_of.result _ (λ a e none.
 
 pub returns-in-Note-clause-unchanged : goal.returns-in-Note-clause-unchanged
 returns-in-Note-clause-unchanged g c =
-    on_err c.answer_of.result _ (λ why e clean. c.report.ensures.unchanged clean
-    (failed_reply c.report.result why (e ∙ c.answer_of.ensures) (c.report.ensures.note clean)))
+    on_err c.answer_of.result _ (λ why e clean. c.report.ensures.noted.unchanged clean
+    (failed_reply c.report.result why (e ∙ c.answer_of.ensures) (c.report.ensures.noted.note clean)))
 
 pub returns-in-Note-clause-failed : goal.returns-in-Note-clause-failed
 returns-in-Note-clause-failed g c =
     if_err c.answer_of.result _ (λ why e clean.
     let told = e ∙ c.answer_of.ensures in
-    subst (λ fs. AreCounted (g.B.Issued.failures c.args.books.now) (g.B.Issued.failures c.report.new.books) fs)
-    (failure_told c.report.result why told (failed_reply c.report.result why told (c.report.ensures.note clean)))
-    (c.report.ensures.failed clean))
+    subst (λ fs. AreCounted (g.B.Issued.failures c.args.books.now) (g.B.Issued.failures c.report.new.self) fs)
+    (failure_told c.report.result why told (failed_reply c.report.result why told (c.report.ensures.noted.note clean)))
+    (c.report.ensures.noted.failed clean))

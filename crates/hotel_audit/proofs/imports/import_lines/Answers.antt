@@ -5,9 +5,9 @@ use Rattle.keycard_rules.proofs.Sinces.{since_refl, since_then}
 use Rattle.std.proofs.lemmas.List.{take_all}
 use Rattle.hotel_audit.specs.{declared.answer.LineAnswer.LineAnswer, declared.imports.ImportFault.ImportFault}
 use Rattle.hotel_audit.specs.{Import.AreAnswered, Import.Imports, Import.LineHappens, Import.LinesLeadOn}
-use Rattle.hotel_audit.specs.{Import.failures_of, Import.has_taken, Import.stopped}
+use Rattle.hotel_audit.specs.{Import.asked_of, Import.failures_of, Import.has_taken, Import.stopped}
 use Rattle.std.specs.Prelude.{zip}
-use Rattle.hotel_core.specs.{Books.Failures.refusal_of, Books.Passes.Passes}
+use Rattle.hotel_core.specs.{Books.Failures.refusal_of, Books.Happens.HaveCalls, Books.Passes.Passes}
 use Rattle.hotel_audit.specs.declared.audit_file.AuditFault.TheVariants as fault
 use Rattle.keycard_rules.specs.declared.issued.LookFault.{LookFault}
 use Rattle.keycard_rules.specs.declared.issued.LookFault.TheVariants as look
@@ -26,7 +26,7 @@ loop-line-init g c = record {
   happened = λ honest. rw (c.in-Ok.ensures.items)
       (lead-none (g.B.Issued.is_clean c.args.books.now) (g.B.Books.rows c.args.books.now));
   vouched = λ honest. rw (c.in-Ok.ensures.items) (λ noted. absurd (noted refl));
-  asked = rw (c.in-Ok.ensures.items) since_refl;
+  asked = since_refl;
   unasked = λ none clean. clean;
 }
 
@@ -66,7 +66,9 @@ returns-clause-imported g c =
     inv.since.was_clean
     (λ honest. subst (λ lines. LinesLeadOn (is_clean c.args.books.now) (rows c.args.books.now) lines
     c.loop-line.answers.items (is_clean c.loop-line.books) (rows c.loop-line.books)) all (inv.happened honest))
-    inv.vouched inv.asked inv.unasked
+    inv.vouched
+    (subst (λ lines. HaveCalls g.B.Issued c.args.books.now c.loop-line.books (asked_of lines)) all inv.asked)
+    inv.unasked
     (subst (λ lines. Passes (LineHappens g.B.Issued rows) c.args.books.now
     (zip lines c.loop-line.answers.items) c.loop-line.books) all inv.through)
 
@@ -114,8 +116,8 @@ loop-line-preserved g c =
           (vouched_next c.loop-line.answers.items c.in-Ok-answer_line.answer (is_clean c.loop-line.books)
           (is_clean c.answer_line.new.books) (inv.vouched (f.since.was_honest honest))
           (λ none before. subst is_clean (sym (f.unasked none)) before) (f.vouched honest));
-      asked = rw c.in-Ok-push.ensures.items
-          (calls_next c.args.books.now c.loop-line.answers.items c.in-Ok-answer_line.answer inv.asked f.asked f.since);
+      asked = rw e (calls_next g.B.Issued c.args.books.now c.loop-line.books c.answer_line.new.books (take i xs)
+          c.line-item.result inv.asked f.asked);
       unasked = rw c.in-Ok-push.ensures.items
           (λ none was. let each = unasked_both c.loop-line.answers.items c.in-Ok-answer_line.answer none in
           subst is_clean (sym (f.unasked each.1)) (inv.unasked each.0 was));

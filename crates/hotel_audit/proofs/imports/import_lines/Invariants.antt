@@ -1,8 +1,8 @@
-use Rattle.std.proofs.Common.{◌≡◌, ◌≢◌, ◌≤◌, [], map, true, take, length, vec_len, vec_capacity}
+use Rattle.std.proofs.Common.{◌≡◌, ◌≢◌, ◌≤◌, [], take, length, vec_len, vec_capacity}
 use Rattle.std.specs.Prelude.{zip}
 use Rattle.keycard_rules.specs.Since.{Since}
 use Rattle.hotel_core.specs.{Books.Happens.HaveCalls, Books.Passes.Passes}
-use Rattle.hotel_audit.specs.Import.{AreAnswered, LineHappens, LinesLeadOn, replies_in}
+use Rattle.hotel_audit.specs.Import.{AreAnswered, LineHappens, LinesLeadOn, asked_of, replies_in}
 use Rattle.hotel_audit.proofs.imports.import_lines.Given as goal
 
 abbrev pub invariant-loop-line : goal.invariant-loop-line
@@ -20,6 +20,6 @@ invariant-loop-line g l =
       happened : is_honest l.books → LinesLeadOn (is_clean l.fn.books) (rows l.fn.books) (take l.line-index
           l.lines) l.answers.items (is_clean l.books) (rows l.books);
       vouched : is_honest l.books → replies_in l.answers.items ≢ [] → is_clean l.books;
-      asked : HaveCalls g.B.Issued l.fn.books l.books (map (λ reply. true) (replies_in l.answers.items));
+      asked : HaveCalls g.B.Issued l.fn.books l.books (asked_of (take l.line-index l.lines));
       unasked : replies_in l.answers.items ≡ [] → is_clean l.fn.books → is_clean l.books;
     }

@@ -13,13 +13,14 @@ use Rattle.hotel_core.proofs.runs.run.Goals as goal
 
 pub loop-command-preserved : goal.loop-command-preserved
 loop-command-preserved g c =
-    let step = c.step-reply.ensures in
+    let step = c.step-reply.ensures.steps in
     let so_far = c.loop-command.invariant in
     let xs = c.args.commands.now in
     let i = c.loop-command.command-index in
     let replies = c.loop-command.replies in
     let command = c.command-item.result in
     let reply = c.step-reply.result in
+    let after = c.step-reply.new.self in
     let e : take (i + 1) xs ≡ take i xs ++ command ∷ [] =
     take_more xs i command c.loop-command-test.true ∙ ap (λ x. take i xs ++ x ∷ []) (sym c.command-item.is) in
     record {
@@ -28,12 +29,12 @@ loop-command-preserved g c =
           let n : length replies.items ≡ length (take i xs) =
           omega (arith, length-take-le i xs (omega (arith, c.loop-command-test.true)), replies.ok.0, so_far.answered) in
           let went = step_happens _ _ command reply g.met.B.Issued.clean_honest step.since
-          step.happened step.failed step.vouched step.asked in
+          step.happened step.failed step.vouched c.step-reply.ensures.asked in
           rw (e, c.in-Ok-push.ensures.items, zip-push (take i xs) replies.items command reply n)
           (passes_push (CommandHappens g.B.Issued g.B.Books.rows g.R.Rng.stream) _
           (zip (take i xs) replies.items) so_far.through went);
       happened = λ honest h reached stands.
-          let r = run_goes_on _ _ h _ _ _ _ _ command reply (g.B.Books.rows c.step-reply.new.books)
+          let r = run_goes_on _ _ h _ _ _ _ _ command reply (g.B.Books.rows after)
           (g.R.Rng.stream c.step-reply.new.source) (so_far.happened (step.since.was_honest honest) h reached stands)
           (λ mid ok stands. let w = step.happened honest mid ok stands in (w.0, w.1, w.2, w.3)) in
           rw (e, c.in-Ok-push.ensures.items) r;
@@ -49,7 +50,7 @@ loop-command-preserved g c =
       room = omega (arith, c.in-Ok-push.ensures.capacity, so_far.room);
       answered = omega (arith, c.in-Ok-push.ensures.len, so_far.answered);
       ran = λ clean h stands.
-          let r = runs_step h _ _ _ _ _ command reply (g.B.Books.rows c.step-reply.new.books)
+          let r = runs_step h _ _ _ _ _ command reply (g.B.Books.rows after)
           (g.R.Rng.stream c.step-reply.new.source) (so_far.ran (step.since.was_clean clean) h stands)
           (λ k s. let r = step.step clean k s in (r.0, r.1, r.2)) in
           rw (e, c.in-Ok-push.ensures.items) r;

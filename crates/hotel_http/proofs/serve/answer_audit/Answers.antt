@@ -1,6 +1,7 @@
-use Rattle.std.proofs.Common.{◌≡◌, [], subst, List, map, Ok, Err, Bool, true}
+use Rattle.std.proofs.Common.{◌≡◌, [], subst, List, Ok, Err, Bool}
 use Rattle.hotel_core.proofs.OfCode.FailuresCounted.{none_counted}
-use Rattle.hotel_audit.specs.{Import.has_taken, Import.replies_in, declared.answer.LineAnswer.LineAnswer}
+use Rattle.hotel_audit.specs.{Import.asked_of, Import.has_taken, declared.answer.LineAnswer.LineAnswer}
+use Rattle.hotel_audit.specs.declared.line.Line.{Line}
 use Rattle.hotel_http.specs.{AuditAnswer.lines_answer, AuditAnswer.fault_answer, AuditAnswer.fault_status}
 use Rattle.hotel_http.specs.{Serve.imported, Serve.ended, Serve.stopped_by, Serve.taken_by, Serve.EndsAs}
 use Rattle.hotel_http.specs.{declared.status.Status.Status, declared.status.Status.TheVariants.Success}
@@ -14,14 +15,14 @@ returns-in-Ok-clause-went g c =
     let it = c.in-Ok.ensures in
     let slice = c.as_slice-answers.result.now in
     let written = c.write_audit-written.result in
-    let ends = ends_as (lines_answer slice) Success (has_taken slice)
-    (map (λ reply. true) (replies_in slice)) written old new c.ended.result
+    let ends = λ (lines : List Line). ends_as (lines_answer slice) Success (has_taken slice)
+    (asked_of lines) written old new c.ended.result
     (subst (λ (b : Bool). c.ended.result ≡ ended written Success b) c.has_taken.ensures c.ended.ensures)
     c.write_audit-written.ensures.writes.ok c.write_audit-written.ensures.writes.err in
     file_came c.args.file.now (Ok c.in-Ok.answers.items) old new c.ended.result g.met.B.Issued.clean_honest it.since
     it.imported (λ why e. cc e) (λ clean. none_counted _ _ it.since.counted)
-    (subst (λ (l : List LineAnswer). EndsAs (imported (Ok l)) [] old new c.ended.result)
-    c.as_slice-answers.ensures.value ends)
+    (λ lines. subst (λ (l : List LineAnswer). EndsAs (imported lines (Ok l)) [] old new c.ended.result)
+    c.as_slice-answers.ensures.value (ends lines))
 
 pub returns-in-Err-clause-went : goal.returns-in-Err-clause-went
 returns-in-Err-clause-went g c =
@@ -30,8 +31,9 @@ returns-in-Err-clause-went g c =
     let it = c.in-Err.ensures in
     let why = c.in-Err.why in
     let written = c.write_fault-written.result in
-    let ends =
-    ends_as (fault_answer why) (fault_status why) (taken_by why) (stopped_by why) written old new c.ended-in-Err.result
+    let ends = λ (lines : List Line).
+    ends_as (fault_answer why) (fault_status why) (taken_by why) (stopped_by lines why) written old new
+    c.ended-in-Err.result
     (subst (λ (b : Bool). c.ended-in-Err.result ≡ ended written (fault_status why) b) c.taken_by.ensures
     (subst (λ (s : Status). c.ended-in-Err.result ≡ ended written s c.taken_by.result)
     c.fault_status.ensures c.ended-in-Err.ensures))

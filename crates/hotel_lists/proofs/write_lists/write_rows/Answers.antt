@@ -50,7 +50,7 @@ returns-clause-books g c =
       vouched = λ honest. list_vouches g.W.Write.contents _ _ _ c.walk-walked.result c.finish-end.result c.listed.result
           (walked.vouched honest) c.finish-end.ensures.ends c.listed.ensures;
       asked = list_vouches g.W.Write.contents _ _ _ c.walk-walked.result c.finish-end.result c.listed.result
-          (λ none. asked_now (walked.asked none)) c.finish-end.ensures.ends c.listed.ensures;
+          (λ none. asked_now walked.since (walked.asked none)) c.finish-end.ensures.ends c.listed.ensures;
       store = λ e. let failed = store_failed g.W.Write.contents _ _ c.walk-walked.result c.finish-end.result
           c.listed.result c.finish-end.ensures.ends c.listed.ensures e in rw failed at walked.fault;
     }

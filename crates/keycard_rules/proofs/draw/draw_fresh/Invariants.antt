@@ -1,5 +1,5 @@
 use Rattle.std.proofs.Common.{◌≡◌, ◌≤◌}
-use Rattle.keycard_rules.specs.{Since.Since, Asked.WasAsked, Draw.past}
+use Rattle.keycard_rules.specs.{Since.Since, Asked.WasCalled, Draw.past}
 use Rattle.keycard_rules.proofs.Drawing.{SoFar}
 use Rattle.keycard_rules.proofs.draw.draw_fresh.Given as goal
 
@@ -13,7 +13,7 @@ invariant-loop g l =
       moved : stream l.source ≡ past l.counter (stream l.fn.source);
       since : Since is_clean is_honest g.I.Issued.failures l.fn.issued l.issued;
       vouched : 1 ≤ l.counter → is_honest l.issued → is_clean l.issued;
-      asked : 1 ≤ l.counter → WasAsked g.I.Issued l.fn.issued l.issued;
+      asked : 1 ≤ l.counter → WasCalled g.I.Issued l.fn.issued l.issued;
       kept : is_clean l.issued → g.I.Issued.is_kept l.fn.issued l.issued;
       so_far : is_honest l.issued → SoFar (issued l.fn.issued) (stream l.fn.source) l.counter (stream l.source);
     }

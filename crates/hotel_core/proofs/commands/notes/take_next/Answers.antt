@@ -1,4 +1,4 @@
-use Rattle.std.proofs.Common.{◌≡◌, ◌+◌, ◌-◌, refl}
+use Rattle.std.proofs.Common.{◌-◌, refl}
 use Rattle.hotel_core.proofs.Names.{IsUntaken}
 use Rattle.hotel_core.proofs.{OfCode.Parts.given, OfCode.Parts.ends}
 use Rattle.hotel_core.proofs.{OfCode.NoteParts.is_next, OfCode.NoteParts.next_told, OfCode.AnswerParts.comes_of}

@@ -4,7 +4,7 @@ use Rattle.hotel_program.proofs.script.line_answers.answer_command.Goals as goal
 
 pub returns-clause-went : goal.returns-clause-went
 returns-clause-went g c =
-    let step = c.step.ensures in
+    let step = c.step.ensures.steps in
     command_ends _ _ c.args.command.now c.step.result _ _ c.write_answer.result g.met.B.Issued.clean_honest step.since
-    step.happened step.failed step.vouched step.asked
+    step.happened step.failed step.vouched c.step.ensures.asked
     c.write_answer.ensures.writes.ok c.write_answer.ensures.writes.err

@@ -1,6 +1,6 @@
 use Rattle.std.proofs.Common.{◌∙◌, Ok, Err, Option, ap, subst}
 use Rattle.hotel_core.specs.Books.Happens.{HappensBy}
-use Rattle.hotel_asks.specs.declared.asks.Ask.{Ask}
+use Rattle.hotel_core.specs.declared.asks.Ask.{Ask}
 use Rattle.hotel_program.specs.declared.script.asks.LineFault.{LineFault}
 use Rattle.hotel_asks.specs.Asks.{ask_copies}
 use Rattle.hotel_program.specs.Script.Asks.{ask_in, IsLineRead}

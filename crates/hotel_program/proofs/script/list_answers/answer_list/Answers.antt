@@ -1,6 +1,7 @@
 use Rattle.std.proofs.Common.{◌≡◌, ◌∙◌, [], sym, subst, Result, ℕ, List, Ok}
 use Rattle.std.specs.Io.KnownBytes.{Appends}
-use Rattle.hotel_core.proofs.Names.{WasAsked}
+use Rattle.hotel_core.specs.declared.asks.Ask.{Ask}
+use Rattle.hotel_core.specs.declared.asks.Ask.TheVariants as ask
 use Rattle.hotel_lists.specs.Bytes.{AppendsFront}
 use Rattle.hotel_lists.specs.Lines.{LooksAt, Vouches}
 use Rattle.hotel_lists.specs.declared.fault.ListFault.{ListFault}
@@ -21,7 +22,9 @@ returns-clause-went g c = λ s.
     let books = c.write_list.ensures.books in
     let refused = sym c.told_refusal.ensures ∙ c.in-Some.is in
     let looks = subst (λ (r : Result (Unit {0}) ListFault).
-    LooksAt g.B.Issued c.args.books.now c.write_list.new.books r) c.in-Err.is books in
+    LooksAt g.B.Issued c.args.books.now c.write_list.new.self r) c.in-Err.is books in
+    let was = g.B.Issued.has_answered Ask (ask.List c.args.list.now) c.args.books.now c.write_list.new.self in
+    let asked = subst (λ (r : Result (Unit {0}) ListFault). Vouches was r) c.in-Err.is c.write_list.ensures.asked in
     let said : c.as_bytes.result.now ≡ refusal_text c.in-Some.refusal =
     c.as_bytes.ensures.same ∙ c.reply_text-text.ensures in
     list_ends c.args.list.now s old new c.write_bytes.result g.met.B.Issued.clean_honest books.since
@@ -29,7 +32,7 @@ returns-clause-went g c = λ s.
     (λ honest.
     let written = subst (λ (r : Result (Unit {0}) ListFault). ListEnds [] listing old mid r) c.in-Err.is
     (c.write_list.ensures.text honest) in
-    when_ok _ _ _ (λ p. refused_whole g.B.Issued listing old mid new _ _ refused written looks honest
+    when_ok _ _ _ (λ p. refused_whole g.B.Issued was listing old mid new _ _ refused written looks asked honest
     (subst (λ (t : List ℕ). Appends mid new t) said p)) c.write_bytes.ensures.writes.ok)
     (λ honest.
     let written = subst (λ (r : Result (Unit {0}) ListFault). ListEnds [] listing old mid r) c.in-Err.is
@@ -48,10 +51,11 @@ returns-in_default-clause-went g c = λ s.
     (λ honest.
     let written = subst (λ (r : Result (Unit {0}) ListFault). ListEnds [] listing old new r) c.in_default.is
     (c.write_list.ensures.text honest) in
-    let clean = subst (λ (r : Result (Unit {0}) ListFault). Vouches (g.B.Issued.is_clean c.write_list.new.books) r)
+    let clean = subst (λ (r : Result (Unit {0}) ListFault). Vouches (g.B.Issued.is_clean c.write_list.new.self) r)
     c.in_default.is (books.vouched honest) in
     let asked = subst (λ (r : Result (Unit {0}) ListFault).
-    Vouches (WasAsked g.B.Issued c.args.books.now c.write_list.new.books) r) c.in_default.is books.asked in
+    Vouches (g.B.Issued.has_answered Ask (ask.List c.args.list.now) c.args.books.now c.write_list.new.self) r)
+    c.in_default.is c.write_list.ensures.asked in
     whole_answered _ listing old new written (clean, asked) books.since.counted)
     (λ honest. tt)
 

@@ -1,7 +1,15 @@
-//! The lists that may be asked for.
+//! What a desk may be asked.
 
+use hotel_model::Command;
 use hotel_nights::Day;
 use keycard_rules::RoomNo;
+
+/// What is asked of the desk.
+#[derive(Drop)]
+pub enum Ask {
+    Command(Command),
+    List(ListAsk),
+}
 
 /// A list that is asked for.
 #[derive(Clone, Copy, Debug, PartialEq, Eq)]
