@@ -2,7 +2,7 @@ mod FieldsAt
 mod SameTexts
 mod Records
 mod NoteReplies
-mod ImportEnds
+pub mod ImportEnds
 mod LineAnswers
 mod ShutImports
 mod NotesKnown

@@ -1,9 +1,9 @@
 -- The lines of a file, one after the other.
-use Rattle.std.proofs.Common.{◌≡◌, ◌≢◌, ◌∙◌, List, [], ◌∷◌, ◌++◌, refl, ap, arith, length, map, Ok}
+use Rattle.std.proofs.Common.{◌≡◌, ◌≢◌, ◌∙◌, true, List, [], ◌∷◌, ◌++◌, refl, ap, arith, length, map, Ok}
 use Rattle.std.specs.Prelude.{zip}
 use Rattle.hotel_core.proofs.{Names.Stream, Names.Note, Names.Rows, Names.Steps, OfCode.Passes.passes_push}
-use Rattle.hotel_core.proofs.{OfCode.Happens.zip-push, OfCode.Calls.calls_join}
-use Rattle.hotel_core.specs.{Books.Happens.HaveCalls, Books.Passes.Passes}
+use Rattle.hotel_core.proofs.{OfCode.Happens.zip-push, OfCode.Passes.passes_join}
+use Rattle.hotel_core.specs.{Books.Happens.IsCall, Books.Passes.Passes}
 use Rattle.keycard_rules.specs.declared.issued.Issued.{Ghosts as IssuedOf}
 use Rattle.std.proofs.lemmas.List.{map-append}
 use Rattle.hotel_model.proofs.{Invariants.Assurance.assured, Lifted.Runs.runs_join}
@@ -13,7 +13,7 @@ use Rattle.hotel_model.specs.declared.reply.Reply.TheVariants as reply
 use Rattle.hotel_audit.specs.{declared.answer.LineAnswer.LineAnswer, declared.line.Cause.Cause, declared.line.Line.Line}
 use Rattle.hotel_audit.specs.declared.answer.LineAnswer.TheVariants as answer
 use Rattle.hotel_audit.specs.declared.line.Line.TheVariants as line
-use Rattle.hotel_audit.specs.Import.{AreAnswered, LinesLeadOn, answer_of, asked_of, command_asked, commands_of}
+use Rattle.hotel_audit.specs.Import.{AreAnswered, LinesLeadOn, answer_of, asked_of, called, commands_of}
 use Rattle.hotel_audit.specs.Import.{replies_in}
 use Rattle.hotel_audit.proofs.NoteReplies.{answered_reply}
 
@@ -92,13 +92,13 @@ vouched_next answers answer.Taken before now first same last some = last (λ non
 vouched_next answers answer.Seen before now first same last some = last (λ none. cc none)
 vouched_next answers (answer.Refused why) before now first same last some = last (λ none. cc none)
 
--- one more line's note, if it has one, has a call of its own
+-- one more line's note, if it has one, was asked
 pub calls_next : {B : Type 0} (I : IssuedOf B) (old mid new : B) (lines : List Line) (l : Line)
-    → HaveCalls I old mid (asked_of lines) → HaveCalls I mid new (asked_of (l ∷ []))
-    → HaveCalls I old new (asked_of (lines ++ l ∷ []))
+    → Passes (IsCall I) old (asked_of true lines) mid → Passes (IsCall I) mid (asked_of true (l ∷ [])) new
+    → Passes (IsCall I) old (asked_of true (lines ++ l ∷ [])) new
 calls_next I old mid new lines l before last =
-    rw (commands_of-append lines (l ∷ []), map-append command_asked (commands_of lines) (commands_of (l ∷ [])))
-    (calls_join I old mid new (asked_of lines) (asked_of (l ∷ [])) before last)
+    rw (commands_of-append lines (l ∷ []), map-append (called true) (commands_of lines) (commands_of (l ∷ [])))
+    (passes_join (IsCall I) old mid new (asked_of true lines) (asked_of true (l ∷ [])) before last)
 
 -- answers of which none is to a note
 pub unasked_both : (answers : List LineAnswer) (a : LineAnswer)

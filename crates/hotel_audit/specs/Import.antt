@@ -1,6 +1,6 @@
 -- The import of an audit file: its notes are reported in order, and its unread lines do nothing.
-use Rattle.std.specs.Prelude.{ℕ, ◌≡◌, ◌≢◌, ◌⊎◌, Bool, true, false, List, [], ◌∷◌, ◌++◌, length, map, zip}
-use Rattle.std.specs.Prelude.{if◌then◌else◌, Option, Some}
+use Rattle.std.specs.Prelude.{ℕ, ◌≡◌, ◌≢◌, ◌⊎◌, Bool, true, false, List, [], ◌∷◌, ◌++◌, length, map, zip, take, drop}
+use Rattle.std.specs.Prelude.{if◌then◌else◌}
 use Rattle.std.specs.Prelude.{Result, Ok, Err, OnOk}
 use Rattle.rand_core.specs.Stream.{Stream}
 use Rattle.keycard_rules.specs.{declared.issued.LookFault.LookFault, declared.issued.Issued.Ghosts as IssuedOf}
@@ -12,8 +12,7 @@ use Rattle.hotel_model.specs.declared.reply.Reply.TheVariants as reply
 use Rattle.hotel_model.specs.declared.reply.Refusal.TheVariants as refusal
 use Rattle.hotel_model.specs.Run.{Runs, is_failed}
 use Rattle.hotel_core.specs.Books.Failures.{refusal_of}
-use Rattle.hotel_core.specs.Books.Happens.{Happens, HaveCalls, StepTold}
-use Rattle.hotel_core.specs.declared.asks.Ask.{Ask}
+use Rattle.hotel_core.specs.Books.Happens.{Call, Happens, IsCall, StepTold}
 use Rattle.hotel_core.specs.declared.asks.Ask.TheVariants as ask
 use Rattle.hotel_core.specs.Books.Passes.{Passes}
 use Rattle.hotel_audit.specs.{declared.answer.LineAnswer.LineAnswer, declared.audit_file.AuditFault.AuditFault}
@@ -30,13 +29,26 @@ commands_of [] = []
 commands_of (line.Note note ∷ lines) = command.Reported note ∷ commands_of lines
 commands_of (line.Unread cause ∷ lines) = commands_of lines
 
--- the books answered this command
-abbrev pub command_asked : Command → Option Ask
-command_asked command = Some (ask.Command command)
+-- this command was asked
+abbrev pub called : Bool → Command → Call
+called answered command = (ask.Command command, answered)
 
--- what the books answered of these lines: their notes
-abbrev pub asked_of : List Line → List (Option Ask)
-asked_of lines = map command_asked (commands_of lines)
+-- what the books were asked for these lines: to take their notes
+abbrev pub asked_of : Bool → List Line → List Call
+asked_of answered lines = map (called answered) (commands_of lines)
+
+-- the line of a file behind these, if there is one
+abbrev pub next_of : Result (List Line) AuditFault → List Line → List Line
+next_of (Ok all) lines = take 1 (drop (length lines) all)
+next_of (Err why) lines = []
+
+-- What the books were asked in an import of a file that ended so behind these lines: to take their notes; and where it
+-- was stopped, to take the next one, which failed.
+abbrev pub asked_by : Result (List Line) AuditFault → List Line → Result (List LineAnswer) ImportFault → List Call
+asked_by file lines (Ok answers) = asked_of true lines
+asked_by file lines (Err (File why)) = []
+asked_by file lines (Err (Memory answered taken)) = asked_of true lines ++ asked_of false (next_of file lines)
+asked_by file lines (Err (Store answered taken)) = asked_of true lines ++ asked_of false (next_of file lines)
 
 -- the reply to a line's note, or why the line is none
 abbrev pub reply_or_cause : LineAnswer → Result Reply Cause
@@ -116,13 +128,15 @@ EndsAfter file (Err (File why)) lines answers =
 EndsAfter file (Err (Memory answered taken)) lines answers = IsFrontOf file lines answers answered taken
 EndsAfter file (Err (Store answered taken)) lines answers = IsFrontOf file lines answers answered taken
 
--- What lines with these answers show of books from old to new that may have failed for good, where an import of them
--- ended so: the notes ran with these replies, and an answer to a note has its own call of the books, and vouches that
--- they were clean before the first line, and, where no failure came behind it, that they are after the last.
-pub record Vouches {B : Type 0} (I : IssuedOf B) (rows : B → Rows) (lines : List Line) (answers : List LineAnswer)
-    (old new : B) (outcome : Result (List LineAnswer) ImportFault) : Type 0 where
+-- What lines of a file with these answers show of books from old to new that may have failed for good, where an import
+-- of it ended so: the notes ran with these replies; the books were asked to take them in turn, and nothing else; and an
+-- answer to a note vouches that they were clean before the first line, and, where no failure came behind it, that they
+-- are after the last.
+pub record Vouches {B : Type 0} (I : IssuedOf B) (rows : B → Rows) (file : Result (List Line) AuditFault)
+    (lines : List Line) (answers : List LineAnswer) (old new : B) (outcome : Result (List LineAnswer) ImportFault)
+    : Type 0 where
   pub happened : LinesLeadOn (I.is_clean old) (rows old) lines answers (I.is_clean new) (rows new)
-  pub asked : HaveCalls I old new (asked_of lines)
+  pub asked : Passes (IsCall I) old (asked_by file lines outcome) new
   pub was_clean : replies_in answers ≢ [] → I.is_clean old
   pub is_clean : OnOk outcome (replies_in answers ≢ [] → I.is_clean new)
   pub unasked : OnOk outcome (replies_in answers ≡ [] → I.is_clean old → I.is_clean new)
@@ -173,7 +187,7 @@ abbrev pub Imports : {B : Type 0} → IssuedOf B → (B → Rows) → Result (Li
 Imports {B = B} I rows file old new outcome =
     (lines : List Line) × (answers : List LineAnswer) × AreAnswered lines answers × EndsAfter file outcome lines answers
     × (I.is_clean new → LinesLeadTo (rows old) lines answers (rows new))
-    × (I.is_honest new → Vouches I rows lines answers old new outcome)
+    × (I.is_honest new → Vouches I rows file lines answers old new outcome)
     × (behind : B) × Passes (LineHappens I rows) old (zip lines answers) behind
     × LeavesBehind I rows file lines behind outcome new
 

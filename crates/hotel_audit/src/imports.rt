@@ -1,7 +1,7 @@
 //! The import of an audit file into any books that take notes.
-ghost use Rattle.std.specs.Prelude.{◌≡◌, ◌≢◌, ◌<◌, [], ◌∷◌, length, IfOk, IfErr, OnErr, Ok, Err};
+ghost use Rattle.std.specs.Prelude.{◌≡◌, ◌≢◌, ◌<◌, [], ◌∷◌, length, is_ok, IfOk, IfErr, OnErr, Ok, Err};
 ghost use Rattle.keycard_rules.specs.Since.{Since};
-ghost use Rattle.hotel_core.specs.Books.Happens.{HaveCalls};
+ghost use Rattle.hotel_core.specs.{Books.Happens.IsCall, Books.Passes.Passes};
 ghost use Rattle.hotel_core.specs.{Books.Failures.AreCounted, Books.Failures.refusal_of};
 ghost use Rattle.hotel_audit.specs.{declared.audit_file.AuditFault.AuditFault, AuditFile.audit_lines};
 ghost use Rattle.hotel_audit.specs.declared.audit_file.TheConstants.{AUDIT_BYTES};
@@ -52,7 +52,7 @@ fn answer_line<B: Desk>(books: &mut B, line: &Line) -> Result<LineAnswer, LookFa
         (B.rows books.new)) }
     ensures vouched { IfOk result (λ answer. B.is_honest books.new → replies_in (answer ∷ []) ≢ []
         → B.is_clean books.new) }
-    ensures asked { IfOk result (λ answer. HaveCalls B.Issued books.old books.new (asked_of (line.now ∷ []))) }
+    ensures asked { Passes (IsCall B.Issued) books.old (asked_of (is_ok result) (line.now ∷ [])) books.new }
     ensures unasked { IfOk result (λ answer. replies_in (answer ∷ []) ≡ [] → books.new ≡ books.old) }
     ensures unchanged { OnErr result (B.is_clean books.new → B.rows books.new ≡ B.rows books.old) }
     ensures failed { IfErr result (λ why. B.is_clean books.new

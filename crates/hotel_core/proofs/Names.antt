@@ -55,9 +55,9 @@ pub use Rattle.hotel_nights.specs.Block.{one_if}
 pub use Rattle.keycard_rules.specs.Draw.{Draws, fault_in}
 unfoldable pub use Rattle.keycard_rules.specs.Draw.{drawn}
 pub use Rattle.keycard_rules.specs.Numbers.{IsNumberUpTo}
-pub use Rattle.keycard_rules.proofs.Asks.{asked_before, asked_now, asked_since, asked_then}
+pub use Rattle.keycard_rules.proofs.Calls.{called_before, called_now, called_then}
 pub use Rattle.keycard_rules.proofs.Sinces.{since_refl, since_then}
-pub use Rattle.keycard_rules.specs.Asked.{WasAsked, WasCalled}
+pub use Rattle.keycard_rules.specs.Called.{WasCalled}
 pub use Rattle.keycard_rules.specs.Rise.{HasRisen, HasRisenBy, NoFewer}
 pub use Rattle.keycard_rules.specs.Since.{Since}
 pub use Rattle.keycard_rules.specs.declared.issued.LookFault.{LookFault}

@@ -8,7 +8,6 @@ pub mod CheckParts
 pub mod DrawParts
 pub mod FailuresCounted
 pub mod Happened
-pub mod Calls
 pub mod Passes
 pub mod Happens
 pub mod ShutBooks

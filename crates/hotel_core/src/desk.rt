@@ -1,10 +1,8 @@
 //! A desk: books that carry out what they are asked.
-ghost use Rattle.std.specs.Prelude.{◌≡◌, false};
 ghost use Rattle.hotel_core.specs.{Books.Stepped.Noted, Books.Stepped.Stepped};
 ghost use Rattle.hotel_core.specs.declared.asks.Ask.{Ask};
 ghost use Rattle.hotel_core.specs.declared.asks.Ask.TheVariants as ask;
 ghost use Rattle.hotel_model.specs.declared.command.Command.TheVariants as command;
-ghost use Rattle.hotel_model.specs.{Run.is_failed};
 
 use crate::books::walks::Walks;
 use crate::memory::list_books::ListBooks;
@@ -16,22 +14,20 @@ use rand_core::Rng;
 
 /// Books that carry out commands and take notes, each by a call of its own.
 ///
-/// That a call was asked for just this (`has_answered`) is known to code over any desk of these calls alone, not of
+/// That one call was asked for just this (`was_asked`) is known to code over any desk of these calls alone, not of
 /// [`step`](crate::step) and [`report`](crate::report), by which each kind of books makes them. So where such code says
-/// that a command was answered, it was this desk that was asked for it.
+/// what was asked, it was this desk that was asked for it, each thing once.
 pub trait Desk: Walks {
     /// Carries out one command, or refuses it and changes nothing, as [`step`](crate::step) does.
     fn step<R: Rng>(&mut self, source: &mut R, command: &Command) -> Reply
         ensures steps { Stepped Self.Issued Self.rows command.now self.old self.new (R.stream source.old)
             (R.stream source.new) result }
-        ensures asked { is_failed result ≡ false
-            → Self.Issued.has_answered Ask (ask.Command command.now) self.old self.new };
+        ensures asked { Self.Issued.was_asked Ask (ask.Command command.now) self.old self.new };
 
     /// Takes a note of a lock, as [`report`](crate::report) does.
     fn report(&mut self, note: &LockNote) -> Reply
         ensures noted { Noted Self.Issued Self.rows note.now self.old self.new result }
-        ensures asked { is_failed result ≡ false
-            → Self.Issued.has_answered Ask (ask.Command (command.Reported note.now)) self.old self.new };
+        ensures asked { Self.Issued.was_asked Ask (ask.Command (command.Reported note.now)) self.old self.new };
 }
 
 impl Desk for ListBooks {

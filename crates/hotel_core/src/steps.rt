@@ -1,6 +1,6 @@
 //! One command, over any books.
 ghost use Rattle.std.specs.Prelude.{◌≡◌, true, false};
-ghost use Rattle.keycard_rules.specs.{Asked.WasCalled};
+ghost use Rattle.keycard_rules.specs.{Called.WasCalled};
 ghost use Rattle.hotel_core.specs.Books.Stepped.{Noted, Stepped};
 ghost use Rattle.hotel_model.specs.{Ranges.IsCommand, Run.is_failed};
 ghost use Rattle.hotel_core.specs.{Refinement.Finds.reply_of, Refinement.StepOnRows.CarriesOut};

@@ -2,9 +2,9 @@
 use Rattle.std.proofs.Common.{◌≡◌, ◌≢◌, ◌∙◌, ℕ, List, [], ◌∷◌, ◌++◌, length, map, refl, sym, ap, subst, inl, inr, arith}
 use Rattle.std.proofs.Common.{append-nil}
 use Rattle.std.proofs.Common.{Option, Some, None, Result, Ok, Err, Bool, true, false, not, OnOk, OnErr}
-use Rattle.hotel_core.proofs.{Names.false≢true, Names.Stream, Names.AreCounted, Names.failure_in, Names.is_failed}
-use Rattle.hotel_core.proofs.{Names.History, Names.Rows, Names.since_refl}
-use Rattle.hotel_core.proofs.{Names.asked_now, OfCode.Calls.calls_join}
+use Rattle.hotel_core.proofs.{Names.false≢true, Names.Stream, Names.AreCounted, Names.failure_in}
+use Rattle.hotel_core.proofs.{Names.History, Names.Note, Names.Rows}
+use Rattle.keycard_rules.specs.declared.issued.LookFault.TheVariants as look
 use Rattle.hotel_core.proofs.OfCode.Happens.{answer_in, known_on}
 use Rattle.hotel_model.proofs.Invariants.Assurance.{assured}
 use Rattle.hotel_core.proofs.OfCode.Happens.{happens_as, happens_idle, happens_so, tells_once}
@@ -14,8 +14,8 @@ use Rattle.std.proofs.KnownBytes.{Appends-trans}
 use Rattle.keycard_rules.specs.{Since.Since, declared.issued.Issued.Ghosts as IssuedOf}
 use Rattle.hotel_model.specs.{declared.command.Command.Command, declared.reply.Reply.Reply}
 use Rattle.hotel_model.specs.{declared.reply.Refusal.Refusal}
-use Rattle.hotel_core.specs.{Books.Happens.Happens, Books.Happens.HaveCalls, Books.Happens.StepTold}
-use Rattle.hotel_core.specs.Books.Happens.{Tells, Told, asked_if, has_answer, known_after}
+use Rattle.hotel_core.specs.Books.Happens.{Call, Happens, IsCall, StepTold, Tells, Told, has_answer, known_after}
+use Rattle.hotel_core.specs.Books.Passes.{Passes}
 use Rattle.hotel_model.specs.declared.reply.Reply.TheVariants as reply
 use Rattle.hotel_model.specs.declared.reply.Refusal.TheVariants as refusal
 use Rattle.hotel_lists.specs.{Bytes.AppendsFront, declared.calls.WriteFailed.WriteFailed}
@@ -28,8 +28,10 @@ use Rattle.hotel_core.specs.declared.asks.ListAsk.{ListAsk}
 use Rattle.hotel_asks.specs.{Listings.listing_on, Listings.listing_over}
 use Rattle.hotel_asks.proofs.ListingLemmas.{listing_stands}
 use Rattle.hotel_audit.specs.{AuditFile.audit_lines, Import.EndsAfter, Import.Imports, Import.Vouches as FileVouches}
+use Rattle.hotel_audit.specs.{Import.LeavesBehind, Import.next_of}
+use Rattle.hotel_audit.proofs.ImportEnds.{next_note}
 use Rattle.hotel_audit.specs.{Import.replies_in, declared.answer.LineAnswer.LineAnswer}
-use Rattle.hotel_audit.specs.{Import.AreAnswered, Import.asked_of, Import.command_asked, Import.commands_of}
+use Rattle.hotel_audit.specs.{Import.AreAnswered, Import.asked_of, Import.called, Import.commands_of}
 use Rattle.hotel_audit.specs.declared.line.Line.TheVariants as line
 use Rattle.hotel_audit.specs.{declared.audit_file.AuditFault.AuditFault}
 use Rattle.hotel_audit.specs.{declared.imports.ImportFault.ImportFault, declared.line.Line.Line}
@@ -46,7 +48,7 @@ use Rattle.hotel_http.specs.Serve.{ListComes, AskComes, FileComes, TaskComes, Co
 use Rattle.hotel_http.specs.Serve.{IsListText, is_answered, list_failures, list_refusal, WasAnswered}
 
 -- an answer that was written or not
-pub ends_as : (text : List ℕ) (status : Status) (acted : Bool) (answered : List (Option Ask))
+pub ends_as : (text : List ℕ) (status : Status) (acted : Bool) (answered : List Call)
     (written : Result (Unit {0}) WriteFailed) (old new : Option (List ℕ)) (end : Result Served Cut)
     → end ≡ ended written status acted → OnOk written (Appends old new text) → OnErr written (AppendsFront old new text)
     → EndsAs (outcome text status acted answered) [] old new end
@@ -59,9 +61,9 @@ ends_as text status acted answered (Err failed) old new end e ok err =
 answered_weaker : (came : History → Stream → Outcome → List Refusal → History → Stream → Type 0) (s t : Stream)
     (before : List ℕ) (old new : Option (List ℕ)) (end : Result Served Cut)
     (told told' : Told) (h h' : History)
-    → ((failed : List Refusal) (answered : List (Option Ask)) → told failed answered → told' failed answered)
+    → ((failed : List Refusal) (answered : List Call) → told failed answered → told' failed answered)
     → Answered came s t before old new end told h h' → Answered came s t before old new end told' h h'
-answered_weaker came s t before old new end told told' h h' more a = (a.0, a.1, a.2, a.3, more a.1 a.0.answered a.4)
+answered_weaker came s t before old new end told told' h h' more a = (a.0, a.1, a.2, a.3, more a.1 a.0.calls a.4)
 
 -- a command is carried out
 pub command_came : {S : Type 0} {I : IssuedOf S} {rows : S → Rows} {a b : S} (s t : Stream) (command : Command)
@@ -77,8 +79,7 @@ pub list_came : {S : Type 0} {I : IssuedOf S} {rows : S → Rows} {a b : S} (its
     (answers : Bool) (failed : List Refusal) (old new : Option (List ℕ)) (end : Result Served Cut)
     → ((x : S) → I.is_clean x → I.is_honest x) → Since I.is_clean I.is_honest I.failures a b
     → (I.is_clean b → rows b ≡ rows a) → (I.is_honest b → answers ≡ true → I.is_clean b)
-    → (answers ≡ true → I.has_answered Ask (ask.List its_list) a b)
-    → out.answered ≡ asked_if answers (ask.List its_list) ∷ []
+    → I.was_asked Ask (ask.List its_list) a b → out.calls ≡ (ask.List its_list, answers) ∷ []
     → ((listing : Option Listing) → (I.is_clean b → listing ≡ listing_on (rows a) its_list) → I.is_honest b
     → ListComes its_list listing out failed) → EndsAs out [] old new end
     → AreCounted (I.failures a) (I.failures b) failed
@@ -87,9 +88,8 @@ list_came {I = I} {rows = rows} {a = a} {b = b} its_list out answers failed old 
     asked said comes ends are_counted s =
     happens_so (answered_weaker (AskComes (ask.List its_list)) s s [] old new end) honest_is since
     (λ honest h reached stands.
-    let told = subst (λ (l : List (Option Ask)). Tells I a b failed l) (sym said)
-    (tells_once answers (ask.List its_list) (λ clean. are_counted) (vouched honest)
-    (λ k. asked_now since (asked k)) since) in
+    let told = subst (λ (l : List Call). Tells I a b failed l) (sym said)
+    (tells_once answers (ask.List its_list) (λ clean. are_counted) (vouched honest) asked since) in
     let its = comes (listing_over h its_list)
     (λ clean. sym (listing_stands h (rows a) its_list (reached, stands (since.was_clean clean)))) honest in (
       h,
@@ -101,9 +101,9 @@ list_came {I = I} {rows = rows} {a = a} {b = b} its_list out answers failed old 
 
 -- the text of a list that was made
 pub list_there : (its_list : ListAsk) (listing : Option Listing) (text : List ℕ) → IsListText listing (Ok text)
-    → ListComes its_list listing (outcome (list_answer text) Success false (Some (ask.List its_list) ∷ [])) []
+    → ListComes its_list listing (outcome (list_answer text) Success false ((ask.List its_list, true) ∷ [])) []
 list_there its_list (Some listing) text is =
-    inl (ap (λ (t : List ℕ). outcome (list_answer t) Success false (Some (ask.List its_list) ∷ [])) is, refl)
+    inl (ap (λ (t : List ℕ). outcome (list_answer t) Success false ((ask.List its_list, true) ∷ [])) is, refl)
 list_there its_list None text is = absurd is
 
 -- there are as many replies as notes
@@ -123,14 +123,14 @@ as_many_replies (asks ∷ lines) [] each = absurd each
 
 -- where one of these commands was answered, there is a reply
 some_reply : (commands : List Command) (replies : List Reply) → length replies ≡ length commands
-    → has_answer (map command_asked commands) ≡ true → replies ≢ []
+    → has_answer (map (called true) commands) ≡ true → replies ≢ []
 some_reply [] replies n k = absurd (false≢true k)
 some_reply (command ∷ commands) [] n k = absurd (omega (arith, n))
 some_reply (command ∷ commands) (reply ∷ replies) n k = λ e. cc e
 
 -- what is known after these commands were answered
 known_of : (was is : Type 0) (commands : List Command) (replies : List Reply) → length replies ≡ length commands
-    → (replies ≢ [] → is) → (replies ≡ [] → was → is) → known_after was (map command_asked commands) → is
+    → (replies ≢ [] → is) → (replies ≡ [] → was → is) → known_after was (map (called true) commands) → is
 known_of was is [] [] n after same k = same refl k
 known_of was is [] (reply ∷ replies) n after same k = absurd (omega (arith, n))
 known_of was is (command ∷ commands) [] n after same k = absurd (omega (arith, n))
@@ -138,44 +138,55 @@ known_of was is (command ∷ commands) (reply ∷ replies) n after same k = afte
 
 -- an import was stopped
 stopped_tells : {S : Type 0} {I : IssuedOf S} {a b : S} (failed : List Refusal) (lines : List Line)
-    (answers : List LineAnswer) → AreAnswered lines answers → (replies_in answers ≢ [] → I.is_clean a)
-    → HaveCalls I a b (asked_of lines) → (I.is_clean b → AreCounted (I.failures a) (I.failures b) failed)
-    → Tells I a b failed (asked_of lines ++ None ∷ [])
-stopped_tells {I = I} {a = a} {b = b} failed lines answers each before calls counted = record {
+    (answers : List LineAnswer) (next : List Line) (note : Note) → next ≡ line.Note note ∷ []
+    → AreAnswered lines answers → (replies_in answers ≢ [] → I.is_clean a)
+    → Passes (IsCall I) a (asked_of true lines ++ asked_of false next) b
+    → (I.is_clean b → AreCounted (I.failures a) (I.failures b) failed)
+    → Tells I a b failed (asked_of true lines ++ asked_of false next)
+stopped_tells {I = I} {a = a} {b = b} failed lines answers next note is each before calls counted = record {
   counted = counted;
-  asked = calls_join I a b b (asked_of lines) (None ∷ []) calls since_refl;
-  began = answer_in (I.is_clean a) (asked_of lines) (None ∷ [])
+  asked = calls;
+  began = answer_in (I.is_clean a) (asked_of true lines) (asked_of false next)
       (λ k. before (some_reply (commands_of lines) (replies_in answers) (as_many_replies lines answers each) k))
-      (λ k. absurd (false≢true k));
-  ends = λ k. absurd (known_on (I.is_clean a) (asked_of lines) (None ∷ []) k);
+      (λ k. absurd (false≢true (subst (λ ls. has_answer (asked_of false ls) ≡ true) is k)));
+  ends = λ k. absurd
+      (subst (λ ls. known_after (known_after (I.is_clean a) (asked_of true lines)) (asked_of false ls)) is
+      (known_on (I.is_clean a) (asked_of true lines) (asked_of false next) k));
 }
 
 -- what an import tells
 import_tells : {S : Type 0} {I : IssuedOf S} {rows : S → Rows} {a b : S} (file : Result (List Line) AuditFault)
     (end : Result (List LineAnswer) ImportFault) (lines : List Line) (answers : List LineAnswer)
-    → AreAnswered lines answers → EndsAfter file end lines answers → FileVouches I rows lines answers a b end
+    → AreAnswered lines answers → EndsAfter file end lines answers → FileVouches I rows file lines answers a b end
     → Since I.is_clean I.is_honest I.failures a b → ((why : AuditFault) → end ≡ Err (import.File why) → b ≡ a)
     → (I.is_clean b → AreCounted (I.failures a) (I.failures b) (import_failures end))
-    → Tells I a b (import_failures end) (imported lines end).answered
-import_tells {I = I} {a = a} {b = b} file (Ok given) lines answers each ends v since same counted = record {
-  counted = counted;
-  asked = v.asked;
-  began = λ k. v.was_clean (some_reply (commands_of lines) (replies_in answers)
-      (as_many_replies lines answers each) k);
-  ends = known_of (I.is_clean a) (I.is_clean b) (commands_of lines) (replies_in answers)
-      (as_many_replies lines answers each) v.is_clean v.unasked;
-}
-import_tells {I = I} {a = a} {b = b} file (Err (import.File why)) lines answers each ends v since same counted =
+    → (behind : S) → LeavesBehind I rows file lines behind end b
+    → Tells I a b (import_failures end) (imported file lines end).calls
+import_tells {I = I} {a = a} {b = b} file (Ok given) lines answers each ends v since same counted behind
+    leaves = record {
+      counted = counted;
+      asked = v.asked;
+      began = λ k. v.was_clean (some_reply (commands_of lines) (replies_in answers)
+          (as_many_replies lines answers each) k);
+      ends = known_of (I.is_clean a) (I.is_clean b) (commands_of lines) (replies_in answers)
+          (as_many_replies lines answers each) v.is_clean v.unasked;
+    }
+import_tells {I = I} {a = a} {b = b} file (Err (import.File why)) lines answers each ends v since same
+    counted behind leaves =
     record {
       counted = counted;
-      asked = since;
+      asked = same why refl;
       began = λ k. absurd (false≢true k);
       ends = λ was. subst (λ x. I.is_clean x) (sym (same why refl)) was;
     }
-import_tells file (Err (import.Memory answered taken)) lines answers each ends v since same counted =
-    stopped_tells _ lines answers each v.was_clean v.asked counted
-import_tells file (Err (import.Store answered taken)) lines answers each ends v since same counted =
-    stopped_tells _ lines answers each v.was_clean v.asked counted
+import_tells {I = I} {rows = rows} {b = b} file (Err (import.Memory answered taken)) lines answers each ends v since
+    same counted behind leaves =
+    let next = next_note I rows file lines behind b look.Memory leaves in
+    stopped_tells _ lines answers (next_of file lines) next.0 next.1 each v.was_clean v.asked counted
+import_tells {I = I} {rows = rows} {b = b} file (Err (import.Store answered taken)) lines answers each ends v since
+    same counted behind leaves =
+    let next = next_note I rows file lines behind b look.Store leaves in
+    stopped_tells _ lines answers (next_of file lines) next.0 next.1 each v.was_clean v.asked counted
 
 -- an audit file is imported
 pub file_came : {S : Type 0} {I : IssuedOf S} {rows : S → Rows} {a b : S} (file : List ℕ)
@@ -184,7 +195,7 @@ pub file_came : {S : Type 0} {I : IssuedOf S} {rows : S → Rows} {a b : S} (fil
     → Imports I rows (audit_lines file) a b import_end
     → ((why : AuditFault) → import_end ≡ Err (import.File why) → b ≡ a)
     → (I.is_clean b → AreCounted (I.failures a) (I.failures b) (import_failures import_end))
-    → ((lines : List Line) → EndsAs (imported lines import_end) [] old new end)
+    → ((lines : List Line) → EndsAs (imported (audit_lines file) lines import_end) [] old new end)
     → (s : Stream) → Happens I rows a (Answered (FileComes file) s s [] old new end) b
 file_came {I = I} {rows = rows} {a = a} {b = b} file import_end old new end honest_is since i same failed ends s =
     happens_so (answered_weaker (FileComes file) s s [] old new end) honest_is since
@@ -195,11 +206,11 @@ file_came {I = I} {rows = rows} {a = a} {b = b} file import_end old new end hone
       p.1,
       p.2,
       (
-        imported i.0 import_end,
+        imported (audit_lines file) i.0 import_end,
         import_failures import_end,
         (import_end, i.0, i.1, i.2, i.3, p.3, refl, refl, refl),
         ends i.0,
-        import_tells (audit_lines file) import_end i.0 i.1 i.2 i.3 v since same failed,
+        import_tells (audit_lines file) import_end i.0 i.1 i.2 i.3 v since same failed i.6 i.8,
       ),
       p.4,
     ))

@@ -6,8 +6,8 @@ use Rattle.rand_core.specs.Stream.{Stream}
 use Rattle.keycard_rules.specs.{declared.issued.Issued.Ghosts as IssuedOf}
 use Rattle.hotel_model.specs.{declared.reply.Reply.Reply, declared.reply.Refusal.Refusal, History.History}
 use Rattle.hotel_model.specs.Rows.{Rows}
-use Rattle.hotel_core.specs.{Books.Failures.failure_in, Books.Happens.Happens, Books.Happens.Told}
-use Rattle.hotel_core.specs.{Books.Happens.asked_if, declared.asks.ListAsk.ListAsk}
+use Rattle.hotel_core.specs.{Books.Failures.failure_in, Books.Happens.Call, Books.Happens.Happens, Books.Happens.Told}
+use Rattle.hotel_core.specs.declared.asks.ListAsk.{ListAsk}
 use Rattle.hotel_model.specs.declared.reply.Reply.TheVariants as reply
 use Rattle.hotel_model.specs.declared.reply.Refusal.TheVariants as refusal
 use Rattle.hotel_model.specs.Run.{Steps, Runs, is_failed}
@@ -17,8 +17,8 @@ use Rattle.hotel_lists.specs.Listings.{Listing, in_full}
 use Rattle.hotel_core.specs.declared.asks.Ask.{Ask}
 use Rattle.hotel_asks.specs.Listings.{listing_over}
 use Rattle.hotel_core.specs.declared.asks.Ask.TheVariants as ask
-use Rattle.hotel_audit.specs.{AuditFile.audit_lines, Import.AreAnswered, Import.EndsAfter, Import.asked_of}
-use Rattle.hotel_audit.specs.{Import.commands_of}
+use Rattle.hotel_audit.specs.{AuditFile.audit_lines, Import.AreAnswered, Import.EndsAfter, Import.asked_by}
+use Rattle.hotel_audit.specs.{Import.commands_of, declared.audit_file.AuditFault.AuditFault}
 use Rattle.hotel_audit.specs.{Import.replies_in, Import.has_taken, Import.failures_of}
 use Rattle.hotel_audit.specs.{declared.answer.LineAnswer.LineAnswer, declared.imports.ImportFault.ImportFault}
 use Rattle.hotel_audit.specs.{declared.line.Line.Line}
@@ -36,18 +36,18 @@ use Rattle.hotel_http.specs.{Body.interim_text, Body.interim_where}
 use Rattle.hotel_http.specs.{Request.Wanted, Request.Requests, Request.IsAwaited, Request.AtMostInterim}
 use Rattle.hotel_http.specs.{Status.number_of}
 
--- An answer: its bytes, its status, whether the books took something of the request, and each time that they were asked
--- for it: what they answered (Some), or that they failed (None).
+-- An answer: its bytes, its status, whether the books took something of the request, and what they were asked for it,
+-- in turn.
 pub record Outcome : Type 0 where
   pub text : List ℕ
   pub status : ℕ
   pub acted : Bool
-  pub answered : List (Option Ask)
+  pub calls : List Call
 
 -- an answer of this status
-abbrev pub outcome : List ℕ → Status → Bool → List (Option Ask) → Outcome
-outcome text status acted answered =
-    record { text = text; status = number_of status; acted = acted; answered = answered }
+abbrev pub outcome : List ℕ → Status → Bool → List Call → Outcome
+outcome text status acted calls =
+    record { text = text; status = number_of status; acted = acted; calls = calls }
 
 abbrev pub rejected : Rejection → Outcome
 rejected why = outcome (rejection_answer why) (rejection_status why) false []
@@ -60,13 +60,13 @@ is_accepted _ = true
 -- the reply to what was asked
 abbrev pub replied : Ask → Reply → Outcome
 replied wanted given = outcome (reply_answer given) (reply_status given) (is_accepted given)
-    (asked_if (not (is_failed given)) wanted ∷ [])
+    ((wanted, not (is_failed given)) ∷ [])
 
 -- A list in full, or that its room isn't there.
 abbrev pub listed : ListAsk → Option Listing → Outcome
 listed its_list None = replied (ask.List its_list) (reply.Refused refusal.NoRoom)
 listed its_list (Some listing) =
-    outcome (list_answer (in_full [] (Some listing))) Success false (Some (ask.List its_list) ∷ [])
+    outcome (list_answer (in_full [] (Some listing))) Success false ((ask.List its_list, true) ∷ [])
 
 -- a line was taken before an import ended without answers
 abbrev pub taken_by : ImportFault → Bool
@@ -74,16 +74,12 @@ taken_by (import.File why) = false
 taken_by (import.Memory answered taken) = taken
 taken_by (import.Store answered taken) = taken
 
--- how the books answered in an import that ended without answers, behind these lines: they failed behind them
-abbrev pub stopped_by : List Line → ImportFault → List (Option Ask)
-stopped_by lines (import.File why) = []
-stopped_by lines (import.Memory answered taken) = asked_of lines ++ None ∷ []
-stopped_by lines (import.Store answered taken) = asked_of lines ++ None ∷ []
-
--- an import of which these lines were answered
-abbrev pub imported : List Line → Result (List LineAnswer) ImportFault → Outcome
-imported lines (Ok answers) = outcome (lines_answer answers) Success (has_taken answers) (asked_of lines)
-imported lines (Err why) = outcome (fault_answer why) (fault_status why) (taken_by why) (stopped_by lines why)
+-- an import of a file, of which these lines were answered
+abbrev pub imported : Result (List Line) AuditFault → List Line → Result (List LineAnswer) ImportFault → Outcome
+imported file lines (Ok answers) =
+    outcome (lines_answer answers) Success (has_taken answers) (asked_by file lines (Ok answers))
+imported file lines (Err why) =
+    outcome (fault_answer why) (fault_status why) (taken_by why) (asked_by file lines (Err why))
 
 -- the failures that the books counted in an import that ended so
 abbrev pub import_failures : Result (List LineAnswer) ImportFault → List Refusal
@@ -112,7 +108,7 @@ FileComes file h s out failed h' s' =
     (end : Result (List LineAnswer) ImportFault) × (lines : List Line) × (answers : List LineAnswer)
     × AreAnswered lines answers
     × EndsAfter (audit_lines file) end lines answers × Runs h s (commands_of lines) (replies_in answers) h' s
-    × (out ≡ imported lines end) × (failed ≡ import_failures end) × (s' ≡ s)
+    × (out ≡ imported (audit_lines file) lines end) × (failed ≡ import_failures end) × (s' ≡ s)
 
 -- What comes of a task with its body.
 abbrev pub TaskComes : Task → List ℕ → History → Stream → Outcome → List Refusal → History → Stream → Type 0
@@ -134,13 +130,14 @@ EndsAs out before old new (Ok served) =
     (served.status ≡ out.status) × (served.acted ≡ out.acted) × Appends old new (before ++ out.text)
 EndsAs out before old new (Err cut) = (cut.acted ≡ out.acted) × AppendsFront old new (before ++ out.text)
 
--- This came, its answer was written so behind this text, and of its failures and the books' answers this is told.
+-- This came, its answer was written so behind this text, and of its failures and of what the books were asked this is
+-- told.
 abbrev pub Answered : (History → Stream → Outcome → List Refusal → History → Stream → Type 0) → Stream → Stream → List ℕ
     → Option (List ℕ) → Option (List ℕ)
     → AnswerEnd → Told → History → History → Type 0
 Answered came s s' before old new end told h h' =
     (out : Outcome) × (failed : List Refusal) × came h s out failed h' s' × EndsAs out before old new end
-    × told failed out.answered
+    × told failed out.calls
 
 -- How an answer ends that was written or not.
 abbrev pub ended : Result (Unit {0}) WriteFailed → Status → Bool → Result Served Cut

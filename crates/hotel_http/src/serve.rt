@@ -156,8 +156,7 @@ fn list_text<B: ListDesk>(alloc: Global, list: &ListAsk, books: &mut B) -> Resul
         (text_in (λ t. t.items) result) }
     ensures vouched { B.is_honest books.new → is_answered (text_in (λ t. t.items) result) ≡ true
         → B.is_clean books.new }
-    ensures asked { is_answered (text_in (λ t. t.items) result) ≡ true
-        → B.has_answered Ask (ask.List list.now) books.old books.new }
+    ensures asked { B.was_asked Ask (ask.List list.now) books.old books.new }
     ensures kept { B.is_clean books.new → B.is_kept books.old books.new }
     ensures since { Since B.is_clean B.is_honest B.failures books.old books.new }
     ensures failures { AreCounted (B.failures books.old) (B.failures books.new)

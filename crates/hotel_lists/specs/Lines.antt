@@ -5,7 +5,7 @@ use Rattle.std.specs.Fmt.{decimal}
 use Rattle.std.specs.Io.KnownBytes.{Keeps}
 use Rattle.csv.specs.Writing.{default_writer, row_text}
 use Rattle.keycard_rules.specs.{Rise.HasRisen, declared.issued.Issued.Ghosts as IssuedOf}
-use Rattle.keycard_rules.specs.{Since.Since, Asked.WasCalled}
+use Rattle.keycard_rules.specs.{Since.Since, Called.WasCalled}
 use Rattle.keycard_rules.specs.{Numerals.code_text, Note.Note, declared.note.Act.Act}
 use Rattle.keycard_rules.specs.declared.issued.LookFault.TheVariants as look
 use Rattle.keycard_rules.specs.declared.note.Act.TheVariants.{Entered, Left, Recoded}

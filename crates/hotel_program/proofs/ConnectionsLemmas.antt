@@ -5,7 +5,7 @@ use Rattle.std.proofs.lemmas.Grind.{flat_map-append}
 use Rattle.rand_core.specs.Stream.{Stream}
 use Rattle.keycard_rules.specs.declared.issued.Issued.{Ghosts as IssuedOf}
 use Rattle.hotel_core.proofs.OfCode.Happens.{happens_as, happens_idle, happens_then}
-use Rattle.hotel_core.specs.{Books.Happens.Happens, Books.Happens.Told, declared.asks.Ask.Ask}
+use Rattle.hotel_core.specs.Books.Happens.{Call, Happens, Told}
 use Rattle.hotel_model.specs.History.{History}
 use Rattle.hotel_model.specs.Rows.{Rows}
 use Rattle.hotel_model.specs.declared.reply.Refusal.{Refusal}
@@ -26,7 +26,7 @@ none_served I rows a s =
 
 -- Of one connection this came.
 one_came : (end : ConnectionEnd) (s s' : Stream) (told : Told) (h h' : History)
-    (failed : List Refusal) (answered : List (Option Ask))
+    (failed : List Refusal) (answered : List Call)
     → ConnectionCame end h s failed answered h' s' → told failed answered → ServesAll (end ∷ []) s s' told h h'
 one_came end s s' told h h' failed answered came t = (
   failed,
@@ -65,10 +65,10 @@ pub request_served : {S R : Type 0} (I : IssuedOf S) (rows : S → Rows) (stream
     (Answered (Comes wanted) (stream source) (stream later) (before awaited) text text' end) new) result
     → Happens I rows old (ServesAll (Some result ∷ []) (stream source) (stream later)) new
 request_served I rows stream old new source later before known text text' (Ok served) went =
-    happens_as (λ told h h' a. one_came (Some (Ok served)) _ _ told h h' a.1 a.0.answered
+    happens_as (λ told h h' a. one_came (Some (Ok served)) _ _ told h h' a.1 a.0.calls
     (went.0, a.0, a.2, (a.3.0, a.3.1), refl) a.4) went.3
 request_served I rows stream old new source later before known text text' (Err (Write acted)) (inl went) =
-    happens_as (λ told h h' a. one_came (Some (Err (Write acted))) _ _ told h h' a.1 a.0.answered
+    happens_as (λ told h h' a. one_came (Some (Err (Write acted))) _ _ told h h' a.1 a.0.calls
     (inl (went.0, a.0, a.2, a.3.0, refl)) a.4) went.3
 request_served I rows stream old new source later before known text text' (Err (Write acted)) (inr went) =
     idle_served I rows stream (Some (Err (Write acted))) old new source later
@@ -82,14 +82,14 @@ request_served I rows stream old new source later before known text text' (Err M
 
 -- connections and then others
 all_came : (first more : List ConnectionEnd) (h mid h' : History) (s t s' : Stream)
-    (failed others : List Refusal) (answered later : List (Option Ask))
+    (failed others : List Refusal) (answered later : List Call)
     → AllCame first h s failed answered mid t → AllCame more mid t others later h' s'
     → AllCame (first ++ more) h s (failed ++ others) (answered ++ later) h' s'
 all_came [] more h mid h' s t s' failed others answered later came next =
     let next = subst (λ (x : History). AllCame more x t others later h' s') came.2 next in
     let next = subst (λ (x : Stream). AllCame more h x others later h' s') came.3 next in
     let next = subst (λ (l : List Refusal). AllCame more h s (l ++ others) later h' s') (sym came.0) next in
-    subst (λ (l : List (Option Ask)). AllCame more h s (failed ++ others) (l ++ later) h' s') (sym came.1) next
+    subst (λ (l : List Call). AllCame more h s (failed ++ others) (l ++ later) h' s') (sym came.1) next
 all_came (end ∷ first) more h mid h' s t s' failed others answered later came next = (
   came.0,
   came.1,
@@ -100,7 +100,7 @@ all_came (end ∷ first) more h mid h' s t s' failed others answered later came 
   came.6,
   all_came first more came.0 mid h' came.1 t s' came.3 others came.5 later came.7 next,
   ap (λ (l : List Refusal). l ++ others) came.8 ∙ append_assoc came.2 came.3 others,
-  ap (λ (l : List (Option Ask)). l ++ later) came.9 ∙ append_assoc came.4 came.5 later,
+  ap (λ (l : List Call). l ++ later) came.9 ∙ append_assoc came.4 came.5 later,
 )
 
 -- Connections and then others.

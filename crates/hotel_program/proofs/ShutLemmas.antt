@@ -1,5 +1,5 @@
 -- Books that were not clean as a line or a connection began answer nothing, and nothing is taken.
-use Rattle.std.proofs.Common.{◌≡◌, ◌∙◌, ℕ, false, not, List, [], ◌∷◌, ◌++◌, Option, Some, None, inl, inr}
+use Rattle.std.proofs.Common.{◌≡◌, ◌∙◌, ℕ, true, false, not, List, [], ◌∷◌, ◌++◌, Option, Some, None, inl, inr}
 use Rattle.std.proofs.Common.{Result, Ok, Err, refl, ap, arith, subst, sym, append-nil, length, length-append}
 use Rattle.std.proofs.lemmas.List.Folds.{concat-append}
 use Rattle.std.specs.List.{concat}
@@ -8,7 +8,7 @@ use Rattle.std.proofs.KnownBytes.{Appends-trans, Appends-nil}
 use Rattle.rand_core.specs.Stream.{Stream}
 use Rattle.keycard_rules.specs.declared.issued.Issued.{Ghosts as IssuedOf}
 use Rattle.hotel_core.proofs.OfCode.ShutBooks.{happens_shut, passes_before, passes_shut, tells_shut}
-use Rattle.hotel_core.specs.Books.Happens.{asked_if, has_answer}
+use Rattle.hotel_core.specs.Books.Happens.{Call, has_answer}
 use Rattle.hotel_core.specs.declared.asks.Ask.{Ask}
 use Rattle.hotel_core.specs.declared.asks.ListAsk.{ListAsk}
 use Rattle.hotel_model.specs.Run.{is_failed}
@@ -24,7 +24,7 @@ use Rattle.hotel_audit.specs.declared.imports.ImportFault.{ImportFault}
 use Rattle.hotel_audit.specs.declared.imports.ImportFault.TheVariants as import
 use Rattle.hotel_audit.specs.{AuditFile.audit_lines, declared.line.Line.Line}
 use Rattle.hotel_audit.specs.declared.line.Line.TheVariants as line
-use Rattle.hotel_audit.specs.Import.{AreAnswered, EndsAfter, asked_of, has_taken}
+use Rattle.hotel_audit.specs.Import.{AreAnswered, EndsAfter, asked_of, has_taken, next_of}
 use Rattle.hotel_http.specs.declared.tasks.Task.{Task}
 use Rattle.hotel_http.specs.declared.tasks.Task.TheVariants as task
 use Rattle.hotel_http.specs.declared.serve.ServeFault.TheVariants.{Closed, Read, Memory, Write}
@@ -45,11 +45,11 @@ as_many sure (line ∷ later) (text ∷ texts) h h' s s' failed r =
 as_many sure [] (text ∷ texts) h h' s s' failed r = absurd r
 as_many sure (line ∷ later) [] h h' s s' failed r = absurd r
 
-none_in : (first more : List (Option Ask)) → has_answer first ≡ false → has_answer more ≡ false
+none_in : (first more : List Call) → has_answer first ≡ false → has_answer more ≡ false
     → has_answer (first ++ more) ≡ false
 none_in [] more e f = f
-none_in (Some asked ∷ first) more e f = cc e
-none_in (None ∷ first) more e f = none_in first more e f
+none_in ((asked, true) ∷ first) more e f = cc e
+none_in ((asked, false) ∷ first) more e f = none_in first more e f
 
 -- a line's answer and those of the lines behind it, of which the books gave none
 none_answered_to : (line : List ℕ) (later one rest : List (List ℕ))
@@ -59,7 +59,7 @@ unfolding answers_to
 none_answered_to line later [] rest n e f = absurd (omega (arith, n))
 none_answered_to line later (text ∷ []) rest n e f =
     let one = answered_to (ask_in line) text in
-    none_in one (answers_to later rest) (subst (λ (l : List (Option Ask)). has_answer l ≡ false) (append-nil one) e) f
+    none_in one (answers_to later rest) (subst (λ (l : List Call). has_answer l ≡ false) (append-nil one) e) f
 none_answered_to line later (text ∷ other ∷ more) rest n e f = absurd (omega (arith, n))
 
 no_line : {W : Type 0} (contents : W → Option (List ℕ)) (old new : W)
@@ -92,24 +92,24 @@ scripts_nothing I rows stream contents old new (line ∷ later) p shut =
 
 -- a reply that is no answer takes nothing
 not_accepted : (given : Reply) (wanted : Ask)
-    → has_answer (asked_if (not (is_failed given)) wanted ∷ []) ≡ false → is_accepted given ≡ false
+    → has_answer ((wanted, not (is_failed given)) ∷ []) ≡ false → is_accepted given ≡ false
 not_accepted (reply.Refused why) wanted k = refl
 not_accepted _ wanted k = cc k
 
 -- lines of which none was answered took nothing
 not_taken : (lines : List Line) (answers : List LineAnswer)
-    → AreAnswered lines answers → has_answer (asked_of lines) ≡ false → has_taken answers ≡ false
+    → AreAnswered lines answers → has_answer (asked_of true lines) ≡ false → has_taken answers ≡ false
 not_taken [] [] each k = refl
 not_taken (line.Unread cause ∷ lines) (given ∷ answers) each k = rw each.0 (not_taken lines answers each.1 k)
 not_taken (line.Note note ∷ lines) (given ∷ answers) each k = cc k
 not_taken [] (given ∷ answers) each k = absurd each
 not_taken (asks ∷ lines) [] each k = absurd each
 
--- the same of lines behind which the books failed
-none_before : (first : List (Option Ask)) → has_answer (first ++ None ∷ []) ≡ false → has_answer first ≡ false
-none_before [] k = refl
-none_before (Some asked ∷ first) k = cc k
-none_before (None ∷ first) k = none_before first k
+-- calls before others, none of which is an answer
+none_before : (first more : List Call) → has_answer (first ++ more) ≡ false → has_answer first ≡ false
+none_before [] more k = refl
+none_before ((asked, true) ∷ first) more k = cc k
+none_before ((asked, false) ∷ first) more k = none_before first more k
 
 list_takes_nothing : (its_list : ListAsk) (listing : Option Listing) → (listed its_list listing).acted ≡ false
 list_takes_nothing its_list None = refl
@@ -117,9 +117,9 @@ list_takes_nothing its_list (Some listing) = refl
 
 task_takes_nothing : (wanted : Task) (body : List ℕ) (h h' : History)
     (s s' : Stream) (out : Outcome) (failed : List Refusal)
-    → TaskComes wanted body h s out failed h' s' → has_answer out.answered ≡ false → out.acted ≡ false
+    → TaskComes wanted body h s out failed h' s' → has_answer out.calls ≡ false → out.acted ≡ false
 task_takes_nothing (task.Asks (ask.Command command)) body h h' s s' out failed came k =
-    let none = subst (λ (o : Outcome). has_answer o.answered ≡ false) came.2 k in
+    let none = subst (λ (o : Outcome). has_answer o.calls ≡ false) came.2 k in
     ap (λ (o : Outcome). o.acted) came.2 ∙ not_accepted came.0 (ask.Command command) none
 task_takes_nothing (task.Asks (ask.List its_list)) body h h' s s' out failed (inl came, e, f) k =
     ap (λ (o : Outcome). o.acted) came.0 ∙ list_takes_nothing its_list (listing_over h its_list)
@@ -128,37 +128,40 @@ task_takes_nothing (task.Asks (ask.List its_list)) body h h' s s' out failed (in
 task_takes_nothing (task.Asks (ask.List its_list)) body h h' s s' out failed (inr (inr came), e, f) k =
     ap (λ (o : Outcome). o.acted) came.0
 task_takes_nothing task.Audit body h h' s s' out failed came k =
-    let none = subst (λ (o : Outcome). has_answer o.answered ≡ false) came.6 k in
+    let none = subst (λ (o : Outcome). has_answer o.calls ≡ false) came.6 k in
     ap (λ (o : Outcome). o.acted) came.6 ∙ import_takes_nothing came.0 came.1 came.2 came.3 came.4 none
   where
     import_takes_nothing : (end : Result (List LineAnswer) ImportFault) (lines : List Line) (answers : List LineAnswer)
         → AreAnswered lines answers → EndsAfter (audit_lines body) end lines answers
-        → has_answer (imported lines end).answered ≡ false → (imported lines end).acted ≡ false
+        → has_answer (imported (audit_lines body) lines end).calls ≡ false
+        → (imported (audit_lines body) lines end).acted ≡ false
     import_takes_nothing (Ok given) lines answers each ends k =
         ap has_taken (sym ends.1) ∙ not_taken lines answers each k
     import_takes_nothing (Err (import.File why)) lines answers each ends k = refl
     import_takes_nothing (Err (import.Memory answered taken)) lines answers each ends k =
-        sym ends.3 ∙ not_taken lines answers each (none_before (asked_of lines) k)
+        sym ends.3 ∙ not_taken lines answers each
+        (none_before (asked_of true lines) (asked_of false (next_of (audit_lines body) lines)) k)
     import_takes_nothing (Err (import.Store answered taken)) lines answers each ends k =
-        sym ends.3 ∙ not_taken lines answers each (none_before (asked_of lines) k)
+        sym ends.3 ∙ not_taken lines answers each
+        (none_before (asked_of true lines) (asked_of false (next_of (audit_lines body) lines)) k)
 
 takes_nothing : (wanted : Wanted) (h h' : History) (s s' : Stream) (out : Outcome) (failed : List Refusal)
-    → Comes wanted h s out failed h' s' → has_answer out.answered ≡ false → out.acted ≡ false
+    → Comes wanted h s out failed h' s' → has_answer out.calls ≡ false → out.acted ≡ false
 takes_nothing (Ok given) h h' s s' out failed came k = task_takes_nothing given.0 given.1 h h' s s' out failed came k
 takes_nothing (Err why) h h' s s' out failed came k = ap (λ (o : Outcome). o.acted) came.0
 
 took_nothing : (end : ConnectionEnd) (h h' : History) (s s' : Stream) (failed : List Refusal)
-    (answered : List (Option Ask))
+    (answered : List Call)
     → ConnectionCame end h s failed answered h' s' → has_answer answered ≡ false → TookNothing end
 took_nothing None h h' s s' failed answered came k = tt
 took_nothing (Some (Ok served)) h h' s s' failed answered came k =
     came.3.1
     ∙ takes_nothing came.0 h h' s s' came.1 failed came.2
-    (subst (λ (l : List (Option Ask)). has_answer l ≡ false) came.4 k)
+    (subst (λ (l : List Call). has_answer l ≡ false) came.4 k)
 took_nothing (Some (Err (Write acted))) h h' s s' failed answered (inl came) k =
     came.3
     ∙ takes_nothing came.0 h h' s s' came.1 failed came.2
-    (subst (λ (l : List (Option Ask)). has_answer l ≡ false) came.4 k)
+    (subst (λ (l : List Call). has_answer l ≡ false) came.4 k)
 took_nothing (Some (Err (Write acted))) h h' s s' failed answered (inr came) k = came.0
 took_nothing (Some (Err Closed)) h h' s s' failed answered came k = tt
 took_nothing (Some (Err Read)) h h' s s' failed answered came k = tt
@@ -169,8 +172,8 @@ comes_to_nothing : {S R : Type 0} (I : IssuedOf S) (rows : S → Rows) (stream :
 comes_to_nothing I rows stream old new end went shut =
     let s = happens_shut went shut in
     let all = s.2.2 in
-    let same : s.2.1 ≡ all.4 = all.9 ∙ (ap (λ (l : List (Option Ask)). all.4 ++ l) all.7.1 ∙ append-nil all.4) in
-    let none = subst (λ (l : List (Option Ask)). has_answer l ≡ false) same (tells_shut s.2.3 shut) in (
+    let same : s.2.1 ≡ all.4 = all.9 ∙ (ap (λ (l : List Call). all.4 ++ l) all.7.1 ∙ append-nil all.4) in
+    let none = subst (λ (l : List Call). has_answer l ≡ false) same (tells_shut s.2.3 shut) in (
       s.0,
       all.0,
       stream old.1,

@@ -3,7 +3,7 @@ use Rattle.std.specs.Prelude.{◌≡◌, ◌⊎◌, false, List, [], ◌∷◌, 
 use Rattle.std.specs.List.{flat_map}
 use Rattle.rand_core.specs.Stream.{Stream}
 use Rattle.keycard_rules.specs.declared.issued.Issued.{Ghosts as IssuedOf}
-use Rattle.hotel_core.specs.{Books.Happens.Happens, Books.Happens.Told, declared.asks.Ask.Ask}
+use Rattle.hotel_core.specs.Books.Happens.{Call, Happens, Told}
 use Rattle.hotel_model.specs.declared.reply.Refusal.{Refusal}
 use Rattle.hotel_model.specs.History.{History}
 use Rattle.hotel_model.specs.Rows.{Rows}
@@ -20,39 +20,40 @@ abbrev pub ConnectionEnd : Type 0
 ConnectionEnd = Option (Result Served ServeFault)
 
 -- Nothing was begun: there are no failures, and the books weren't asked.
-abbrev pub NothingCame : History → Stream → List Refusal → List (Option Ask) → History → Stream → Type 0
-NothingCame h s failed answered h' s' = (failed ≡ []) × (answered ≡ []) × (h' ≡ h) × (s' ≡ s)
+abbrev pub NothingCame : History → Stream → List Refusal → List Call → History → Stream → Type 0
+NothingCame h s failed calls h' s' = (failed ≡ []) × (calls ≡ []) × (h' ≡ h) × (s' ≡ s)
 
--- What a request asks for came, with these failures; its answer has this in it, and says how the books answered.
-abbrev pub RequestCame : (Outcome → Type 0) → History → Stream → List Refusal → List (Option Ask) → History → Stream
+-- What a request asks for came, with these failures; its answer has this in it, and says what the books were asked.
+abbrev pub RequestCame : (Outcome → Type 0) → History → Stream → List Refusal → List Call → History → Stream
     → Type 0
-RequestCame said h s failed answered h' s' =
-    (wanted : Wanted) × (out : Outcome) × Comes wanted h s out failed h' s' × said out × (answered ≡ out.answered)
+RequestCame said h s failed calls h' s' =
+    (wanted : Wanted) × (out : Outcome) × Comes wanted h s out failed h' s' × said out × (calls ≡ out.calls)
 
 -- What came of a connection that ended so.
-abbrev pub ConnectionCame : ConnectionEnd → History → Stream → List Refusal → List (Option Ask) → History → Stream
+abbrev pub ConnectionCame : ConnectionEnd → History → Stream → List Refusal → List Call → History → Stream
     → Type 0
 ConnectionCame (Some (Ok served)) = RequestCame (λ out. (served.status ≡ out.status) × (served.acted ≡ out.acted))
 ConnectionCame (Some (Err (serve.Write acted))) =
-    λ h s failed answered h' s'. RequestCame (λ out. acted ≡ out.acted) h s failed answered h' s'
-    ⊎ ((acted ≡ false) × NothingCame h s failed answered h' s')
+    λ h s failed calls h' s'. RequestCame (λ out. acted ≡ out.acted) h s failed calls h' s'
+    ⊎ ((acted ≡ false) × NothingCame h s failed calls h' s')
 ConnectionCame _ = NothingCame
 
 -- What came of connections that ended so, one after the other.
-abbrev pub AllCame : List ConnectionEnd → History → Stream → List Refusal → List (Option Ask) → History → Stream
+abbrev pub AllCame : List ConnectionEnd → History → Stream → List Refusal → List Call → History → Stream
     → Type 0
-AllCame [] h s failed answered h' s' = NothingCame h s failed answered h' s'
-AllCame (end ∷ ends) h s failed answered h' s' =
-    (mid : History) × (t : Stream) × (first more : List Refusal) × (given later : List (Option Ask))
+AllCame [] h s failed calls h' s' = NothingCame h s failed calls h' s'
+AllCame (end ∷ ends) h s failed calls h' s' =
+    (mid : History) × (t : Stream) × (first more : List Refusal) × (given later : List Call)
     × ConnectionCame end h s first given mid t × AllCame ends mid t more later h' s'
-    × (failed ≡ first ++ more) × (answered ≡ given ++ later)
+    × (failed ≡ first ++ more) × (calls ≡ given ++ later)
 
--- Connections were served from one history to another, and this is told of their failures and of the books' answers.
+-- Connections were served from one history to another, and this is told of their failures and of what the books were
+-- asked.
 abbrev pub ServesAll : List ConnectionEnd → Stream → Stream → Told → History → History
     → Type 0
 ServesAll ends s s' told h h' =
-    (failed : List Refusal) × (answered : List (Option Ask)) × AllCame ends h s failed answered h' s'
-    × told failed answered
+    (failed : List Refusal) × (calls : List Call) × AllCame ends h s failed calls h' s'
+    × told failed calls
 
 -- A connection was served to this end, by books and a source of words.
 abbrev pub ConnectionHappens : {S R : Type 0} → IssuedOf S → (S → Rows) → (R → Stream) → S × R → ConnectionEnd → S × R

@@ -5,8 +5,7 @@ use Rattle.std.specs.Io.KnownBytes.{Appends}
 use Rattle.rand_core.specs.Stream.{Stream}
 use Rattle.keycard_rules.specs.declared.issued.Issued.{Ghosts as IssuedOf}
 use Rattle.hotel_model.specs.{declared.reply.Refusal.Refusal, History.History, Rows.Rows}
-use Rattle.hotel_core.specs.{Books.Passes.Passes, Books.Happens.has_answer, Books.Shut.BeganShut}
-use Rattle.hotel_core.specs.declared.asks.Ask.{Ask}
+use Rattle.hotel_core.specs.{Books.Passes.Passes, Books.Happens.Call, Books.Happens.has_answer, Books.Shut.BeganShut}
 use Rattle.hotel_http.specs.declared.serve.ServeFault.TheVariants.{Write}
 use Rattle.hotel_program.specs.Script.WholeScript.{LineHappens, answers_to}
 use Rattle.hotel_program.specs.Connections.{ConnectionCame, ConnectionEnd, ConnectionHappens}
@@ -27,8 +26,8 @@ TookNothing _ = ⊤
 
 -- A connection ended so, the books answered nothing of it, and nothing was taken.
 abbrev pub ComesToNothing : ConnectionEnd → Type 0
-ComesToNothing end = (h h' : History) × (s s' : Stream) × (failed : List Refusal) × (answered : List (Option Ask))
-    × ConnectionCame end h s failed answered h' s' × (has_answer answered ≡ false) × TookNothing end
+ComesToNothing end = (h h' : History) × (s s' : Stream) × (failed : List Refusal) × (calls : List Call)
+    × ConnectionCame end h s failed calls h' s' × (has_answer calls ≡ false) × TookNothing end
 
 -- connections that were served one after the other, from such a state on: each came to nothing
 abbrev pub ServesNothing : {S R : Type 0} → IssuedOf S → (S → Rows) → (R → Stream) → Type 0

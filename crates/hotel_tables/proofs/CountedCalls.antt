@@ -41,7 +41,8 @@ over_tables g = record {
   is_kept = λ a b. rows_in (state g b.conn).now.trees ≡ rows_in (state g a.conn).now.trees;
   failures = failed;
   never_fails = ⊥;
-  has_answered = λ _ _ _ b. HasCleanDisk (state g b.conn) → IsKept (state g b.conn);
+  has_answered = λ _ b. HasCleanDisk (state g b.conn) → IsKept (state g b.conn);
+  was_asked = λ _ _ _ _. Unit {0};
 }
 
 -- The books are these, also as they are kept; a call of the tables leaves their connection so.

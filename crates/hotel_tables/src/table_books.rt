@@ -105,7 +105,9 @@ impl<S: Alter> Issued for TableBooks<S> {
 
     ghost never_fails = { ⊥ };
 
-    ghost has_answered = { λ _ _ _ b. HasCleanDisk (state S.Store b.conn) → IsKept (state S.Store b.conn) };
+    ghost has_answered = { λ _ b. HasCleanDisk (state S.Store b.conn) → IsKept (state S.Store b.conn) };
+
+    ghost was_asked = { λ _ _ _ _. Unit {0} };
 
     fn is_issued(&mut self, code: Code) -> Result<bool, LookFault> {
         self.answers = false;

@@ -30,7 +30,9 @@ impl Issued for FailingCodes {
 
     ghost never_fails = { ⊥ };
 
-    ghost has_answered = { λ _ _ _ _. Unit {0} };
+    ghost has_answered = { λ _ _. Unit {0} };
+
+    ghost was_asked = { λ _ _ _ _. Unit {0} };
 
     fn is_issued(&mut self, _code: Code) -> Result<bool, LookFault> {
         if self.left == 0 {

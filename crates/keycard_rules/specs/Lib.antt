@@ -5,7 +5,7 @@ pub mod Numbers
 pub mod Lock
 pub mod Rise
 pub mod Since
-pub mod Asked
+pub mod Called
 pub mod Draw
 pub mod Note
 pub mod Chain

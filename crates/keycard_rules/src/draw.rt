@@ -1,7 +1,7 @@
 //! Drawing a code that was never issued.
 ghost use Rattle.std.specs.Prelude.{◌≡◌, false, Err, IfOk, IfSome, None};
 ghost use Rattle.keycard_rules.specs.{Words.is_one_of, Draw.words, Draw.past, Draw.MovedAtMost, Draw.Draws};
-ghost use Rattle.keycard_rules.specs.{Since.Since, Asked.WasCalled};
+ghost use Rattle.keycard_rules.specs.{Since.Since, Called.WasCalled};
 ghost use Rattle.keycard_rules.specs.declared.draw.TheConstants.{MOST_WORDS};
 ghost use Rattle.keycard_rules.specs.{Draw.AllIssued, Draw.fault_in, Rise.HasRisen};
 

@@ -48,9 +48,13 @@ pub trait Issued {
     /// The look-ups never fail.
     ghost never_fails: { Type 0 };
 
-    /// A call from the first state to the second was asked this, and answered it with no fault. What this is, each
-    /// implementation says. So code over any of them has it of the calls alone that it makes.
-    ghost has_answered: { (A : Type 0) → A → Self → Self → Type 0 };
+    /// A call from the first state to the second was answered, with no fault. What this is, each implementation says.
+    /// So code over any of them has it of the calls alone that it makes.
+    ghost has_answered: { Self → Self → Type 0 };
+
+    /// One call from the first state to the second was asked this, and answered it or failed. What this is, each
+    /// implementation says, too. So code over any of them can't make one such call of two, or of none.
+    ghost was_asked: { (A : Type 0) → A → Self → Self → Type 0 };
 
     /// Whether a code was issued. It changes nothing but the counts of failures.
     fn is_issued(&mut self, code: Code) -> Result<bool, LookFault>
@@ -58,7 +62,7 @@ pub trait Issued {
         ensures kept { is_clean self.new → is_kept self.old self.new }
         ensures since { Since is_clean is_honest failures self.old self.new }
         ensures vouched { is_honest self.new → OnOk result (is_clean self.new) }
-        ensures asked { OnOk result (has_answered (Unit {0}) tt self.old self.new) }
+        ensures asked { OnOk result (has_answered self.old self.new) }
         ensures stop { leaves_no_more self.old self.new }
         ensures fault { IfErr result (λ why. HasRisen (failures self.old why) (failures self.new why)) }
         ensures cause { is_honest self.new → IfErr result (λ why. why ≡ Store → look_up_fails self.old self.new) }
@@ -117,7 +121,9 @@ impl Issued for ListedCodes {
 
     ghost never_fails = { Unit {0} };
 
-    ghost has_answered = { λ _ _ _ _. Unit {0} };
+    ghost has_answered = { λ _ _. Unit {0} };
+
+    ghost was_asked = { λ _ _ _ _. Unit {0} };
 
     fn is_issued(&mut self, code: Code) -> Result<bool, LookFault> {
         Ok(self.codes.as_slice().contains(&code))

@@ -1,7 +1,7 @@
 -- Parts of a step that check the books.
 use Rattle.std.proofs.Common.{◌≡◌, Bool, true, false, Option, Some, None, Result, Ok, Err, refl, ap, sym, ◌∙◌}
 use Rattle.std.proofs.Common.{ℕ, IsErrAnd, List, [], ◌∷◌, is_some}
-use Rattle.hotel_core.proofs.Names.{false≢true, Stream, since_then, asked_then, Change, Reply, Refused, Refusal, Store}
+use Rattle.hotel_core.proofs.Names.{false≢true, Stream, since_then, called_then, Change, Reply, Refused, Refusal, Store}
 use Rattle.hotel_core.proofs.Names.{Rows, is_failed, Outcome, refused, StepsAs, Finds, AnyRows, reply_of, first_refusal}
 use Rattle.hotel_core.proofs.Names.{Link, card_at, has_link_on, needs, Ghosts as BooksOf}
 use Rattle.hotel_model.specs.declared.reply.Refusal.TheVariants.{NoCard, CardDiffers}
@@ -78,7 +78,7 @@ module _ {S : Type 0} {I : IssuedOf S} {B : BooksOf S} {checks : Rows → List (
       same = λ clean. f.same clean ∙ s.same (f.since.was_clean clean);
       since = since_then s.since f.since;
       vouched = λ _ honest. f.vouched honest refl;
-      asked = λ _. asked_then s.since (f.asked refl);
+      asked = λ _. called_then s.since (f.asked refl);
     }
 
     -- one of the checks refuses
@@ -91,7 +91,7 @@ module _ {S : Type 0} {I : IssuedOf S} {B : BooksOf S} {checks : Rows → List (
       same = λ clean. f.same clean ∙ s.same (f.since.was_clean clean);
       since = since_then s.since f.since;
       vouched = λ _ honest. f.vouched honest k;
-      asked = λ _. asked_then s.since (f.asked k);
+      asked = λ _. called_then s.since (f.asked k);
     }
 
     -- one of the checks refuses, or a search failed

@@ -2,7 +2,7 @@
 use Rattle.std.proofs.Common.{ℕ, ◌≡◌, Bool, true, false, Some, None, Result, Ok, Err, IsErrAnd, List, refl, ap, sym}
 use Rattle.std.proofs.Common.{◌∙◌, arith, subst, option_map, IfSome, inr}
 use Rattle.hotel_core.proofs.Names.{false≢true, LookFault, Stream, HasRisen, Since, since_then, Draw, Draws, fault_in}
-use Rattle.hotel_core.proofs.Names.{asked_before, asked_then}
+use Rattle.hotel_core.proofs.Names.{called_before, called_then}
 use Rattle.hotel_core.proofs.Names.{draw_from, drawn, words, past, Change, Reply, Refused, Refusal, NoFreshCode}
 use Rattle.hotel_core.proofs.Names.{said_of, Rows, codes_in, is_failed, Outcome, accepted, by_draw, made, GoesIf}
 use Rattle.hotel_core.proofs.Names.{made_by, AreWhole, StepsAs, DrawsCode, Drew, DrewNone, drawn_or, has_failed}
@@ -117,7 +117,7 @@ undrawn {I = I} {B = B} {start = start} {old = old} {new = new} {source = source
           (s.same before) (d.answer clean));
       since = since_then s.since d.since;
       vouched = λ honest k. d.vouched honest k;
-      asked = λ _. asked_before (s.asked refl) d.since;
+      asked = λ _. called_before (s.asked refl) d.since;
       moved = λ honest k.
           let before = s.vouched refl (d.since.was_honest honest) in
           inr (
@@ -169,7 +169,7 @@ drawn_ends {I = I} {B = B} {start = start} {old = old} {mid = mid} {new = new} {
           (d.same then ∙ s.same before) (t.goes clean);
       since = since_then s.since (since_then d.since t.since);
       vouched = t.vouched;
-      asked = λ k. asked_then (since_then s.since d.since) (t.asked k);
+      asked = λ k. called_then (since_then s.since d.since) (t.asked k);
       moved = λ honest k.
           let then = d.vouched (t.since.was_honest honest) refl in
           let before = d.since.was_clean then in

@@ -1,78 +1,97 @@
 -- What went over books, made of its parts.
 use Rattle.std.proofs.Common.{◌≡◌, Bool, true, false, not, List, [], ◌∷◌, ◌++◌, length, zip, refl, ap, arith}
-use Rattle.std.proofs.Common.{Option, Some, None}
+use Rattle.std.proofs.Common.{inl, inr}
 use Rattle.std.specs.Prelude.{⊤}
 use Rattle.std.proofs.lemmas.Bool.{not-true}
 use Rattle.hotel_core.proofs.Names.{false≢true, Stream, Since, since_refl, since_then, AreCounted, failure_in}
-use Rattle.hotel_core.proofs.{Names.WasAsked, Names.asked_now, OfCode.Calls.calls_join}
+use Rattle.hotel_core.proofs.OfCode.Passes.{passes_join}
 use Rattle.hotel_core.specs.declared.asks.Ask.{Ask}
 use Rattle.hotel_core.specs.declared.asks.Ask.TheVariants as ask
 use Rattle.hotel_core.proofs.Names.{is_failed, Steps, Command, Reply, Refusal, Rows, History}
 use Rattle.hotel_model.proofs.Invariants.Assurance.{assured}
 use Rattle.hotel_core.proofs.{OfCode.FailuresCounted.none_counted, OfCode.FailuresCounted.counted_join}
 use Rattle.hotel_model.specs.Leads.{LeadsOn}
-use Rattle.hotel_core.specs.Books.Happens.{Happens, HappensBy, StepTold, Tells, Told, asked_if, has_answer}
+use Rattle.hotel_core.specs.Books.Happens.{Call, Happens, HappensBy, IsCall, StepTold, Tells, Told, has_answer}
 use Rattle.hotel_core.specs.Books.Happens.{known_after}
 use Rattle.keycard_rules.specs.declared.issued.Issued.{Ghosts as IssuedOf}
 
 -- what is known after answers follows from what was known before them
-known_from : (A B : Type 0) (answered : List (Option Ask)) → (A → B) → known_after A answered → known_after B answered
+known_from : (A B : Type 0) (answered : List Call) → (A → B) → known_after A answered → known_after B answered
 known_from A B [] f k = f k
-known_from A B (Some asked ∷ later) f k = k
-known_from A B (None ∷ later) f k = k
+known_from A B ((asked, true) ∷ later) f k = k
+known_from A B ((asked, false) ∷ later) f k = k
 
-pub known_on : (A : Type 0) (first more : List (Option Ask))
+pub known_on : (A : Type 0) (first more : List Call)
     → known_after A (first ++ more) → known_after (known_after A first) more
 known_on A [] more k = k
-known_on A (Some asked ∷ first) more k = known_on ⊤ first more k
-known_on A (None ∷ first) more k = known_on ⊥ first more k
+known_on A ((asked, true) ∷ first) more k = known_on ⊤ first more k
+known_on A ((asked, false) ∷ first) more k = known_on ⊥ first more k
 
 -- an answer among some and others
-pub answer_in : (P : Type 0) (first more : List (Option Ask))
+pub answer_in : (P : Type 0) (first more : List Call)
     → (has_answer first ≡ true → P) → (has_answer more ≡ true → P) → has_answer (first ++ more) ≡ true → P
 answer_in P [] more f g k = g k
-answer_in P (Some asked ∷ first) more f g k = f refl
-answer_in P (None ∷ first) more f g k = answer_in P first more f g k
+answer_in P ((asked, true) ∷ first) more f g k = f refl
+answer_in P ((asked, false) ∷ first) more f g k = answer_in P first more f g k
 
 -- books that weren't asked
 pub tells_none : {S : Type 0} (I : IssuedOf S) (old : S) → Tells I old old [] []
 tells_none I old = record {
   counted = λ clean. none_counted _ _ (λ cause. omega arith);
-  asked = since_refl;
+  asked = refl;
   began = λ k. absurd (false≢true k);
   ends = λ was. was;
 }
 
--- books that failed
-pub tells_failed : {S : Type 0} {I : IssuedOf S} {old new : S} {failed : List Refusal}
+-- books that weren't asked what they should have been
+pub tells_unasked : {S : Type 0} (I : IssuedOf S) (old : S) (asked : Ask) → Tells I old old [] ((asked, false) ∷ [])
+tells_unasked I old asked = record {
+  counted = λ clean. none_counted _ _ (λ cause. omega arith);
+  asked = (old, inl refl, refl);
+  began = λ k. absurd (false≢true k);
+  ends = λ k. absurd k;
+}
+
+-- an ask by one call
+pub is_call : {S : Type 0} (I : IssuedOf S) {old new : S} {asked : Ask} (answers : Bool)
+    → I.was_asked Ask asked old new → IsCall I old (asked, answers) new
+is_call I true call = call
+is_call I false call = inr call
+
+-- books that were asked, and have no answer that vouches for them
+pub tells_failed : {S : Type 0} {I : IssuedOf S} {old new : S} {failed : List Refusal} {asked : Ask}
     → (I.is_clean new → AreCounted (I.failures old) (I.failures new) failed)
-    → Since I.is_clean I.is_honest I.failures old new → Tells I old new failed (None ∷ [])
-tells_failed counted since =
-    record { counted = counted; asked = since; began = λ k. absurd (false≢true k); ends = λ k. absurd k }
+    → I.was_asked Ask asked old new → Tells I old new failed ((asked, false) ∷ [])
+tells_failed {new = new} counted call = record {
+  counted = counted;
+  asked = (new, inr call, refl);
+  began = λ k. absurd (false≢true k);
+  ends = λ k. absurd k;
+}
 
 -- books that were asked once
 pub tells_once : {S : Type 0} {I : IssuedOf S} {old new : S} {failed : List Refusal} (answers : Bool) (asked : Ask)
     → (I.is_clean new → AreCounted (I.failures old) (I.failures new) failed)
-    → (answers ≡ true → I.is_clean new) → (answers ≡ true → WasAsked I asked old new)
-    → Since I.is_clean I.is_honest I.failures old new → Tells I old new failed (asked_if answers asked ∷ [])
-tells_once {new = new} true wanted counted vouched asked since = record {
+    → (answers ≡ true → I.is_clean new) → I.was_asked Ask asked old new
+    → Since I.is_clean I.is_honest I.failures old new → Tells I old new failed ((asked, answers) ∷ [])
+tells_once {new = new} true asked counted vouched call since = record {
   counted = counted;
-  asked = (new, asked refl, since_refl);
+  asked = (new, call, refl);
   began = λ k. since.was_clean (vouched refl);
   ends = λ k. vouched refl;
 }
-tells_once false wanted counted vouched asked since = tells_failed counted since
+tells_once false asked counted vouched call since = tells_failed counted call
 
 -- books that were asked, and then asked again
 pub tells_join : {S : Type 0} {I : IssuedOf S} {old mid new : S} (failed more : List Refusal)
-    (first later : List (Option Ask))
+    (first later : List Call)
     → Since I.is_clean I.is_honest I.failures old mid
     → Since I.is_clean I.is_honest I.failures mid new → Tells I old mid failed first → Tells I mid new more later
     → Tells I old new (failed ++ more) (first ++ later)
 tells_join {I = I} {old = old} {mid = mid} {new = new} failed more first later before after a b = record {
   counted = λ clean. counted_join (I.failures old) (I.failures mid) (I.failures new) failed more after.counted
       (a.counted (after.was_clean clean)) (b.counted clean);
-  asked = calls_join I old mid new first later a.asked b.asked;
+  asked = passes_join (IsCall I) old mid new first later a.asked b.asked;
   began = answer_in (I.is_clean old) first later a.began (λ k. before.was_clean (b.began k));
   ends = λ k. b.ends (known_from (known_after (I.is_clean old) first) (I.is_clean mid) later a.ends
       (known_on (I.is_clean old) first later k));
@@ -83,7 +102,7 @@ pub so_by : {S : Type 0} {I : IssuedOf S} {rows : S → Rows} {old new : S}
     {went : Type 0 → Told → History → History → Type 0}
     → ((kept kept' : Type 0) (told told' : Told) (h h' : History)
     → (kept' → kept)
-    → ((failed : List Refusal) (answered : List (Option Ask)) → told failed answered → told' failed answered)
+    → ((failed : List Refusal) (answered : List Call) → told failed answered → told' failed answered)
     → went kept told h h' → went kept' told' h h')
     → ((a : S) → I.is_clean a → I.is_honest a) → Since I.is_clean I.is_honest I.failures old new
     → (I.is_honest new
@@ -102,7 +121,7 @@ so_by {I = I} {rows = rows} {old = old} {new = new} {went = went} weaken clean_h
 pub happens_so : {S : Type 0} {I : IssuedOf S} {rows : S → Rows} {old new : S}
     {went : Told → History → History → Type 0}
     → ((told told' : Told) (h h' : History) → ((failed : List Refusal)
-    (answered : List (Option Ask)) → told failed answered → told' failed answered) → went told h h' → went told' h h')
+    (answered : List Call) → told failed answered → told' failed answered) → went told h h' → went told' h h')
     → ((a : S) → I.is_clean a → I.is_honest a) → Since I.is_clean I.is_honest I.failures old new
     → (I.is_honest new → LeadsOn (I.is_clean old) (rows old) (went (Tells I old new)) (I.is_clean new) (rows new))
     → Happens I rows old went new
@@ -134,7 +153,7 @@ happens_idle I rows old went stays = idle_by I rows old (λ kept. went) (λ kept
 
 -- What is told of two that went one after the other.
 abbrev pub Joins : (told first then : Told) → Type 0
-Joins told first then = (failed more : List Refusal) (answered later : List (Option Ask))
+Joins told first then = (failed more : List Refusal) (answered later : List Call)
     → first failed answered → then more later → told (failed ++ more) (answered ++ later)
 
 -- One went, and then the other.
@@ -198,7 +217,7 @@ pub step_happens : {S : Type 0} {I : IssuedOf S} {rows : S → Rows} {old new : 
     → LeadsOn (I.is_clean old) (rows old) (λ h h'. Steps h s command reply h' s') (I.is_clean new) (rows new))
     → (I.is_clean new → AreCounted (I.failures old) (I.failures new) (failure_in reply))
     → (I.is_honest new → is_failed reply ≡ false → I.is_clean new)
-    → (is_failed reply ≡ false → I.has_answered Ask (ask.Command command) old new)
+    → I.was_asked Ask (ask.Command command) old new
     → Happens I rows old (StepTold s command reply s') new
 step_happens s s' command reply clean_honest since step failed vouched asked =
     happens_so (λ told told' h h' more went. (went.0, more _ _ went.1)) clean_honest since
@@ -210,8 +229,7 @@ step_happens s s' command reply clean_honest since step failed vouched asked =
       (
         p.3,
         tells_once (not (is_failed reply)) (ask.Command command) failed
-            (λ k. vouched honest (not-true (is_failed reply) k))
-            (λ k. asked_now since (asked (not-true (is_failed reply) k))) since,
+            (λ k. vouched honest (not-true (is_failed reply) k)) asked since,
       ),
       p.4,
     ))

@@ -1,7 +1,7 @@
 -- What a look-up of the books finds.
 use Rattle.std.proofs.Common.{◌≡◌, Bool, false, Option, Some, None, Result, Ok, Err, IsSome, refl, ap, sym, ◌∙◌, subst}
 use Rattle.hotel_core.proofs.Names.{false≢true, LookFault, HasRisen, Reply, Refused, Refusal, Store, Rows, is_failed}
-use Rattle.hotel_core.proofs.Names.{AnyRows, Finds, refusal_of, asked_now, Ghosts as BooksOf}
+use Rattle.hotel_core.proofs.Names.{AnyRows, Finds, refusal_of, called_now, Ghosts as BooksOf}
 use Rattle.hotel_core.proofs.OfCode.Parts.{faults, same_fault}
 use Rattle.hotel_core.specs.Books.Reads.{LooksUp}
 use Rattle.hotel_core.specs.Refinement.Finds.{known, there_or}
@@ -39,7 +39,7 @@ module _ {S A : Type 0} {I : IssuedOf S} {B : BooksOf S} {old new : S}
       vouched = λ honest k. l.vouched honest;
       fault = λ clean whole cause e. cc;
     };
-    asked = λ k. asked_now l.since l.asked;
+    asked = λ k. called_now l.asked;
   }
 
   -- what is known of the books
@@ -70,7 +70,7 @@ module _ {S A : Type 0} {I : IssuedOf S} {B : BooksOf S} {old new : S}
           fault = λ clean whole cause n. absurd (false≢true (sym k
               ∙ (ap is_failed (let s : ◌≡◌ {A = Reply} (Refused _) (Refused _) = cc in s) ∙ faults cause)));
         };
-        asked = λ _. asked_now l.since l.asked;
+        asked = λ _. called_now l.asked;
       })
   finds_there {why = why} wanted (Err fault) result k l e =
       subst (λ x. Finds I B AnyRows why wanted old new x) (sym e) (failed fault l)

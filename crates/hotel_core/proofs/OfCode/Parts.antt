@@ -4,7 +4,7 @@ use Rattle.std.proofs.Common.{arith, subst, IsErrAnd, List, [], ◌∷◌, ◌++
 use Rattle.hotel_core.proofs.Names.{false≢true, Stream, past, HasRisen, LookFault, Since, since_refl, since_then}
 use Rattle.hotel_core.proofs.Names.{Change, Reply, Refused, Refusal, Store, Rows, number_after, is_failed, Outcome}
 use Rattle.hotel_core.proofs.Names.{refused, accepted, unless, made, GoesIf, Goes, made_by, AreWhole, StepsAs, Finds}
-use Rattle.hotel_core.proofs.Names.{FindsGiven, WasCalled, asked_then, asked_before}
+use Rattle.hotel_core.proofs.Names.{FindsGiven, WasCalled, called_then, called_before}
 use Rattle.hotel_core.proofs.Names.{AnyRows, reply_of, refusal_of, first_refusal, Ghosts as BooksOf}
 use Rattle.keycard_rules.proofs.Drawing.{past-zero}
 use Rattle.keycard_rules.specs.Draw.{MovedAtMost}
@@ -65,14 +65,14 @@ pub then_found : {S A : Type 0} {I : IssuedOf S} {B : BooksOf S} {v : Bool} {fac
     {are_whole : Rows → Type 0} {why : Refusal} {wanted : Rows → Option A} {start old new : S} {a : A}
     → SoFar I B v facts start old → Finds I B are_whole why wanted old new (Ok a)
     → SoFar I B true (λ rs. facts rs × (wanted rs ≡ Some a)) start new
-then_found s f = known_by s f.found (asked_then s.since (f.asked refl))
+then_found s f = known_by s f.found (called_then s.since (f.asked refl))
 
 -- something was found, maybe by what was answered before
 pub then_known : {S A : Type 0} {I : IssuedOf S} {B : BooksOf S} {facts : Rows → Type 0}
     {are_whole : Rows → Type 0} {why : Refusal} {wanted : Rows → Option A} {start old new : S} {a : A}
     → SoFar I B true facts start old → FindsGiven I B are_whole why wanted old new (Ok a)
     → SoFar I B true (λ rs. facts rs × (wanted rs ≡ Some a)) start new
-then_known s f = known_by s f (asked_before (s.asked refl) f.since)
+then_known s f = known_by s f (called_before (s.asked refl) f.since)
 
 -- a count that rose later has risen
 pub risen_later : (a b c : ℕ) → a ≤ b → HasRisen b c → b ≤ c → HasRisen a c
@@ -138,7 +138,7 @@ pub stopped_whole : {S A : Type 0} {I : IssuedOf S} {B : BooksOf S} {v : Bool} {
 stopped_whole {I = I} {B = B} {start = start} {new = new} {e = e} {outcome = outcome}
     {source = source} r p s f whole h =
     subst (λ answer. StepsAs I B outcome start new source source answer)
-    (sym (passed_on r e p)) (stopped_by s f.found (λ k. asked_then s.since (f.asked k)) whole h)
+    (sym (passed_on r e p)) (stopped_by s f.found (λ k. called_then s.since (f.asked k)) whole h)
 
 -- a search failed that may rest on what was answered before
 pub stopped_known : {S A : Type 0} {I : IssuedOf S} {B : BooksOf S} {facts : Rows → Type 0} {why : Refusal}
@@ -149,7 +149,7 @@ pub stopped_known : {S A : Type 0} {I : IssuedOf S} {B : BooksOf S} {facts : Row
     → StepsAs I B outcome start new source source (reply_of r)
 stopped_known {I = I} {B = B} {start = start} {new = new} {e = e} {outcome = outcome} {source = source} r p s f h =
     subst (λ answer. StepsAs I B outcome start new source source answer) (sym (passed_on r e p))
-    (stopped_by s f (λ k. asked_before (s.asked refl) f.since) (λ w k. tt) (λ k n x. h k n))
+    (stopped_by s f (λ k. called_before (s.asked refl) f.since) (λ w k. tt) (λ k n x. h k n))
 
 -- what sound books have wasn't there, or the search failed
 pub halted : {S A : Type 0} {I : IssuedOf S} {B : BooksOf S} {v : Bool} {facts : Rows → Type 0}
@@ -208,7 +208,7 @@ ends {I = I} {B = B} {start = start} {old = old} {new = new} {outcome = outcome}
           subst (λ o. Goes o (B.rows start) source answer (B.rows new) rest) (sym (h (s.facts_hold before))) g;
       since = since_then s.since t.since;
       vouched = t.vouched;
-      asked = λ k. asked_then s.since (t.asked k);
+      asked = λ k. called_then s.since (t.asked k);
       moved = λ honest k. moved_as (I.is_clean old) (I.is_clean start) (last (B.rows old)).examined
           (outcome (B.rows start)).examined source rest
           (λ before. (

@@ -1,13 +1,12 @@
 -- Books that were not clean as a call began answer with failures.
 use Rattle.std.proofs.Common.{◌≡◌, Bool, true, false, not, List, [], ◌∷◌, Result, Ok, Err, OnOk, IsErr, refl, subst}
 use Rattle.std.specs.List.{AllByRecursion}
-use Rattle.std.proofs.Common.{Option}
 use Rattle.hotel_core.specs.declared.asks.Ask.{Ask}
 use Rattle.hotel_core.specs.declared.asks.Ask.TheVariants as ask
 use Rattle.hotel_core.proofs.Names.{Command, History, LookFault, Refusal, Reply, Rows, Stream, is_failed, start}
 use Rattle.hotel_model.specs.Rows.{no_rows}
 use Rattle.hotel_model.proofs.SoundRows.NoRows.{none_sound}
-use Rattle.hotel_core.specs.Books.Happens.{CommandHappens, HappensBy, Tells, Told, asked_if, has_answer}
+use Rattle.hotel_core.specs.Books.Happens.{Call, CommandHappens, HappensBy, Tells, Told, has_answer}
 use Rattle.hotel_core.specs.Books.Passes.{Passes}
 use Rattle.hotel_core.specs.Books.Shut.{BeganShut, FindsNothing, ChangesNothing, RepliesNothing, RunsNothing}
 use Rattle.keycard_rules.specs.declared.issued.Issued.{Ghosts as IssuedOf}
@@ -70,12 +69,12 @@ none_is true k = absurd (k refl)
 none_is false k = refl
 
 -- such books answered nothing
-pub tells_shut : {S : Type 0} {I : IssuedOf S} {old new : S} {failed : List Refusal} {answered : List (Option Ask)}
+pub tells_shut : {S : Type 0} {I : IssuedOf S} {old new : S} {failed : List Refusal} {answered : List Call}
     → Tells I old new failed answered → BeganShut I old new → has_answer answered ≡ false
 tells_shut {answered = answered} t shut = none_is (has_answer answered) (λ k. shut.1 (t.began k))
 
 -- a reply that is no answer is a failure
-pub reply_fails : (failed : Bool) (asked : Ask) → has_answer (asked_if (not failed) asked ∷ []) ≡ false → failed ≡ true
+pub reply_fails : (failed : Bool) (asked : Ask) → has_answer ((asked, not failed) ∷ []) ≡ false → failed ≡ true
 reply_fails true asked k = refl
 reply_fails false asked k = cc k
 

@@ -1,6 +1,6 @@
 -- What a part of a step checks in the books: the checks pass, or one of them refuses.
 use Rattle.std.specs.Prelude.{◌≡◌, false, List, Option, Some, None, Result, Ok, Err}
-use Rattle.keycard_rules.specs.{declared.issued.LookFault.LookFault, Rise.HasRisen, Since.Since, Asked.WasCalled}
+use Rattle.keycard_rules.specs.{declared.issued.LookFault.LookFault, Rise.HasRisen, Since.Since, Called.WasCalled}
 use Rattle.keycard_rules.specs.declared.issued.Issued.{Ghosts as IssuedOf}
 use Rattle.hotel_model.specs.{declared.reply.Refusal.Refusal, Rows.Rows, Run.is_failed}
 use Rattle.hotel_model.specs.declared.reply.Reply.TheVariants as reply

@@ -2,7 +2,7 @@
 use Rattle.std.specs.Prelude.{◌⊎◌, ◌≡◌, true, false}
 use Rattle.keycard_rules.specs.{declared.issued.LookFault.LookFault, Draw.MovedAtMost, Draw.words, Rise.HasRisen}
 use Rattle.keycard_rules.specs.declared.draw.TheConstants.{MOST_WORDS}
-use Rattle.keycard_rules.specs.{Since.Since, Asked.WasCalled}
+use Rattle.keycard_rules.specs.{Since.Since, Called.WasCalled}
 use Rattle.rand_core.specs.Stream.{Stream}
 use Rattle.hotel_model.specs.{declared.command.Command.Command, declared.change.Change.Change}
 use Rattle.hotel_model.specs.{declared.reply.Reply.Reply, Rows.Rows}

@@ -92,7 +92,9 @@ impl Issued for ListBooks {
 
     ghost never_fails = { Unit {0} };
 
-    ghost has_answered = { λ _ _ _ _. Unit {0} };
+    ghost has_answered = { λ _ _. Unit {0} };
+
+    ghost was_asked = { λ _ _ _ _. Unit {0} };
 
     fn is_issued(&mut self, code: Code) -> Result<bool, LookFault> {
         Ok(self.tables.is_issued(code))

@@ -154,7 +154,9 @@ impl Issued for StoppingBooks {
 
     ghost never_fails = { ⊥ };
 
-    ghost has_answered = { λ _ _ _ _. Unit {0} };
+    ghost has_answered = { λ _ _. Unit {0} };
+
+    ghost was_asked = { λ _ _ _ _. Unit {0} };
 
     fn is_issued(&mut self, code: Code) -> Result<bool, LookFault> {
         self.begin()?;

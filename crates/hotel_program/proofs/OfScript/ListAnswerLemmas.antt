@@ -131,23 +131,20 @@ abbrev pub Whole : Option (List ℕ) → Option (List ℕ) → Type 0 → List �
 Whole old new something text = Appends old new text × (tells_failure text ≡ false → something)
 
 -- the whole answer of a list that was refused
-pub refused_whole : {B : Type 0} (I : IssuedOf B) {b c : B} (was_asked : Type 0)
+pub refused_whole : {B : Type 0} (I : IssuedOf B) {b c : B}
     (listing : Option Listing) (old mid new : Option (List ℕ)) (why_not : ListFault) (why : Refusal)
     → told_refusal why_not ≡ Some why
-    → ListEnds [] listing old mid (Err why_not) → LooksAt I b c (Err why_not) → Vouches was_asked (Err why_not)
-    → I.is_honest c → Appends mid new (refusal_text why)
-    → ListAnswered listing (Whole old new (I.is_clean c × was_asked)) (AreCounted (I.failures b) (I.failures c))
-refused_whole I {b = b} {c = c} was_asked listing old mid new why_not why e p looks asked honest written =
+    → ListEnds [] listing old mid (Err why_not) → LooksAt I b c (Err why_not) → I.is_honest c
+    → Appends mid new (refusal_text why)
+    → ListAnswered listing (Whole old new (I.is_clean c)) (AreCounted (I.failures b) (I.failures c))
+refused_whole I {b = b} {c = c} listing old mid new why_not why e p looks honest written =
     let r = refused_front listing old mid why_not why e p in (
       r.0 ++ refusal_text why,
       failed_by why_not,
       r.1,
       (
         Appends-trans old mid new r.0 (refusal_text why) r.2 written,
-        (λ k. (
-          refusal_vouches (I.is_clean c) r.0 why_not why e (looks.vouched honest) k,
-          refusal_vouches was_asked r.0 why_not why e asked k,
-        )),
+        refusal_vouches (I.is_clean c) r.0 why_not why e (looks.vouched honest),
       ),
       counted_by I why_not looks,
     )

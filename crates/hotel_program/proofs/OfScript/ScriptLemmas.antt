@@ -13,7 +13,7 @@ use Rattle.rand_core.specs.Stream.{Stream}
 use Rattle.keycard_rules.proofs.Drawing.{past-zero}
 use Rattle.hotel_core.proofs.OfCode.Happens.{idle_by, then_by}
 use Rattle.hotel_core.proofs.OfCode.Passes.{passes_push}
-use Rattle.hotel_core.specs.Books.Happens.{HappensBy}
+use Rattle.hotel_core.specs.Books.Happens.{Call, HappensBy}
 use Rattle.hotel_core.specs.Books.Passes.{Passes}
 use Rattle.hotel_core.specs.declared.asks.Ask.{Ask}
 use Rattle.hotel_core.specs.declared.asks.Ask.TheVariants as ask
@@ -27,7 +27,7 @@ use Rattle.hotel_model.specs.History.{History}
 use Rattle.hotel_core.specs.Texts.{reply_text}
 use Rattle.hotel_lists.specs.{Bytes.AppendsFront, declared.calls.WriteFailed.WriteFailed}
 use Rattle.hotel_program.specs.Script.Lines.{lines, without_return, is_silent, answered_lines}
-use Rattle.hotel_program.specs.Script.LineAnswers.{AskEnds, AskGoes, LineGoes, Sure, answered_to}
+use Rattle.hotel_program.specs.Script.LineAnswers.{AskEnds, AskGoes, LineGoes, Sure, answered_to, asked_for}
 use Rattle.hotel_program.specs.Script.WholeScript.{ScriptGoes, ScriptAnswered, ScriptCut, LineHappens, LinesAnswered}
 use Rattle.hotel_program.specs.Script.WholeScript.{LinesCut, PassesToCut, IfCut, answers_to}
 use Rattle.hotel_program.specs.declared.script.ScriptEnd.{ScriptEnd}
@@ -100,7 +100,7 @@ answers_push : (sure : List ℕ → Type 0) (ls texts : List (List ℕ)) (h h' :
 unfolding ScriptGoes answers_to
 answers_push sure [] [] h h' s s' failed line text r = append-nil (answered_to (ask_in line) text)
 answers_push sure (first ∷ later) (one ∷ texts) h h' s s' failed line text r =
-    ap (λ (l : List (Option Ask)). answered_to (ask_in first) one ++ l)
+    ap (λ (l : List Call). answered_to (ask_in first) one ++ l)
     (answers_push sure later texts r.0 h' r.1 s' r.3 line text r.5)
     ∙ sym (append_assoc (answered_to (ask_in first) one) (answers_to later texts) (answered_to (ask_in line) text))
 answers_push sure [] (one ∷ texts) h h' s s' failed line text r = absurd r
@@ -108,12 +108,14 @@ answers_push sure (first ∷ later) [] h h' s s' failed line text r = absurd r
 
 answers_before : (sure : List ℕ → Type 0) (ls texts : List (List ℕ)) (h h' : History) (s s' : Stream)
     (failed : List Refusal) (line : List ℕ)
-    → ScriptGoes sure h s ls texts failed h' s' → answers_to (ls ++ line ∷ []) texts ≡ answers_to ls texts
+    → ScriptGoes sure h s ls texts failed h' s'
+    → answers_to (ls ++ line ∷ []) texts ≡ answers_to ls texts ++ asked_for (ask_in line) false
 unfolding ScriptGoes answers_to
-answers_before sure [] [] h h' s s' failed line r = refl
+answers_before sure [] [] h h' s s' failed line r = append-nil (asked_for (ask_in line) false)
 answers_before sure (first ∷ later) (one ∷ texts) h h' s s' failed line r =
-    ap (λ (l : List (Option Ask)). answered_to (ask_in first) one ++ l)
+    ap (λ (l : List Call). answered_to (ask_in first) one ++ l)
     (answers_before sure later texts r.0 h' r.1 s' r.3 line r.5)
+    ∙ sym (append_assoc (answered_to (ask_in first) one) (answers_to later texts) (asked_for (ask_in line) false))
 answers_before sure [] (one ∷ texts) h h' s s' failed line r = absurd r
 answers_before sure (first ∷ later) [] h h' s s' failed line r = absurd r
 
@@ -172,7 +174,7 @@ answered_next s t u all done line later old mid new first e next =
       f.1 ++ n.1,
       went_next (Sure kept) h k h' s t u all done line later f.0 n.0 f.1 n.1 e went n.2,
       subst (Appends old new) (sym (concat-push f.0 n.0)) (Appends-trans old mid new (concat f.0) n.0 f.3 n.3),
-      subst (λ (l : List (Option Ask)). told (f.1 ++ n.1) l) (sym answers)
+      subst (λ (l : List Call). told (f.1 ++ n.1) l) (sym answers)
           (join f.1 n.1 (answers_to (take done all) f.0) (answered_to (ask_in line) n.0) f.4 n.4),
     )) first next
 
@@ -196,8 +198,8 @@ cut_next s t u all done line later old mid new failed first e next =
       front.0,
       front.1,
       Appends-trans old mid new (concat f.0) (take front.0 n.0) f.3 front.2,
-      subst (λ (l : List (Option Ask)). told (f.1 ++ n.1) (l ++ None ∷ [])) (sym answers)
-          (join f.1 n.1 (answers_to (take done all) f.0) (None ∷ []) f.4 n.4),
+      subst (λ (l : List Call). told (f.1 ++ n.1) l) (sym answers)
+          (join f.1 n.1 (answers_to (take done all) f.0) (asked_for (ask_in line) false) f.4 n.4),
     )) first next
 
 -- no line is answered yet

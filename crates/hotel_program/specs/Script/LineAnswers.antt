@@ -1,5 +1,5 @@
 -- What a script's line comes to.
-use Rattle.std.specs.Prelude.{◌≡◌, ℕ, true, not, List, [], ◌∷◌, ◌++◌, Option, Some, None, codes, Result}
+use Rattle.std.specs.Prelude.{◌≡◌, ℕ, Bool, true, false, not, List, [], ◌∷◌, ◌++◌, Option, Some, None, codes, Result}
 use Rattle.std.specs.Prelude.{Ok, Err}
 use Rattle.std.specs.Io.KnownBytes.{Appends}
 use Rattle.rand_core.specs.Stream.{Stream}
@@ -9,7 +9,7 @@ use Rattle.hotel_model.specs.History.{History}
 use Rattle.hotel_model.specs.Run.{Steps}
 use Rattle.hotel_asks.specs.Asks.{copies}
 use Rattle.hotel_program.specs.Script.Copies.{counted_in}
-use Rattle.hotel_core.specs.{Books.Happens.Told, Books.Happens.asked_if, Texts.reply_text}
+use Rattle.hotel_core.specs.{Books.Happens.Call, Books.Happens.Told, Texts.reply_text}
 use Rattle.hotel_program.specs.Script.Asks.{ask_in}
 use Rattle.hotel_lists.specs.{Bytes.AppendsFront, declared.calls.WriteFailed.WriteFailed}
 use Rattle.hotel_program.specs.Script.ListAnswers.{AnswersList, tells_failure}
@@ -43,14 +43,18 @@ AskGoes sure None h s text failed h' s' = (text ≡ unread_text) × (failed ≡ 
 abbrev pub LineGoes : (List ℕ → Type 0) → History → Stream → List ℕ → List ℕ → List Refusal → History → Stream → Type 0
 LineGoes sure h s line text failed h' s' = AskGoes sure (ask_in line) h s text failed h' s'
 
--- how the books answered for what is asked, where this is the answer: not at all where nothing is asked, and they
--- failed where it says so
-abbrev pub answered_to : Option Ask → List ℕ → List (Option Ask)
-answered_to None text = []
-answered_to (Some wanted) text = asked_if (not (tells_failure text)) wanted ∷ []
+-- what the books are asked, where this is asked of the desk: just this, or nothing
+abbrev pub asked_for : Option Ask → Bool → List Call
+asked_for None answered = []
+asked_for (Some wanted) answered = (wanted, answered) ∷ []
 
--- What is asked went with an answer that was written so, and this is told of its failures and how the books answered.
-abbrev pub AskAnswered : (List ℕ → Type 0) → (List ℕ → Type 0) → (List ℕ → List (Option Ask)) → Option Ask
+-- the same where this is the answer, which may say that they failed
+abbrev pub answered_to : Option Ask → List ℕ → List Call
+answered_to wanted text = asked_for wanted (not (tells_failure text))
+
+-- What is asked went with an answer that was written so, and this is told of its failures and of what the books were
+-- asked.
+abbrev pub AskAnswered : (List ℕ → Type 0) → (List ℕ → Type 0) → (List ℕ → List Call) → Option Ask
     → Stream → Stream → Told → History → History → Type 0
 AskAnswered sure written answered wanted s s' told h h' =
     (text : List ℕ) × (failed : List Refusal) × AskGoes sure wanted h s text failed h' s' × written text
@@ -65,4 +69,4 @@ abbrev pub AskEnds : Option Ask → Stream → Stream → Option (List ℕ) → 
     → Type 0 → Told → History → History → Type 0
 AskEnds wanted s s' old new (Ok done) kept = AskAnswered (Sure kept) (Appends old new) (answered_to wanted) wanted s s'
 AskEnds wanted s s' old new (Err failed) kept =
-    AskAnswered (λ text. kept) (AppendsFront old new) (λ text. None ∷ []) wanted s s'
+    AskAnswered (λ text. kept) (AppendsFront old new) (λ text. asked_for wanted false) wanted s s'

@@ -1,17 +1,17 @@
 -- A script: its answered lines, one after the other.
-use Rattle.std.specs.Prelude.{◌≡◌, ◌≤◌, ℕ, length, take, List, [], ◌∷◌, ◌++◌, Option, None, IfSome, Result, Ok}
+use Rattle.std.specs.Prelude.{◌≡◌, ◌≤◌, ℕ, false, length, take, List, [], ◌∷◌, ◌++◌, Option, IfSome, Result, Ok}
 use Rattle.std.specs.Prelude.{Err, ⊤}
 use Rattle.std.specs.List.{concat}
 use Rattle.std.specs.Io.KnownBytes.{Appends}
 use Rattle.rand_core.specs.Stream.{Stream}
 use Rattle.keycard_rules.specs.declared.issued.Issued.{Ghosts as IssuedOf}
-use Rattle.hotel_core.specs.{Books.Happens.HappensBy, Books.Happens.Told, declared.asks.Ask.Ask}
+use Rattle.hotel_core.specs.Books.Happens.{Call, HappensBy, Told}
 use Rattle.hotel_core.specs.Books.Passes.{Passes}
 use Rattle.hotel_model.specs.declared.reply.Refusal.{Refusal}
 use Rattle.hotel_model.specs.History.{History}
 use Rattle.hotel_model.specs.Rows.{Rows}
 use Rattle.hotel_program.specs.Script.Asks.{ask_in}
-use Rattle.hotel_program.specs.Script.LineAnswers.{LineGoes, Sure, answered_to}
+use Rattle.hotel_program.specs.Script.LineAnswers.{LineGoes, Sure, answered_to, asked_for}
 use Rattle.hotel_program.specs.declared.script.TheConstants.{SCRIPT_LIMIT}
 use Rattle.hotel_program.specs.declared.script.ScriptEnd.{ScriptEnd}
 use Rattle.hotel_program.specs.declared.script.ScriptFault.{ScriptFault}
@@ -30,14 +30,14 @@ ScriptGoes sure h s (line ∷ later) (text ∷ texts) failed h' s' =
 ScriptGoes sure h s [] (text ∷ texts) failed h' s' = ⊥
 ScriptGoes sure h s (line ∷ later) [] failed h' s' = ⊥
 
--- how the books answered for lines with these answers, in order
-unfoldable pub answers_to : List (List ℕ) → List (List ℕ) → List (Option Ask)
+-- what the books were asked for lines with these answers, in order; of lines that have none it isn't vouched for
+unfoldable pub answers_to : List (List ℕ) → List (List ℕ) → List Call
 answers_to (line ∷ lines) (text ∷ texts) = answered_to (ask_in line) text ++ answers_to lines texts
 answers_to [] texts = []
-answers_to (line ∷ lines) [] = []
+answers_to (line ∷ lines) [] = asked_for (ask_in line) false ++ answers_to lines []
 
--- Lines were answered: they went, their answers were written whole, and this is told of their failures and how the
--- books answered.
+-- Lines were answered: they went, their answers were written whole, and this is told of their failures and of what the
+-- books were asked.
 abbrev pub ScriptAnswered : List (List ℕ) → Stream → Stream → Option (List ℕ) → Option (List ℕ) → Type 0
     → Told → History → History → Type 0
 ScriptAnswered lines s s' old new kept told h h' =
@@ -52,7 +52,7 @@ ScriptCut lines s s' old new kept told h h' =
     (texts : List (List ℕ)) × (last : List ℕ) × (failed : List Refusal)
     × ScriptGoes (λ text. kept) h s lines (texts ++ last ∷ []) failed h' s'
     × (n : ℕ) × (n ≤ length last) × Appends old new (concat texts ++ take n last)
-    × told failed (answers_to lines texts ++ None ∷ [])
+    × told failed (answers_to lines texts)
 
 -- A line was answered, by books, a source of words and a writer.
 abbrev pub LineHappens : {S R W : Type 0} → IssuedOf S → (S → Rows) → (R → Stream) → (W → Option (List ℕ)) → S × R × W

@@ -1,6 +1,8 @@
 //! A list that is asked for alone: its text on one writer, and what went wrong on another.
 
 ghost use Rattle.std.specs.Prelude.{◌≡◌, ◌≢◌, Result};
+ghost use Rattle.hotel_core.specs.declared.asks.Ask.{Ask};
+ghost use Rattle.hotel_core.specs.declared.asks.Ask.TheVariants as ask;
 ghost use Rattle.hotel_lists.specs.Calls.{CountsWrites, OnErrOf};
 ghost use Rattle.hotel_lists.specs.Lines.{LooksAt};
 ghost use Rattle.hotel_lists.specs.declared.fault.ListFault.{ListFault};
@@ -27,6 +29,7 @@ fn write_list_or_refusal<W: Write, B: ListDesk>(
     ensures text { B.is_honest books.new → AnswerEnds (listing_on (B.rows books.old) list.now) (W.contents writer.old)
         (W.contents writer.new) result }
     ensures books { LooksAt B.Issued books.old books.new result }
+    ensures asked { B.was_asked Ask (ask.List list.now) books.old books.new }
     ensures calls { CountsWrites calls.old calls.new (OnErrOf result ListFault.Write) }
 {
     match books.write_list(alloc, list, writer, calls) {
@@ -67,7 +70,7 @@ pub fn run_list<B: ListDesk, W: Write, F: FaultSink>(
         × Tells F.told faults.old (list_end end) faults.new
         × (B.is_honest books.new → AnswerEndsFor (B.rows books.old) list.now (W.contents writer.old)
         (W.contents writer.new) end)
-        × LooksAt B.Issued books.old books.new end }
+        × LooksAt B.Issued books.old books.new end × B.was_asked Ask (ask.List list.now) books.old books.new }
     ensures no_usage { result ≢ 2 }
 {
     let mut calls = IoCalls::none();

@@ -1,5 +1,6 @@
 use Rattle.std.proofs.Common.{◌≡◌, ◌∙◌, refl, sym, subst, Result, Ok, Err, IfOk, IfErr, OnErr}
-use Rattle.hotel_core.proofs.{Names.AreCounted, Names.asked_now, Names.since_refl, OfCode.Happens.step_happens}
+use Rattle.std.specs.Prelude.{is_ok}
+use Rattle.hotel_core.proofs.{Names.AreCounted, OfCode.Happens.is_call, OfCode.Happens.step_happens}
 use Rattle.hotel_audit.proofs.{LineAnswers.lead-note, LineAnswers.lead-unread, NoteReplies.answered_reply}
 use Rattle.hotel_audit.proofs.{NoteReplies.answered_sure, NoteReplies.failed_reply, NoteReplies.failure_told}
 use Rattle.hotel_model.specs.declared.command.Command.TheVariants as command
@@ -31,7 +32,7 @@ pub returns-in-Unread-clause-vouched : goal.returns-in-Unread-clause-vouched
 returns-in-Unread-clause-vouched g c = λ honest some. absurd (some refl)
 
 pub returns-in-Unread-clause-asked : goal.returns-in-Unread-clause-asked
-returns-in-Unread-clause-asked g c = rw c.in-Unread.is since_refl
+returns-in-Unread-clause-asked g c = rw c.in-Unread.is refl
 
 pub returns-in-Note-clause-answer : goal.returns-in-Note-clause-answer
 returns-in-Note-clause-answer g c = rw c.in-Note.is
@@ -63,10 +64,8 @@ returns-in-Note-clause-vouched g c = if_ok c.answer_of.result _
     (answered_sure c.report.result a (e ∙ c.answer_of.ensures)))
 
 pub returns-in-Note-clause-asked : goal.returns-in-Note-clause-asked
-returns-in-Note-clause-asked g c = rw c.in-Note.is
-    (if_ok c.answer_of.result _ (λ a e.
-    let sure = answered_sure c.report.result a (e ∙ c.answer_of.ensures) in
-    (c.report.new.self, asked_now c.report.ensures.noted.since (c.report.ensures.asked sure), since_refl)))
+returns-in-Note-clause-asked g c =
+    rw c.in-Note.is (c.report.new.self, is_call g.B.Issued (is_ok c.answer_of.result) c.report.ensures.asked, refl)
 
 pub returns-in-Note-clause-unasked : goal.returns-in-Note-clause-unasked
 returns-in-Note-clause-unasked g c = if_ok c.answer_of.result _ (λ a e none.

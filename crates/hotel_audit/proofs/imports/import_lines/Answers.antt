@@ -1,5 +1,5 @@
 use Rattle.std.proofs.Common.{ℕ, Bool, ◌≡◌, ◌∙◌, ◌+◌, subst, Ok, Err, List, [], ◌∷◌, ◌++◌, length, take, arith, sym}
-use Rattle.std.proofs.Common.{refl, ap, inl}
+use Rattle.std.proofs.Common.{refl, ap, inl, true}
 use Rattle.hotel_core.proofs.{Names.Refusal, Names.AreCounted, Names.take_more, OfCode.FailuresCounted.counted_after}
 use Rattle.keycard_rules.proofs.Sinces.{since_refl, since_then}
 use Rattle.std.proofs.lemmas.List.{take_all}
@@ -7,13 +7,13 @@ use Rattle.hotel_audit.specs.{declared.answer.LineAnswer.LineAnswer, declared.im
 use Rattle.hotel_audit.specs.{Import.AreAnswered, Import.Imports, Import.LineHappens, Import.LinesLeadOn}
 use Rattle.hotel_audit.specs.{Import.asked_of, Import.failures_of, Import.has_taken, Import.stopped}
 use Rattle.std.specs.Prelude.{zip}
-use Rattle.hotel_core.specs.{Books.Failures.refusal_of, Books.Happens.HaveCalls, Books.Passes.Passes}
+use Rattle.hotel_core.specs.{Books.Failures.refusal_of, Books.Happens.IsCall, Books.Passes.Passes}
 use Rattle.hotel_audit.specs.declared.audit_file.AuditFault.TheVariants as fault
 use Rattle.keycard_rules.specs.declared.issued.LookFault.{LookFault}
 use Rattle.keycard_rules.specs.declared.issued.LookFault.TheVariants as look
 use Rattle.hotel_audit.proofs.LineAnswers.{AreAnswered-append, calls_next, lead-join, lead-none, passes_next}
 use Rattle.hotel_audit.proofs.LineAnswers.{unasked_both, vouched_next}
-use Rattle.hotel_audit.proofs.ImportEnds.{all_answered, answered_before, next_fails, none_begun}
+use Rattle.hotel_audit.proofs.ImportEnds.{all_answered, answered_before, none_begun}
 use Rattle.hotel_audit.proofs.imports.import_lines.Goals as goal
 
 pub loop-line-init : goal.loop-line-init
@@ -26,7 +26,7 @@ loop-line-init g c = record {
   happened = λ honest. rw (c.in-Ok.ensures.items)
       (lead-none (g.B.Issued.is_clean c.args.books.now) (g.B.Books.rows c.args.books.now));
   vouched = λ honest. rw (c.in-Ok.ensures.items) (λ noted. absurd (noted refl));
-  asked = since_refl;
+  asked = refl;
   unasked = λ none clean. clean;
 }
 
@@ -52,8 +52,7 @@ returns-in-Err-clause-imported g c =
     subst (λ (fault : ImportFault). Imports g.B.Issued rows (Ok xs) old new (Err fault)) (sym why)
     (answered_before g.B.Issued rows old new
     (g.met.B.Issued.clean_honest _) c.loop-line.books xs i given by inv.each inv.since f.since f.unchanged inv.happened
-    inv.vouched inv.asked inv.through (next_fails g.B.Issued rows old new
-    (g.met.B.Issued.clean_honest _) c.loop-line.books xs i c.line-item.result by more f.went))
+    inv.vouched inv.asked inv.through c.line-item.result more f.went f.asked)
 
 pub returns-clause-imported : goal.returns-clause-imported
 returns-clause-imported g c =
@@ -67,7 +66,7 @@ returns-clause-imported g c =
     (λ honest. subst (λ lines. LinesLeadOn (is_clean c.args.books.now) (rows c.args.books.now) lines
     c.loop-line.answers.items (is_clean c.loop-line.books) (rows c.loop-line.books)) all (inv.happened honest))
     inv.vouched
-    (subst (λ lines. HaveCalls g.B.Issued c.args.books.now c.loop-line.books (asked_of lines)) all inv.asked)
+    (subst (λ lines. Passes (IsCall g.B.Issued) c.args.books.now (asked_of true lines) c.loop-line.books) all inv.asked)
     inv.unasked
     (subst (λ lines. Passes (LineHappens g.B.Issued rows) c.args.books.now
     (zip lines c.loop-line.answers.items) c.loop-line.books) all inv.through)

@@ -1,7 +1,7 @@
-use Rattle.std.proofs.Common.{◌≡◌, ◌≢◌, ◌≤◌, [], take, length, vec_len, vec_capacity}
+use Rattle.std.proofs.Common.{◌≡◌, ◌≢◌, ◌≤◌, true, [], take, length, vec_len, vec_capacity}
 use Rattle.std.specs.Prelude.{zip}
 use Rattle.keycard_rules.specs.Since.{Since}
-use Rattle.hotel_core.specs.{Books.Happens.HaveCalls, Books.Passes.Passes}
+use Rattle.hotel_core.specs.{Books.Happens.IsCall, Books.Passes.Passes}
 use Rattle.hotel_audit.specs.Import.{AreAnswered, LineHappens, LinesLeadOn, asked_of, replies_in}
 use Rattle.hotel_audit.proofs.imports.import_lines.Given as goal
 
@@ -20,6 +20,6 @@ invariant-loop-line g l =
       happened : is_honest l.books → LinesLeadOn (is_clean l.fn.books) (rows l.fn.books) (take l.line-index
           l.lines) l.answers.items (is_clean l.books) (rows l.books);
       vouched : is_honest l.books → replies_in l.answers.items ≢ [] → is_clean l.books;
-      asked : HaveCalls g.B.Issued l.fn.books l.books (asked_of (take l.line-index l.lines));
+      asked : Passes (IsCall g.B.Issued) l.fn.books (asked_of true (take l.line-index l.lines)) l.books;
       unasked : replies_in l.answers.items ≡ [] → is_clean l.fn.books → is_clean l.books;
     }

@@ -1,11 +1,11 @@
-use Rattle.std.proofs.Common.{[], ◌∷◌, ℕ, List, refl, subst, true, false, not, Ok, Err, Option, Some}
+use Rattle.std.proofs.Common.{[], ◌∷◌, ℕ, List, refl, subst, true, false, not, Ok, Err}
 use Rattle.hotel_model.specs.Run.{is_failed}
 use Rattle.hotel_model.specs.declared.reply.Reply.TheVariants.{Refused}
 use Rattle.hotel_asks.specs.Listings.{listing_on}
 use Rattle.hotel_http.specs.{Answer.list_answer, Serve.outcome, Serve.replied, Serve.EndsAs}
 use Rattle.hotel_http.specs.{declared.status.Status.TheVariants.Success}
 use Rattle.hotel_http.proofs.ServeLemmas.{ends_as, list_came, list_comes, list_there, list_failed, list_refused}
-use Rattle.hotel_core.specs.declared.asks.Ask.{Ask}
+use Rattle.hotel_core.specs.Books.Happens.{Call}
 use Rattle.hotel_core.specs.declared.asks.Ask.TheVariants as ask
 use Rattle.hotel_http.proofs.serve.answer_list.Goals as goal
 
@@ -14,7 +14,7 @@ returns-in-Ok-clause-went g c =
     let made = c.in-Ok.ensures in
     let old = g.W.Write.contents c.args.writer.now in
     let new = g.W.Write.contents c.write_csv-written.new.writer in
-    let answered : List (Option Ask) = Some (ask.List c.args.list.now) ∷ [] in
+    let answered : List Call = (ask.List c.args.list.now, true) ∷ [] in
     let out = outcome (list_answer c.in-Ok.text.items) Success false answered in
     let ends = ends_as (list_answer c.deref.result.now) Success false
     answered c.write_csv-written.result old new c.ended.result c.ended.ensures c.write_csv-written.ensures.writes.ok

@@ -1,8 +1,6 @@
 use Rattle.std.proofs.Common.{sym, ap, subst, ◌∙◌, Err, Result}
 use Rattle.hotel_model.specs.declared.reply.Refusal.{Refusal}
 use Rattle.hotel_lists.specs.{Lines.Vouches, declared.fault.ListFault.ListFault}
-use Rattle.hotel_core.specs.declared.asks.Ask.{Ask}
-use Rattle.hotel_core.specs.declared.asks.Ask.TheVariants as ask
 use Rattle.hotel_http.specs.Serve.{is_answered}
 use Rattle.hotel_http.proofs.ServeLemmas.{text_vouched}
 use Rattle.hotel_http.proofs.serve.list_text.Goals as goal
@@ -13,12 +11,4 @@ returns-in-Err-clause-vouched g c = λ honest answered.
     let vouched = subst (λ (r : Result (Unit {0}) ListFault). Vouches clean r) c.in-Err.is
     (c.write_list.ensures.books.vouched honest) in
     text_vouched c.in-Err.fault clean vouched
-    (sym (ap (λ (why : Refusal). is_answered (Err why)) c.list_refusal.ensures) ∙ answered)
-
-pub returns-in-Err-clause-asked : goal.returns-in-Err-clause-asked
-returns-in-Err-clause-asked g c = λ answered.
-    let was = g.B.Issued.has_answered Ask (ask.List c.args.list.now) c.args.books.now c.write_list.new.self in
-    let asked = subst (λ (r : Result (Unit {0}) ListFault). Vouches was r) c.in-Err.is
-    c.write_list.ensures.asked in
-    text_vouched c.in-Err.fault was asked
     (sym (ap (λ (why : Refusal). is_answered (Err why)) c.list_refusal.ensures) ∙ answered)

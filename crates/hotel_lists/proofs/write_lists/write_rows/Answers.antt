@@ -1,6 +1,6 @@
 use Rattle.std.proofs.Common.{Err, rules, sym, ◌∙◌}
 use Rattle.hotel_lists.specs.declared.fault.ListFault.TheVariants.{Write}
-use Rattle.hotel_core.proofs.Names.{asked_now}
+use Rattle.hotel_core.proofs.Names.{called_now}
 use Rattle.hotel_lists.proofs.CallsLemmas.{then_none_forgotten}
 use Rattle.hotel_lists.proofs.LinesWritten.{Ends, cut_ends, front_of_first, list_ended, list_vouches, list_written}
 use Rattle.hotel_lists.proofs.LinesWritten.{store_failed}
@@ -50,7 +50,7 @@ returns-clause-books g c =
       vouched = λ honest. list_vouches g.W.Write.contents _ _ _ c.walk-walked.result c.finish-end.result c.listed.result
           (walked.vouched honest) c.finish-end.ensures.ends c.listed.ensures;
       asked = list_vouches g.W.Write.contents _ _ _ c.walk-walked.result c.finish-end.result c.listed.result
-          (λ none. asked_now walked.since (walked.asked none)) c.finish-end.ensures.ends c.listed.ensures;
+          (λ none. called_now (walked.asked none)) c.finish-end.ensures.ends c.listed.ensures;
       store = λ e. let failed = store_failed g.W.Write.contents _ _ c.walk-walked.result c.finish-end.result
           c.listed.result c.finish-end.ensures.ends c.listed.ensures e in rw failed at walked.fault;
     }

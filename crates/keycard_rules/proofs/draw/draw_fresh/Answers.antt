@@ -2,7 +2,7 @@ use Rattle.std.proofs.Common.{◌≡◌, ℕ, sym, ap, ◌∙◌, arith, ◌+◌
 use Rattle.keycard_rules.specs.Draw.{Draw}
 use Rattle.keycard_rules.proofs.Drawing.{past-zero, past-next, so_far_none, so_far_more, found, examines, moved_on}
 use Rattle.keycard_rules.proofs.Drawing.{no_more, answer_at, draw_is, drawn-none}
-use Rattle.keycard_rules.proofs.Asks.{asked_now, asked_then}
+use Rattle.keycard_rules.proofs.Calls.{called_now, called_then}
 use Rattle.keycard_rules.proofs.Sinces.{since_refl, since_then}
 use Rattle.keycard_rules.proofs.draw.draw_fresh.Goals as goal
 
@@ -49,7 +49,7 @@ loop-preserved g c = record {
   moved = past-next _ _ _ _ _ c.loop.invariant.moved c.next_u64.ensures;
   since = since_then c.loop.invariant.since c.is_issued.ensures.since;
   vouched = λ some honest. c.in-Ok-true.ensures.vouched honest;
-  asked = λ some. asked_then c.loop.invariant.since (asked_now c.is_issued.ensures.since c.in-Ok-true.ensures.asked);
+  asked = λ some. called_then c.loop.invariant.since (called_now c.in-Ok-true.ensures.asked);
   kept = λ clean.
       g.met.I.Issued.kept_trans _ _ _ (c.loop.invariant.kept (c.is_issued.ensures.since.was_clean clean))
       (c.is_issued.ensures.kept clean);
@@ -97,7 +97,7 @@ returns-clause-vouched g c = λ honest none. c.loop.invariant.vouched (omega ari
 
 pub returns-in-Ok-false-clause-asked : goal.returns-in-Ok-false-clause-asked
 returns-in-Ok-false-clause-asked g c = λ none.
-    asked_then c.loop.invariant.since (asked_now c.is_issued.ensures.since c.in-Ok-false.ensures.asked)
+    called_then c.loop.invariant.since (called_now c.in-Ok-false.ensures.asked)
 
 pub returns-clause-asked : goal.returns-clause-asked
 returns-clause-asked g c = λ none. c.loop.invariant.asked (omega arith)

@@ -1,5 +1,5 @@
 use Rattle.std.proofs.Common.{◌≡◌, ◌≤◌}
-use Rattle.keycard_rules.specs.{Since.Since, Asked.WasCalled, Draw.past}
+use Rattle.keycard_rules.specs.{Since.Since, Called.WasCalled, Draw.past}
 use Rattle.keycard_rules.proofs.Drawing.{SoFar}
 use Rattle.keycard_rules.proofs.draw.draw_fresh.Given as goal
 

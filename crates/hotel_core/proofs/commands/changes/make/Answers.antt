@@ -1,4 +1,4 @@
-use Rattle.hotel_core.proofs.{Names.asked_now, OfCode.Parts.makes, OfCode.Parts.fails}
+use Rattle.hotel_core.proofs.{Names.called_now, OfCode.Parts.makes, OfCode.Parts.fails}
 use Rattle.hotel_model.proofs.RowsAfter.FitsAfter.{fits_after}
 use Rattle.hotel_model.specs.Outcome.{accepted}
 use Rattle.hotel_core.proofs.commands.changes.make.Goals as goal
@@ -11,7 +11,7 @@ apply-requires g c = λ clean.
 pub returns-in-Ok-clause-steps : goal.returns-in-Ok-clause-steps
 returns-in-Ok-clause-steps g c = λ source.
     makes c.args.reply c.args.change source c.requires.is_answer c.in-Ok.ensures.ok
-    c.apply.ensures.since c.in-Ok.ensures.vouched (asked_now c.apply.ensures.since c.in-Ok.ensures.asked)
+    c.apply.ensures.since c.in-Ok.ensures.vouched (called_now c.in-Ok.ensures.asked)
 
 pub returns-in-Err-clause-steps : goal.returns-in-Err-clause-steps
 returns-in-Err-clause-steps g c = λ source.

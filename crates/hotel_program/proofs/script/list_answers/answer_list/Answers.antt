@@ -1,7 +1,5 @@
 use Rattle.std.proofs.Common.{◌≡◌, ◌∙◌, [], sym, subst, Result, ℕ, List, Ok}
 use Rattle.std.specs.Io.KnownBytes.{Appends}
-use Rattle.hotel_core.specs.declared.asks.Ask.{Ask}
-use Rattle.hotel_core.specs.declared.asks.Ask.TheVariants as ask
 use Rattle.hotel_lists.specs.Bytes.{AppendsFront}
 use Rattle.hotel_lists.specs.Lines.{LooksAt, Vouches}
 use Rattle.hotel_lists.specs.declared.fault.ListFault.{ListFault}
@@ -23,16 +21,14 @@ returns-clause-went g c = λ s.
     let refused = sym c.told_refusal.ensures ∙ c.in-Some.is in
     let looks = subst (λ (r : Result (Unit {0}) ListFault).
     LooksAt g.B.Issued c.args.books.now c.write_list.new.self r) c.in-Err.is books in
-    let was = g.B.Issued.has_answered Ask (ask.List c.args.list.now) c.args.books.now c.write_list.new.self in
-    let asked = subst (λ (r : Result (Unit {0}) ListFault). Vouches was r) c.in-Err.is c.write_list.ensures.asked in
     let said : c.as_bytes.result.now ≡ refusal_text c.in-Some.refusal =
     c.as_bytes.ensures.same ∙ c.reply_text-text.ensures in
     list_ends c.args.list.now s old new c.write_bytes.result g.met.B.Issued.clean_honest books.since
-    (λ clean. g.met.B.Books.kept_rows _ _ (books.kept clean))
+    (λ clean. g.met.B.Books.kept_rows _ _ (books.kept clean)) c.write_list.ensures.asked
     (λ honest.
     let written = subst (λ (r : Result (Unit {0}) ListFault). ListEnds [] listing old mid r) c.in-Err.is
     (c.write_list.ensures.text honest) in
-    when_ok _ _ _ (λ p. refused_whole g.B.Issued was listing old mid new _ _ refused written looks asked honest
+    when_ok _ _ _ (λ p. refused_whole g.B.Issued listing old mid new _ _ refused written looks honest
     (subst (λ (t : List ℕ). Appends mid new t) said p)) c.write_bytes.ensures.writes.ok)
     (λ honest.
     let written = subst (λ (r : Result (Unit {0}) ListFault). ListEnds [] listing old mid r) c.in-Err.is
@@ -47,16 +43,13 @@ returns-in_default-clause-went g c = λ s.
     let new = g.W.Write.contents c.write_list.new.writer in
     let books = c.write_list.ensures.books in
     list_ends c.args.list.now s old new (Ok tt) g.met.B.Issued.clean_honest books.since
-    (λ clean. g.met.B.Books.kept_rows _ _ (books.kept clean))
+    (λ clean. g.met.B.Books.kept_rows _ _ (books.kept clean)) c.write_list.ensures.asked
     (λ honest.
     let written = subst (λ (r : Result (Unit {0}) ListFault). ListEnds [] listing old new r) c.in_default.is
     (c.write_list.ensures.text honest) in
     let clean = subst (λ (r : Result (Unit {0}) ListFault). Vouches (g.B.Issued.is_clean c.write_list.new.self) r)
     c.in_default.is (books.vouched honest) in
-    let asked = subst (λ (r : Result (Unit {0}) ListFault).
-    Vouches (g.B.Issued.has_answered Ask (ask.List c.args.list.now) c.args.books.now c.write_list.new.self) r)
-    c.in_default.is c.write_list.ensures.asked in
-    whole_answered _ listing old new written (clean, asked) books.since.counted)
+    whole_answered _ listing old new written clean books.since.counted)
     (λ honest. tt)
 
 pub returns-in_default-told_refusal-clause-went : goal.returns-in_default-told_refusal-clause-went
@@ -67,7 +60,7 @@ returns-in_default-told_refusal-clause-went g c = λ s.
     let books = c.write_list.ensures.books in
     let none = sym c.told_refusal.ensures ∙ c.in_default-told_refusal.is in
     list_cut c.args.list.now s old new g.met.B.Issued.clean_honest books.since
-    (λ clean. g.met.B.Books.kept_rows _ _ (books.kept clean))
+    (λ clean. g.met.B.Books.kept_rows _ _ (books.kept clean)) c.write_list.ensures.asked
     (λ honest.
     let written = subst (λ (r : Result (Unit {0}) ListFault). ListEnds [] listing old new r) c.in-Err.is
     (c.write_list.ensures.text honest) in
