@@ -2,9 +2,9 @@
 
 ghost use Rattle.std.specs.Prelude.{[]};
 ghost use Rattle.hotel_lists.specs.Calls.{CountsWrites, OnErrOf};
-ghost use Rattle.hotel_core.specs.declared.asks.Ask.{Ask};
+ghost use Rattle.hotel_core.specs.Books.Happens.{Call};
 ghost use Rattle.hotel_core.specs.declared.asks.Ask.TheVariants as ask;
-ghost use Rattle.hotel_lists.specs.{Lines.LooksAt, Listings.ListEnds};
+ghost use Rattle.hotel_lists.specs.{Lines.LooksAt, Lines.is_answer, Listings.ListEnds};
 ghost use Rattle.hotel_asks.specs.Listings.{listing_on};
 
 use hotel_core::{Desk, ListAsk, ListBooks, StoppingBooks, Walks};
@@ -50,7 +50,7 @@ pub trait ListDesk: Desk {
         ensures text { Self.is_honest self.new → ListEnds [] (listing_on (Self.rows self.old) list.now)
             (W.contents writer.old) (W.contents writer.new) result }
         ensures books { LooksAt Self.Issued self.old self.new result }
-        ensures asked { Self.Issued.was_asked Ask (ask.List list.now) self.old self.new }
+        ensures asked { Self.Issued.was_asked Call (ask.List list.now, is_answer result) self.old self.new }
         ensures calls { CountsWrites calls.old calls.new (OnErrOf result ListFault.Write) };
 }
 

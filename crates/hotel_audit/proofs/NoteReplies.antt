@@ -1,6 +1,7 @@
 -- What a note is answered: Taken, Seen or a refusal.
-use Rattle.std.proofs.Common.{◌≡◌, Bool, true, false, [], ◌∷◌, refl, Ok, Err}
-use Rattle.hotel_core.proofs.Names.{Note, is_failed, failure_in, refusal_of}
+use Rattle.std.proofs.Common.{◌≡◌, Bool, true, false, not, [], ◌∷◌, refl, ap, Result, Ok, Err}
+use Rattle.std.specs.Prelude.{is_ok}
+use Rattle.hotel_core.proofs.Names.{Note, false≢true, is_failed, failure_in, refusal_of}
 use Rattle.keycard_rules.specs.declared.issued.LookFault.{LookFault}
 use Rattle.keycard_rules.specs.declared.issued.LookFault.TheVariants as look
 use Rattle.hotel_model.specs.{declared.reply.Reply.Reply, NoteReplies.IsNoteReply}
@@ -32,6 +33,12 @@ answered_sure (reply.Refused why) answer e = by (is_failed (reply.Refused why)) 
     by true q = let f = rw q at e in cc f
     by false q = q
 answered_sure _ answer e = refl
+
+-- a reply that a line is answered by is itself an answer
+pub answered_call : (given : Reply) (outcome : Result LineAnswer LookFault)
+    → outcome ≡ answer_of given → is_ok outcome ≡ true → not (is_failed given) ≡ true
+answered_call given (Ok answer) e k = ap not (answered_sure given answer e)
+answered_call given (Err why) e k = absurd (false≢true k)
 
 -- a reply that a note may be given and that is no answer says that memory or the store failed
 pub failed_reply : (given : Reply) (why : LookFault)

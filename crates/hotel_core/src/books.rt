@@ -138,7 +138,7 @@ pub trait Books: Issued {
         ensures err { Self.is_clean self.new → OnErr result (rows self.new ≡ rows self.old) }
         ensures since { Since Self.is_clean Self.is_honest Self.failures self.old self.new }
         ensures vouched { Self.is_honest self.new → OnOk result (Self.is_clean self.new) }
-        ensures asked { OnOk result (Self.has_answered self.old self.new) }
+        ensures called { OnOk result (Self.has_answered self.old self.new) }
         ensures stop { leaves_change change self.old self.new result }
         ensures fault { IfErr result (λ why. HasRisen (Self.failures self.old why) (Self.failures self.new why)) }
         ensures cause { Self.is_honest self.new → IfErr result

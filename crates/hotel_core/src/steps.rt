@@ -66,7 +66,7 @@ fn carry_out<B: Books, R: Rng>(
 pub fn step<B: Books, R: Rng>(books: &mut B, source: &mut R, command: &Command) -> Reply
     ensures steps { Stepped B.Issued B.rows command.now books.old books.new (R.stream source.old)
         (R.stream source.new) result }
-    ensures asked { is_failed result ≡ false → WasCalled B.Issued books.old books.new }
+    ensures called { is_failed result ≡ false → WasCalled B.Issued books.old books.new }
 {
     known_command(command);
     books.known_sound();
@@ -79,7 +79,7 @@ pub fn step<B: Books, R: Rng>(books: &mut B, source: &mut R, command: &Command) 
 /// Takes a note of a lock: `step` of [`Command::Reported`], which draws nothing.
 pub fn report<B: Books>(books: &mut B, note: &LockNote) -> Reply
     ensures noted { Noted B.Issued B.rows note.now books.old books.new result }
-    ensures asked { is_failed result ≡ false → WasCalled B.Issued books.old books.new }
+    ensures called { is_failed result ≡ false → WasCalled B.Issued books.old books.new }
 {
     known_note(note);
     books.known_sound();

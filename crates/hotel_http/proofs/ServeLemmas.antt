@@ -22,7 +22,7 @@ use Rattle.hotel_lists.specs.{Bytes.AppendsFront, declared.calls.WriteFailed.Wri
 use Rattle.hotel_lists.proofs.BytesLemmas.{front_next}
 use Rattle.hotel_core.specs.declared.asks.Ask.{Ask}
 use Rattle.hotel_core.specs.declared.asks.Ask.TheVariants as ask
-use Rattle.hotel_lists.specs.{Listings.Listing, Lines.Vouches, declared.fault.ListFault.ListFault}
+use Rattle.hotel_lists.specs.{Listings.Listing, Lines.Vouches, Lines.is_answer, declared.fault.ListFault.ListFault}
 use Rattle.hotel_lists.specs.declared.fault.ListFault.TheVariants as fault
 use Rattle.hotel_core.specs.declared.asks.ListAsk.{ListAsk}
 use Rattle.hotel_asks.specs.{Listings.listing_on, Listings.listing_over}
@@ -79,7 +79,7 @@ pub list_came : {S : Type 0} {I : IssuedOf S} {rows : S → Rows} {a b : S} (its
     (answers : Bool) (failed : List Refusal) (old new : Option (List ℕ)) (end : Result Served Cut)
     → ((x : S) → I.is_clean x → I.is_honest x) → Since I.is_clean I.is_honest I.failures a b
     → (I.is_clean b → rows b ≡ rows a) → (I.is_honest b → answers ≡ true → I.is_clean b)
-    → I.was_asked Ask (ask.List its_list) a b → out.calls ≡ (ask.List its_list, answers) ∷ []
+    → I.was_asked Call (ask.List its_list, answers) a b → out.calls ≡ (ask.List its_list, answers) ∷ []
     → ((listing : Option Listing) → (I.is_clean b → listing ≡ listing_on (rows a) its_list) → I.is_honest b
     → ListComes its_list listing out failed) → EndsAs out [] old new end
     → AreCounted (I.failures a) (I.failures b) failed
@@ -89,7 +89,7 @@ list_came {I = I} {rows = rows} {a = a} {b = b} its_list out answers failed old 
     happens_so (answered_weaker (AskComes (ask.List its_list)) s s [] old new end) honest_is since
     (λ honest h reached stands.
     let told = subst (λ (l : List Call). Tells I a b failed l) (sym said)
-    (tells_once answers (ask.List its_list) (λ clean. are_counted) (vouched honest) asked since) in
+    (tells_once answers answers (ask.List its_list) (λ clean. are_counted) (vouched honest) (λ k. k) asked since) in
     let its = comes (listing_over h its_list)
     (λ clean. sym (listing_stands h (rows a) its_list (reached, stands (since.was_clean clean)))) honest in (
       h,
@@ -276,6 +276,18 @@ text_vouched fault.NoRoom C v k = v
 text_vouched fault.Memory C v k = cc k
 text_vouched fault.Store C v k = cc k
 text_vouched fault.Write C v k = cc k
+
+-- a call for an ask, where its outcome is said otherwise
+pub same_call : {S : Type 0} (I : IssuedOf S) {a b : S} {asked : Ask} {came answers : Bool} → came ≡ answers
+    → I.was_asked Call (asked, came) a b → I.was_asked Call (asked, answers) a b
+same_call I {a} {b} {asked} same call = subst (λ (o : Bool). I.was_asked Call (asked, o) a b) same call
+
+-- the text of a list is an answer where the list is
+pub text_answer : (fault : ListFault) → is_answer (Err fault) ≡ is_answered (Err (list_refusal fault))
+text_answer fault.NoRoom = refl
+text_answer fault.Memory = refl
+text_answer fault.Store = refl
+text_answer fault.Write = refl
 
 -- a list that failed has no listing
 pub list_failed : (its_list : ListAsk) (listing : Option Listing) (why : Refusal) → is_answered (Err why) ≡ false

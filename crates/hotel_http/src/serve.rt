@@ -3,7 +3,7 @@
 ghost use Rattle.std.specs.Prelude.{◌≡◌, [], true, OnErr};
 ghost use Rattle.rand_core.specs.Stream.{Stream};
 ghost use Rattle.keycard_rules.specs.Since.{Since};
-ghost use Rattle.hotel_core.specs.{Books.Failures.AreCounted, Books.Happens.Happens};
+ghost use Rattle.hotel_core.specs.{Books.Failures.AreCounted, Books.Happens.Call, Books.Happens.Happens};
 ghost use Rattle.hotel_lists.specs.Calls.{CountsReads, CountsWrites, OnErrOf};
 ghost use Rattle.hotel_asks.specs.Listings.{listing_on};
 ghost use Rattle.hotel_http.specs.Reads.{ReadsWhile};
@@ -156,7 +156,8 @@ fn list_text<B: ListDesk>(alloc: Global, list: &ListAsk, books: &mut B) -> Resul
         (text_in (λ t. t.items) result) }
     ensures vouched { B.is_honest books.new → is_answered (text_in (λ t. t.items) result) ≡ true
         → B.is_clean books.new }
-    ensures asked { B.was_asked Ask (ask.List list.now) books.old books.new }
+    ensures asked { B.was_asked Call (ask.List list.now, is_answered (text_in (λ t. t.items) result))
+        books.old books.new }
     ensures kept { B.is_clean books.new → B.is_kept books.old books.new }
     ensures since { Since B.is_clean B.is_honest B.failures books.old books.new }
     ensures failures { AreCounted (B.failures books.old) (B.failures books.new)

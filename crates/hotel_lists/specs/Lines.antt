@@ -89,7 +89,13 @@ listed (Err walk.Memory) write_failed = Err fault.Memory
 listed (Err walk.Store) write_failed = Err fault.Store
 listed (Err walk.Stopped) write_failed = if write_failed then Err fault.Write else Err fault.Memory
 
--- The end of a list vouches for something, where it was written in full or its room isn't there.
+-- a list that ended so was answered: it was written in full, or its room isn't there
+abbrev pub is_answer : Result (Unit {0}) ListFault → Bool
+is_answer (Ok done) = true
+is_answer (Err fault.NoRoom) = true
+is_answer (Err _) = false
+
+-- The end of a list vouches for something, where the list was answered.
 abbrev pub Vouches : Type 0 → Result (Unit {0}) ListFault → Type 0
 Vouches something (Ok done) = something
 Vouches something (Err fault.NoRoom) = something
@@ -101,7 +107,7 @@ pub record LooksAt {B : Type 0} (I : IssuedOf B) (old new : B) (result : Result 
   pub kept : I.is_clean new → I.is_kept old new
   pub since : Since I.is_clean I.is_honest I.failures old new
   pub vouched : I.is_honest new → Vouches (I.is_clean new) result
-  pub asked : Vouches (WasCalled I old new) result
+  pub called : Vouches (WasCalled I old new) result
   pub store : result ≡ Err fault.Store → HasRisen (I.failures old look.Store) (I.failures new look.Store)
 
 -- no row and no header can have been written

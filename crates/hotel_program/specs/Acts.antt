@@ -5,15 +5,14 @@ use Rattle.std.specs.Fmt.{decimal}
 use Rattle.std.specs.Io.KnownBytes.{Appends}
 use Rattle.rand_core.specs.Stream.{Stream}
 use Rattle.keycard_rules.specs.declared.issued.Issued.{Ghosts as IssuedOf}
-use Rattle.hotel_core.specs.Books.Happens.{Happens}
+use Rattle.hotel_core.specs.Books.Happens.{Happens, IsOneCall}
 use Rattle.hotel_core.specs.Books.Passes.{Passes}
 use Rattle.hotel_model.specs.Rows.{Rows}
 use Rattle.hotel_model.specs.declared.command.Command.{Command}
 use Rattle.hotel_model.specs.declared.reply.Reply.{Reply}
 use Rattle.hotel_lists.specs.Bytes.{AppendsFront}
-use Rattle.hotel_lists.specs.Lines.{LooksAt}
+use Rattle.hotel_lists.specs.Lines.{LooksAt, is_answer}
 use Rattle.hotel_lists.specs.declared.fault.ListFault.{ListFault}
-use Rattle.hotel_core.specs.declared.asks.Ask.{Ask}
 use Rattle.hotel_core.specs.declared.asks.Ask.TheVariants as ask
 use Rattle.hotel_core.specs.declared.asks.ListAsk.{ListAsk}
 use Rattle.hotel_audit.specs.declared.answer.LineAnswer.{LineAnswer}
@@ -85,7 +84,8 @@ abbrev pub AListEnds : {S R W F E : Type 0} → Views S R W F E → ListAsk → 
 AListEnds v its_list status old new = (end : Result (Unit {0}) ListFault) × EndsBy v (list_end end) status old new
     × (v.issued.is_honest new.books → AnswerEndsFor (v.rows old.books) its_list (v.contents old.writer)
     (v.contents new.writer) end)
-    × LooksAt v.issued old.books new.books end × v.issued.was_asked Ask (ask.List its_list) old.books new.books
+    × LooksAt v.issued old.books new.books end
+    × IsOneCall v.issued old.books (ask.List its_list, is_answer end) new.books
     × (new.source ≡ old.source) × (new.around ≡ old.around)
 
 -- An audit file of these bytes: its lines one after the other, and their answers.

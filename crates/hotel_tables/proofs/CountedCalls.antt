@@ -101,7 +101,7 @@ module _ {S : Type 0} (g : Ghosts S) (inside self : Tabled S) (same : inside ≡
             counted = none_fewer;
           };
           vouched = vouched;
-          asked = on_ok_if _ _ result vouched;
+          called = on_ok_if _ _ result vouched;
           stop = looked_up.crash;
           fault = IfErr-weaker result _ _ has_risen risen_so;
           cause = looked Fails LookUpFails old later result result refl (more old later) looked_up.cause;
@@ -138,7 +138,7 @@ module _ {S : Type 0} (g : Ghosts S) (inside self : Tabled S) (same : inside ≡
             counted = none_fewer;
           };
           vouched = λ honest none. (honest, walked_over.open_on honest none);
-          asked = λ none honest. (honest, walked_over.open_on honest none);
+          called = λ none honest. (honest, walked_over.open_on honest none);
           stop = walked_over.crash;
           fault = IfSome_then (failure_of result) risen_so has_risen;
           cause = λ honest store. more old later (walked_over.cause honest store);
@@ -163,7 +163,7 @@ asked_in_vain g old new cause (Err given) looks fails counted risen handed = rec
     counted = counted;
   };
   vouched = λ _. tt;
-  asked = tt;
+  called = tt;
   stop = looks.crash;
   fault = subst (λ why. HasRisen (failed old why) (failed new why)) (sym handed.1) risen;
   cause = λ honest store. fails honest (sym handed.1 ∙ store);

@@ -42,7 +42,7 @@ pub fn draw_fresh<R: Rng, I: Issued>(source: &mut R, issued: &mut I) -> Result<C
     ensures kept { I.is_clean issued.new → I.is_kept issued.old issued.new }
     ensures since { Since I.is_clean I.is_honest I.failures issued.old issued.new }
     ensures vouched { I.is_honest issued.new → fault_in result ≡ None → I.is_clean issued.new }
-    ensures asked { fault_in result ≡ None → WasCalled I.Issued issued.old issued.new }
+    ensures called { fault_in result ≡ None → WasCalled I.Issued issued.old issued.new }
     ensures fault { IfSome (fault_in result) (λ why. HasRisen (I.failures issued.old why) (I.failures issued.new why)) }
     ensures sure { I.never_fails → fault_in result ≡ None }
 {

@@ -52,8 +52,8 @@ pub trait Issued {
     /// So code over any of them has it of the calls alone that it makes.
     ghost has_answered: { Self → Self → Type 0 };
 
-    /// One call from the first state to the second was asked this, and answered it or failed. What this is, each
-    /// implementation says, too. So code over any of them can't make one such call of two, or of none.
+    /// One call from the first state to the second was this: what it was asked, and whether it answered or failed. What
+    /// this is, each implementation says, too. So code over any of them can't make one such call of two, or of none.
     ghost was_asked: { (A : Type 0) → A → Self → Self → Type 0 };
 
     /// Whether a code was issued. It changes nothing but the counts of failures.
@@ -62,7 +62,7 @@ pub trait Issued {
         ensures kept { is_clean self.new → is_kept self.old self.new }
         ensures since { Since is_clean is_honest failures self.old self.new }
         ensures vouched { is_honest self.new → OnOk result (is_clean self.new) }
-        ensures asked { OnOk result (has_answered self.old self.new) }
+        ensures called { OnOk result (has_answered self.old self.new) }
         ensures stop { leaves_no_more self.old self.new }
         ensures fault { IfErr result (λ why. HasRisen (failures self.old why) (failures self.new why)) }
         ensures cause { is_honest self.new → IfErr result (λ why. why ≡ Store → look_up_fails self.old self.new) }

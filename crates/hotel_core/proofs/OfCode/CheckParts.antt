@@ -21,7 +21,7 @@ module _ {S : Type 0} {I : IssuedOf S} {B : BooksOf S} {checks : Rows → List (
     same = f.found.same;
     since = f.found.since;
     vouched = λ honest k. f.found.vouched honest k;
-    asked = λ k. f.asked k;
+    called = λ k. f.called k;
     fault = λ clean cause k. f.found.fault clean tt cause (cc);
   })
 
@@ -35,7 +35,7 @@ module _ {S : Type 0} {I : IssuedOf S} {B : BooksOf S} {checks : Rows → List (
     same = f.found.same;
     since = f.found.since;
     vouched = λ honest _. f.found.vouched honest refl;
-    asked = λ _. f.asked refl;
+    called = λ _. f.called refl;
     fault = λ clean cause e. absurd (false≢true (sym k
         ∙ (ap is_failed (let s : ◌≡◌ {A = Reply} (Refused _) (Refused _) = cc in s) ∙ faults cause)));
   }
@@ -50,7 +50,7 @@ module _ {S : Type 0} {I : IssuedOf S} {B : BooksOf S} {checks : Rows → List (
     same = f.found.same;
     since = f.found.since;
     vouched = λ honest _. f.found.vouched honest refl;
-    asked = λ _. f.asked refl;
+    called = λ _. f.called refl;
     fault = λ clean cause e. cc;
   }
 
@@ -65,7 +65,7 @@ module _ {S : Type 0} {I : IssuedOf S} {B : BooksOf S} {checks : Rows → List (
       vouched = λ honest n. f.vouched honest n;
       fault = λ clean w cause n. f.fault clean cause (cc);
     };
-    asked = λ n. absurd (false≢true (sym n ∙ k));
+    called = λ n. absurd (false≢true (sym n ∙ k));
   }
 
   module _ {v : Bool} {facts : Rows → Type 0} {start : S} where
@@ -78,7 +78,7 @@ module _ {S : Type 0} {I : IssuedOf S} {B : BooksOf S} {checks : Rows → List (
       same = λ clean. f.same clean ∙ s.same (f.since.was_clean clean);
       since = since_then s.since f.since;
       vouched = λ _ honest. f.vouched honest refl;
-      asked = λ _. called_then s.since (f.asked refl);
+      called = λ _. called_then s.since (f.called refl);
     }
 
     -- one of the checks refuses
@@ -91,7 +91,7 @@ module _ {S : Type 0} {I : IssuedOf S} {B : BooksOf S} {checks : Rows → List (
       same = λ clean. f.same clean ∙ s.same (f.since.was_clean clean);
       since = since_then s.since f.since;
       vouched = λ _ honest. f.vouched honest k;
-      asked = λ _. called_then s.since (f.asked k);
+      called = λ _. called_then s.since (f.called k);
     }
 
     -- one of the checks refuses, or a search failed

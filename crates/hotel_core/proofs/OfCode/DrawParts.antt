@@ -117,7 +117,7 @@ undrawn {I = I} {B = B} {start = start} {old = old} {new = new} {source = source
           (s.same before) (d.answer clean));
       since = since_then s.since d.since;
       vouched = λ honest k. d.vouched honest k;
-      asked = λ _. called_before (s.asked refl) d.since;
+      called = λ _. called_before (s.called refl) d.since;
       moved = λ honest k.
           let before = s.vouched refl (d.since.was_honest honest) in
           inr (
@@ -169,7 +169,7 @@ drawn_ends {I = I} {B = B} {start = start} {old = old} {mid = mid} {new = new} {
           (d.same then ∙ s.same before) (t.goes clean);
       since = since_then s.since (since_then d.since t.since);
       vouched = t.vouched;
-      asked = λ k. called_then (since_then s.since d.since) (t.asked k);
+      called = λ k. called_then (since_then s.since d.since) (t.called k);
       moved = λ honest k.
           let then = d.vouched (t.since.was_honest honest) refl in
           let before = d.since.was_clean then in

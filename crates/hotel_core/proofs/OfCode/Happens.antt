@@ -1,6 +1,6 @@
 -- What went over books, made of its parts.
 use Rattle.std.proofs.Common.{◌≡◌, Bool, true, false, not, List, [], ◌∷◌, ◌++◌, length, zip, refl, ap, arith}
-use Rattle.std.proofs.Common.{inl, inr}
+use Rattle.std.proofs.Common.{inl, inr, subst}
 use Rattle.std.specs.Prelude.{⊤}
 use Rattle.std.proofs.lemmas.Bool.{not-true}
 use Rattle.hotel_core.proofs.Names.{false≢true, Stream, Since, since_refl, since_then, AreCounted, failure_in}
@@ -11,8 +11,8 @@ use Rattle.hotel_core.proofs.Names.{is_failed, Steps, Command, Reply, Refusal, R
 use Rattle.hotel_model.proofs.Invariants.Assurance.{assured}
 use Rattle.hotel_core.proofs.{OfCode.FailuresCounted.none_counted, OfCode.FailuresCounted.counted_join}
 use Rattle.hotel_model.specs.Leads.{LeadsOn}
-use Rattle.hotel_core.specs.Books.Happens.{Call, Happens, HappensBy, IsCall, StepTold, Tells, Told, has_answer}
-use Rattle.hotel_core.specs.Books.Happens.{known_after}
+use Rattle.hotel_core.specs.Books.Happens.{Call, Happens, HappensBy, IsOneCall, IsCall, StepTold, Tells, Told}
+use Rattle.hotel_core.specs.Books.Happens.{answered_by, has_answer, known_after}
 use Rattle.keycard_rules.specs.declared.issued.Issued.{Ghosts as IssuedOf}
 
 -- what is known after answers follows from what was known before them
@@ -52,35 +52,41 @@ tells_unasked I old asked = record {
   ends = λ k. absurd k;
 }
 
--- an ask by one call
-pub is_call : {S : Type 0} (I : IssuedOf S) {old new : S} {asked : Ask} (answers : Bool)
-    → I.was_asked Ask asked old new → IsCall I old (asked, answers) new
-is_call I true call = call
-is_call I false call = inr call
+-- an ask by one call, which answered where the ask has an answer
+pub one_call : {S : Type 0} (I : IssuedOf S) {old new : S} {asked : Ask} (answers came : Bool)
+    → (answers ≡ true → came ≡ true) → I.was_asked Call (asked, came) old new → IsOneCall I old (asked, answers) new
+one_call I {old} {new} {asked} true came so call =
+    subst (λ (b : Bool). I.was_asked Call (asked, b) old new) (so refl) call
+one_call I false came so call = (came, call)
+
+pub is_call : {S : Type 0} (I : IssuedOf S) {old new : S} {asked : Ask} (answers came : Bool)
+    → (answers ≡ true → came ≡ true) → I.was_asked Call (asked, came) old new → IsCall I old (asked, answers) new
+is_call I true came so call = one_call I true came so call
+is_call I false came so call = inr (came, call)
 
 -- books that were asked, and have no answer that vouches for them
 pub tells_failed : {S : Type 0} {I : IssuedOf S} {old new : S} {failed : List Refusal} {asked : Ask}
     → (I.is_clean new → AreCounted (I.failures old) (I.failures new) failed)
-    → I.was_asked Ask asked old new → Tells I old new failed ((asked, false) ∷ [])
-tells_failed {new = new} counted call = record {
+    → (came : Bool) → I.was_asked Call (asked, came) old new → Tells I old new failed ((asked, false) ∷ [])
+tells_failed {new = new} counted came call = record {
   counted = counted;
-  asked = (new, inr call, refl);
+  asked = (new, inr (came, call), refl);
   began = λ k. absurd (false≢true k);
   ends = λ k. absurd k;
 }
 
 -- books that were asked once
-pub tells_once : {S : Type 0} {I : IssuedOf S} {old new : S} {failed : List Refusal} (answers : Bool) (asked : Ask)
+pub tells_once : {S : Type 0} {I : IssuedOf S} {old new : S} {failed : List Refusal} (answers came : Bool) (asked : Ask)
     → (I.is_clean new → AreCounted (I.failures old) (I.failures new) failed)
-    → (answers ≡ true → I.is_clean new) → I.was_asked Ask asked old new
+    → (answers ≡ true → I.is_clean new) → (answers ≡ true → came ≡ true) → I.was_asked Call (asked, came) old new
     → Since I.is_clean I.is_honest I.failures old new → Tells I old new failed ((asked, answers) ∷ [])
-tells_once {new = new} true asked counted vouched call since = record {
+tells_once {I = I} {new = new} true came asked counted vouched answered call since = record {
   counted = counted;
-  asked = (new, call, refl);
+  asked = (new, one_call I true came answered call, refl);
   began = λ k. since.was_clean (vouched refl);
   ends = λ k. vouched refl;
 }
-tells_once false asked counted vouched call since = tells_failed counted call
+tells_once false came asked counted vouched answered call since = tells_failed counted came call
 
 -- books that were asked, and then asked again
 pub tells_join : {S : Type 0} {I : IssuedOf S} {old mid new : S} (failed more : List Refusal)
@@ -217,7 +223,7 @@ pub step_happens : {S : Type 0} {I : IssuedOf S} {rows : S → Rows} {old new : 
     → LeadsOn (I.is_clean old) (rows old) (λ h h'. Steps h s command reply h' s') (I.is_clean new) (rows new))
     → (I.is_clean new → AreCounted (I.failures old) (I.failures new) (failure_in reply))
     → (I.is_honest new → is_failed reply ≡ false → I.is_clean new)
-    → I.was_asked Ask (ask.Command command) old new
+    → I.was_asked Call (answered_by command reply) old new
     → Happens I rows old (StepTold s command reply s') new
 step_happens s s' command reply clean_honest since step failed vouched asked =
     happens_so (λ told told' h h' more went. (went.0, more _ _ went.1)) clean_honest since
@@ -228,8 +234,8 @@ step_happens s s' command reply clean_honest since step failed vouched asked =
       p.2,
       (
         p.3,
-        tells_once (not (is_failed reply)) (ask.Command command) failed
-            (λ k. vouched honest (not-true (is_failed reply) k)) asked since,
+        tells_once (not (is_failed reply)) (not (is_failed reply)) (ask.Command command) failed
+            (λ k. vouched honest (not-true (is_failed reply) k)) (λ answers. answers) asked since,
       ),
       p.4,
     ))

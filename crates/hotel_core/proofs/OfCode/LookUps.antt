@@ -23,7 +23,7 @@ module _ {S A : Type 0} {I : IssuedOf S} {B : BooksOf S} {old new : S}
       fault = λ clean whole cause e. subst (λ x. HasRisen (I.failures old x) (I.failures new x))
           (same_fault fault cause (let s : ◌≡◌ {A = Reply} (Refused _) (Refused _) = cc in s)) l.fault;
     };
-    asked = λ k. absurd (false≢true (sym k ∙ faults fault));
+    called = λ k. absurd (false≢true (sym k ∙ faults fault));
   }
 
   -- a look-up that answered finds what it answered
@@ -39,7 +39,7 @@ module _ {S A : Type 0} {I : IssuedOf S} {B : BooksOf S} {old new : S}
       vouched = λ honest k. l.vouched honest;
       fault = λ clean whole cause e. cc;
     };
-    asked = λ k. called_now l.asked;
+    called = λ k. called_now l.called;
   }
 
   -- what is known of the books
@@ -70,7 +70,7 @@ module _ {S A : Type 0} {I : IssuedOf S} {B : BooksOf S} {old new : S}
           fault = λ clean whole cause n. absurd (false≢true (sym k
               ∙ (ap is_failed (let s : ◌≡◌ {A = Reply} (Refused _) (Refused _) = cc in s) ∙ faults cause)));
         };
-        asked = λ _. called_now l.asked;
+        called = λ _. called_now l.called;
       })
   finds_there {why = why} wanted (Err fault) result k l e =
       subst (λ x. Finds I B AnyRows why wanted old new x) (sym e) (failed fault l)
@@ -92,7 +92,7 @@ module _ {S A : Type 0} {I : IssuedOf S} {B : BooksOf S} {old new : S}
           vouched = λ honest k. absurd (false≢true (sym k));
           fault = λ clean whole cause n. absurd (false≢true (subst IsSome (sym (l.answer clean)) whole));
         };
-        asked = λ k. absurd (false≢true (sym k));
+        called = λ k. absurd (false≢true (sym k));
       })
   finds_whole wanted (Err fault) result l e =
       subst (λ x. Finds I B (λ rows. IsSome (wanted rows)) Store wanted old new x) (sym e) (failed fault l)

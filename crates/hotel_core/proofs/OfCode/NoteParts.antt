@@ -45,7 +45,7 @@ excluded {source = source} s h = record {
   goes = λ clean. (s.same clean, (0, omega arith, sym (past-zero source)));
   since = s.since;
   vouched = λ honest k. absurd (false≢true (sym k));
-  asked = λ k. absurd (false≢true (sym k));
+  called = λ k. absurd (false≢true (sym k));
   moved = λ honest k. inl refl;
   fault = λ clean w cause e. absurd (h w (s.facts_hold clean));
 }
@@ -61,7 +61,7 @@ says {B = B} {start = start} {now = now} {outcome = outcome} {source = source} a
       (h (s.facts_hold clean)) (s.same clean);
   since = s.since;
   vouched = λ honest _. s.vouched refl honest;
-  asked = λ _. s.asked refl;
+  called = λ _. s.called refl;
   moved = λ honest e. absurd (false≢true (sym k ∙ e));
   fault = λ clean w cause e. absurd (false≢true (sym k ∙ (ap is_failed e ∙ faults cause)));
 }
@@ -133,20 +133,6 @@ gap_told rows note row taken r f n l =
     ∙ ap (λ z. if note.count == z + 1 then told_on rows note note.act else refused (Gap (z + 1))) (sym n)
     ∙ ap (λ b. if b then told_on rows note note.act else refused (Gap (taken + 1))) (not_equal note.count (taken + 1) l)
 
--- the next note of a room, by its count
-pub next_told : (rows : Rows) (note : Note) (row : RoomRow) (what : Act) (count taken : ℕ)
-    → room_at rows note.room ≡ Some row → (note.fit == row.fit) ≡ true → count ≡ note.count
-    → taken ≡ row.notes - row.before
-    → taken < count → count ≤ taken + 1 → what ≡ note.act → reported_on rows note None ≡ told_on rows note what
-next_told rows note row what count taken r f same n past next a =
-    let m : note.count ≡ taken + 1 = omega arith in
-    untaken_of rows note row r
-    ∙ ap (λ b. if b then (if note.count == row.notes - row.before + 1 then told_on rows note note.act
-    else refused (Gap (row.notes - row.before + 1))) else refused OldFit) f
-    ∙ ap (λ z. if note.count == z + 1 then told_on rows note note.act else refused (Gap (z + 1))) (sym n)
-    ∙ ap (λ b. if b then told_on rows note note.act else refused (Gap (taken + 1))) (equal note.count (taken + 1) m)
-    ∙ ap (λ x. told_on rows note x) (sym a)
-
 -- the next note's check, by what is seen of it
 abbrev next_by : (present taken_before gap : Bool) → ℕ → Result (Unit {0}) Refusal
 next_by present taken_before gap next =
@@ -211,3 +197,16 @@ is_next note row e = by (note.fit == row.fit) (nat_le note.count (row.notes - ro
     by true true gap f p g e = cc
     by true false true f p g e = cc
     by true false false f p g e = (f, not_past note.count taken p, not_lt_from (taken + 1) note.count g)
+
+-- the next note of a room comes to what it says
+pub next_told : (rows : Rows) (note : Note) (row : RoomRow) (what : Act) → next_checked note row ≡ Ok tt
+    → room_at rows note.room ≡ Some row → what ≡ note.act → reported_on rows note None ≡ told_on rows note what
+next_told rows note row what checked r a =
+    let taken = row.notes - row.before in
+    let n = is_next note row checked in
+    let m : note.count ≡ taken + 1 = omega (arith, n.1, n.2) in
+    untaken_of rows note row r
+    ∙ ap (λ b. if b then (if note.count == taken + 1 then told_on rows note note.act else refused (Gap (taken + 1)))
+    else refused OldFit) n.0
+    ∙ ap (λ b. if b then told_on rows note note.act else refused (Gap (taken + 1))) (equal note.count (taken + 1) m)
+    ∙ ap (λ x. told_on rows note x) (sym a)

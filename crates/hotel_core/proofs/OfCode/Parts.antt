@@ -19,7 +19,7 @@ pub record SoFar {S : Type 0} (I : IssuedOf S) (B : BooksOf S) (v : Bool) (facts
   pub same : I.is_clean now → B.rows now ≡ B.rows start
   pub since : Since I.is_clean I.is_honest I.failures start now
   pub vouched : v ≡ true → I.is_honest now → I.is_clean now
-  pub asked : v ≡ true → WasCalled I start now
+  pub called : v ≡ true → WasCalled I start now
 
 -- a fault's refusal is a failure
 pub faults : (fault : LookFault) → is_failed (Refused (refusal_of fault)) ≡ true
@@ -34,7 +34,7 @@ given facts h = record {
   same = λ _. refl;
   since = since_refl;
   vouched = λ e. absurd (false≢true e);
-  asked = λ e. absurd (false≢true e);
+  called = λ e. absurd (false≢true e);
 }
 
 -- at the start nothing is known
@@ -51,13 +51,13 @@ known_by : {S A : Type 0} {I : IssuedOf S} {B : BooksOf S} {v : Bool} {facts : R
     {are_whole : Rows → Type 0} {why : Refusal} {wanted : Rows → Option A} {start old new : S} {a : A}
     → SoFar I B v facts start old → FindsGiven I B are_whole why wanted old new (Ok a) → WasCalled I start new
     → SoFar I B true (λ rs. facts rs × (wanted rs ≡ Some a)) start new
-known_by {wanted = wanted} s f asked = record {
+known_by {wanted = wanted} s f called = record {
   facts_hold = λ clean.
       (s.facts_hold (f.since.was_clean clean), ap wanted (sym (s.same (f.since.was_clean clean))) ∙ f.answer clean);
   same = λ clean. f.same clean ∙ s.same (f.since.was_clean clean);
   since = since_then s.since f.since;
   vouched = λ _ honest. f.vouched honest refl;
-  asked = λ _. asked;
+  called = λ _. called;
 }
 
 -- something was found
@@ -65,14 +65,14 @@ pub then_found : {S A : Type 0} {I : IssuedOf S} {B : BooksOf S} {v : Bool} {fac
     {are_whole : Rows → Type 0} {why : Refusal} {wanted : Rows → Option A} {start old new : S} {a : A}
     → SoFar I B v facts start old → Finds I B are_whole why wanted old new (Ok a)
     → SoFar I B true (λ rs. facts rs × (wanted rs ≡ Some a)) start new
-then_found s f = known_by s f.found (called_then s.since (f.asked refl))
+then_found s f = known_by s f.found (called_then s.since (f.called refl))
 
 -- something was found, maybe by what was answered before
 pub then_known : {S A : Type 0} {I : IssuedOf S} {B : BooksOf S} {facts : Rows → Type 0}
     {are_whole : Rows → Type 0} {why : Refusal} {wanted : Rows → Option A} {start old new : S} {a : A}
     → SoFar I B true facts start old → FindsGiven I B are_whole why wanted old new (Ok a)
     → SoFar I B true (λ rs. facts rs × (wanted rs ≡ Some a)) start new
-then_known s f = known_by s f (called_before (s.asked refl) f.since)
+then_known s f = known_by s f (called_before (s.called refl) f.since)
 
 -- a count that rose later has risen
 pub risen_later : (a b c : ℕ) → a ≤ b → HasRisen b c → b ≤ c → HasRisen a c
@@ -106,7 +106,7 @@ stopped_by : {S A : Type 0} {I : IssuedOf S} {B : BooksOf S} {v : Bool} {facts :
     → outcome (B.rows start) ≡ refused why)
     → StepsAs I B outcome start new source source (Refused e)
 stopped_by {I = I} {B = B} {are_whole = are_whole} {wanted = wanted} {start = start} {old = old} {new = new} {e = e}
-    {outcome = outcome} {source = source} s f asked whole h = record {
+    {outcome = outcome} {source = source} s f called whole h = record {
       goes = λ clean. goes_at (is_failed (Refused e)) (outcome (B.rows start)) (B.rows start) (B.rows new) source e
           (λ k. let a = f.answer clean k in
           h (s.facts_hold (f.since.was_clean clean)) (ap wanted (sym (s.same (f.since.was_clean clean)))
@@ -114,7 +114,7 @@ stopped_by {I = I} {B = B} {are_whole = are_whole} {wanted = wanted} {start = st
           (f.same clean ∙ s.same (f.since.was_clean clean));
       since = since_then s.since f.since;
       vouched = λ honest k. f.vouched honest k;
-      asked = asked;
+      called = called;
       moved = λ honest k. inl refl;
       fault = λ clean w cause k.
           let before = f.since.was_clean clean in
@@ -138,7 +138,7 @@ pub stopped_whole : {S A : Type 0} {I : IssuedOf S} {B : BooksOf S} {v : Bool} {
 stopped_whole {I = I} {B = B} {start = start} {new = new} {e = e} {outcome = outcome}
     {source = source} r p s f whole h =
     subst (λ answer. StepsAs I B outcome start new source source answer)
-    (sym (passed_on r e p)) (stopped_by s f.found (λ k. called_then s.since (f.asked k)) whole h)
+    (sym (passed_on r e p)) (stopped_by s f.found (λ k. called_then s.since (f.called k)) whole h)
 
 -- a search failed that may rest on what was answered before
 pub stopped_known : {S A : Type 0} {I : IssuedOf S} {B : BooksOf S} {facts : Rows → Type 0} {why : Refusal}
@@ -149,7 +149,7 @@ pub stopped_known : {S A : Type 0} {I : IssuedOf S} {B : BooksOf S} {facts : Row
     → StepsAs I B outcome start new source source (reply_of r)
 stopped_known {I = I} {B = B} {start = start} {new = new} {e = e} {outcome = outcome} {source = source} r p s f h =
     subst (λ answer. StepsAs I B outcome start new source source answer) (sym (passed_on r e p))
-    (stopped_by s f (λ k. called_before (s.asked refl) f.since) (λ w k. tt) (λ k n x. h k n))
+    (stopped_by s f (λ k. called_before (s.called refl) f.since) (λ w k. tt) (λ k n x. h k n))
 
 -- what sound books have wasn't there, or the search failed
 pub halted : {S A : Type 0} {I : IssuedOf S} {B : BooksOf S} {v : Bool} {facts : Rows → Type 0}
@@ -179,7 +179,7 @@ refuses {B = B} {start = start} {now = now} {outcome = outcome} {source = source
       (λ _. h (s.facts_hold clean)) (s.same clean);
   since = s.since;
   vouched = λ honest _. s.vouched refl honest;
-  asked = λ _. s.asked refl;
+  called = λ _. s.called refl;
   moved = λ honest e. absurd (false≢true (sym k ∙ e));
   fault = λ clean w cause e. absurd (false≢true (sym k ∙ (ap is_failed e ∙ faults cause)));
 }
@@ -208,7 +208,7 @@ ends {I = I} {B = B} {start = start} {old = old} {new = new} {outcome = outcome}
           subst (λ o. Goes o (B.rows start) source answer (B.rows new) rest) (sym (h (s.facts_hold before))) g;
       since = since_then s.since t.since;
       vouched = t.vouched;
-      asked = λ k. called_then s.since (t.asked k);
+      called = λ k. called_then s.since (t.called k);
       moved = λ honest k. moved_as (I.is_clean old) (I.is_clean start) (last (B.rows old)).examined
           (outcome (B.rows start)).examined source rest
           (λ before. (
@@ -235,11 +235,11 @@ pub makes : {S : Type 0} {I : IssuedOf S} {B : BooksOf S} {old new : S} (answer 
     → is_failed answer ≡ false → (I.is_clean new → B.rows new ≡ made change (B.rows old))
     → Since I.is_clean I.is_honest I.failures old new → (I.is_honest new → I.is_clean new) → WasCalled I old new
     → StepsAs I B (λ _. accepted answer change) old new source source answer
-makes {B = B} {old = old} {new = new} answer change source k m since v asked = record {
+makes {B = B} {old = old} {new = new} answer change source k m since v called = record {
   goes = λ clean. made_at (is_failed answer) answer change (B.rows old) (B.rows new) source k (m clean);
   since = since;
   vouched = λ honest _. v honest;
-  asked = λ _. asked;
+  called = λ _. called;
   moved = λ honest e. absurd (false≢true (sym k ∙ e));
   fault = λ clean whole cause e. absurd (false≢true (sym k ∙ (ap is_failed e ∙ faults cause)));
 }
@@ -262,7 +262,7 @@ fails {I = I} {B = B} {old = old} {new = new} o fault why source e m since risen
           (refusal_of fault) (λ k. absurd (false≢true (sym k ∙ faults fault))) (m clean);
       since = since;
       vouched = λ honest k. absurd (false≢true (sym k ∙ faults fault));
-      asked = λ k. absurd (false≢true (sym k ∙ faults fault));
+      called = λ k. absurd (false≢true (sym k ∙ faults fault));
       moved = λ honest k. inl refl;
       fault = λ clean whole cause k. subst (λ x. HasRisen (I.failures old x) (I.failures new x))
           (same_fault fault cause k) risen;

@@ -14,9 +14,9 @@ use Rattle.hotel_model.specs.{History.History, Leads.Leads, Leads.LeadsOn, Rows.
 abbrev pub Call : Type 0
 Call = Ask × Bool
 
--- how the books answered this command, where this is the reply
-abbrev pub answered_by : Command → Reply → List Call
-answered_by command reply = (ask.Command command, not (is_failed reply)) ∷ []
+-- a command, and whether this reply answers it
+abbrev pub answered_by : Command → Reply → Call
+answered_by command reply = (ask.Command command, not (is_failed reply))
 
 -- one of these is an answer
 abbrev pub has_answer : List Call → Bool
@@ -31,10 +31,15 @@ known_after was [] = was
 known_after was ((asked, true) ∷ later) = known_after ⊤ later
 known_after was ((asked, false) ∷ later) = known_after ⊥ later
 
--- The books were asked this by one call from old to new; where it has no answer, by one or by none.
+-- The books were asked this by one call from old to new; where this has an answer, the call answered.
+abbrev pub IsOneCall : {S : Type 0} → IssuedOf S → S → Call → S → Type 0
+IsOneCall I old (asked, true) new = I.was_asked Call (asked, true) old new
+IsOneCall I old (asked, false) new = (came : Bool) × I.was_asked Call (asked, came) old new
+
+-- So they were asked; or, where this has no answer, they may not have been.
 abbrev pub IsCall : {S : Type 0} → IssuedOf S → S → Call → S → Type 0
-IsCall I old (asked, true) new = I.was_asked Ask asked old new
-IsCall I old (asked, false) new = (new ≡ old) ⊎ I.was_asked Ask asked old new
+IsCall I old (asked, true) new = IsOneCall I old (asked, true) new
+IsCall I old (asked, false) new = (new ≡ old) ⊎ IsOneCall I old (asked, false) new
 
 -- What failures and calls tell of books from old to new: the failures were counted, where the books are kept; they were
 -- asked these in turn, and nothing else; and an answer vouches that they were kept as it began, and the last one, where
@@ -70,7 +75,7 @@ Happens I rows old went new = HappensBy I rows old (λ kept. went) new
 abbrev pub StepTold : Stream → Command → Reply → Stream → Told → History → History
     → Type 0
 StepTold s command reply s' told h h' =
-    Steps h s command reply h' s' × told (failure_in reply) (answered_by command reply)
+    Steps h s command reply h' s' × told (failure_in reply) (answered_by command reply ∷ [])
 
 -- A command was carried out with this reply, by books and a source of words.
 abbrev pub CommandHappens : {S R : Type 0} → IssuedOf S → (S → Rows) → (R → Stream) → S × R → Command × Reply → S × R

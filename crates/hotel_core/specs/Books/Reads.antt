@@ -15,7 +15,7 @@ pub record LooksUp {S A R : Type 0} (I : IssuedOf S) (takes_memory : Bool) (said
   pub kept : I.is_clean new → I.is_kept old new
   pub since : Since I.is_clean I.is_honest I.failures old new
   pub vouched : I.is_honest new → OnOk result (I.is_clean new)
-  pub asked : OnOk result (I.has_answered old new)
+  pub called : OnOk result (I.has_answered old new)
   pub stop : I.leaves_no_more old new
   pub fault : IfErr result (λ why. HasRisen (I.failures old why) (I.failures new why))
   pub cause : I.is_honest new → IfErr result (λ why. why ≡ Store → I.look_up_fails old new)

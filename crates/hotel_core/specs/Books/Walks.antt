@@ -45,7 +45,7 @@ pub record WalksOver {B S R : Type 0} (I : IssuedOf B) (takes_memory : Bool) (af
   pub kept : I.is_clean new → I.is_kept old new
   pub since : Since I.is_clean I.is_honest I.failures old new
   pub vouched : I.is_honest new → failure_of result ≡ None → I.is_clean new
-  pub asked : failure_of result ≡ None → I.has_answered old new
+  pub called : failure_of result ≡ None → I.has_answered old new
   pub stop : I.leaves_no_more old new
   pub fault : IfSome (failure_of result) (λ cause. HasRisen (I.failures old cause) (I.failures new cause))
   pub cause : I.is_honest new → failure_of result ≡ Some look.Store → I.look_up_fails old new

@@ -55,7 +55,7 @@ pub record FindsGiven {S A : Type 0} (I : IssuedOf S) (B : BooksOf S) (are_whole
 pub record Finds {S A : Type 0} (I : IssuedOf S) (B : BooksOf S) (are_whole : Rows → Type 0) (why : Refusal)
     (wanted : Rows → Option A) (old new : S) (result : Result A Refusal) : Type 0 where
   pub found : FindsGiven I B are_whole why wanted old new result
-  pub asked : has_failed result ≡ false → WasCalled I old new
+  pub called : has_failed result ≡ false → WasCalled I old new
 
 -- all rows are whole enough
 abbrev pub AnyRows : Rows → Type 0

@@ -20,6 +20,6 @@ pub record FindsChecked {S : Type 0} (I : IssuedOf S) (B : BooksOf S) (checks : 
   pub same : I.is_clean new → B.rows new ≡ B.rows old
   pub since : Since I.is_clean I.is_honest I.failures old new
   pub vouched : I.is_honest new → has_failed result ≡ false → I.is_clean new
-  pub asked : has_failed result ≡ false → WasCalled I old new
+  pub called : has_failed result ≡ false → WasCalled I old new
   pub fault : I.is_clean new → (cause : LookFault) → result ≡ Err (refusal_of cause)
       → HasRisen (I.failures old cause) (I.failures new cause)

@@ -22,7 +22,7 @@ pub record StepsAs {S : Type 0} (I : IssuedOf S) (B : BooksOf S) (outcome : Rows
   pub goes : I.is_clean new → Goes (outcome (B.rows old)) (B.rows old) source answer (B.rows new) rest
   pub since : Since I.is_clean I.is_honest I.failures old new
   pub vouched : I.is_honest new → is_failed answer ≡ false → I.is_clean new
-  pub asked : is_failed answer ≡ false → WasCalled I old new
+  pub called : is_failed answer ≡ false → WasCalled I old new
   pub moved : I.is_honest new → is_failed answer ≡ true → (rest ≡ source)
       ⊎ (I.is_clean old × MovedAtMost (outcome (B.rows old)).examined source rest)
   pub fault : I.is_clean new → AreWhole (B.rows old) → (cause : LookFault) → answer ≡ reply.Refused (refusal_of cause)

@@ -9,7 +9,7 @@ use Rattle.keycard_rules.proofs.Sinces.{since_refl}
 use Rattle.hotel_model.proofs.Invariants.Assurance.{assured}
 use Rattle.hotel_core.proofs.OfCode.Happens.{so_by, tells_failed, tells_none, tells_once, tells_unasked}
 use Rattle.hotel_core.specs.Books.Failures.{AreCounted, failure_in}
-use Rattle.hotel_core.specs.Books.Happens.{Call, HappensBy, Tells, Told}
+use Rattle.hotel_core.specs.Books.Happens.{Call, HappensBy, Tells, Told, answered_by}
 use Rattle.hotel_model.specs.declared.command.Command.{Command}
 use Rattle.hotel_model.specs.declared.reply.Reply.{Reply}
 use Rattle.hotel_model.specs.declared.reply.Refusal.{Refusal}
@@ -62,7 +62,7 @@ pub command_ends : {S : Type 0} {I : IssuedOf S} {rows : S → Rows} {a b : S} (
     → ((x : S) → I.is_clean x → I.is_honest x) → Since I.is_clean I.is_honest I.failures a b
     → (I.is_honest b → LeadsOn (I.is_clean a) (rows a) (λ h h'. Steps h s command reply h' t) (I.is_clean b) (rows b))
     → (I.is_clean b → AreCounted (I.failures a) (I.failures b) (failure_in reply))
-    → (I.is_honest b → is_failed reply ≡ false → I.is_clean b) → I.was_asked Ask (ask.Command command) a b
+    → (I.is_honest b → is_failed reply ≡ false → I.is_clean b) → I.was_asked Call (answered_by command reply) a b
     → OnOk written (Appends old new (reply_text reply)) → OnErr written (AppendsFront old new (reply_text reply))
     → HappensBy I rows a (AskEnds (Some (ask.Command command)) s t old new written) b
 command_ends {I = I} {a = a} {b = b} s t command reply old new
@@ -70,9 +70,11 @@ command_ends {I = I} {a = a} {b = b} s t command reply old new
     so_by (ends_weaker (Some (ask.Command command)) s t old new (Ok done)) honest_is since
     (λ honest h reached stands.
     let p = step honest h reached stands in
-    let told = tells_once (not (tells_failure (reply_text reply))) (ask.Command command)
+    let sure = λ (k : not (tells_failure (reply_text reply)) ≡ true).
+    reply_sure reply (not-true (tells_failure (reply_text reply)) k) in
+    let told = tells_once (not (tells_failure (reply_text reply))) (not (is_failed reply)) (ask.Command command)
     (λ clean. known_counted (I.failures a) (I.failures b) reply (copies command) since.counted (failed clean))
-    (λ k. vouched honest (reply_sure reply (not-true (tells_failure (reply_text reply)) k))) asked since in
+    (λ k. vouched honest (sure k)) (λ k. ap not (sure k)) asked since in
     (p.0, p.1, p.2, (reply_text reply, counted_in reply (copies command), (reply, p.3, refl, refl), whole, told), p.4))
 command_ends {I = I} {a = a} {b = b} s t command reply old new
     (Err cut) honest_is since step failed vouched asked whole front =
@@ -80,7 +82,7 @@ command_ends {I = I} {a = a} {b = b} s t command reply old new
     (λ honest h reached stands.
     let p = step honest h reached stands in
     let told = tells_failed (λ clean. known_counted (I.failures a) (I.failures b) reply
-    (copies command) since.counted (failed clean)) asked in
+    (copies command) since.counted (failed clean)) (not (is_failed reply)) asked in
     (p.0, p.1, p.2, (reply_text reply, counted_in reply (copies command), (reply, p.3, refl, refl), front, told), p.4))
 
 either : {C : Type 0} (b : Bool) → (b ≡ true → C) → (b ≡ false → C) → C
@@ -88,15 +90,15 @@ either true f g = f refl
 either false f g = g refl
 
 -- the answer to a list is cut short, and nothing happens
-pub list_cut : {S : Type 0} {I : IssuedOf S} {rows : S → Rows} {a b : S} (its_list : ListAsk)
+pub list_cut : {S : Type 0} {I : IssuedOf S} {rows : S → Rows} {a b : S} (its_list : ListAsk) (came : Bool)
     (s : Stream) (old new : Option (List ℕ))
     → ((x : S) → I.is_clean x → I.is_honest x) → Since I.is_clean I.is_honest I.failures a b
-    → (I.is_clean b → rows b ≡ rows a) → I.was_asked Ask (ask.List its_list) a b
+    → (I.is_clean b → rows b ≡ rows a) → I.was_asked Call (ask.List its_list, came) a b
     → (I.is_honest b
     → ListAnswered (listing_on (rows a) its_list) (AppendsFront old new) (AreCounted (I.failures a) (I.failures b)))
     → HappensBy I rows a (λ kept. AskAnswered (λ text. kept) (AppendsFront old new)
     (λ text. (ask.List its_list, false) ∷ []) (Some (ask.List its_list)) s s) b
-list_cut {I = I} {rows = rows} {a = a} {b = b} its_list s old new honest_is since same asked front =
+list_cut {I = I} {rows = rows} {a = a} {b = b} its_list came s old new honest_is since same asked front =
     so_by (λ kept kept' told told' h h' back more w. (
       w.0,
       w.1,
@@ -110,7 +112,7 @@ list_cut {I = I} {rows = rows} {a = a} {b = b} its_list s old new honest_is sinc
     let answers : I.is_clean b → AnswersList (listing_over h its_list) it.0 it.1 =
     λ clean. subst (λ (l : Option Listing). AnswersList l it.0 it.1)
     (listing_stands h (rows a) its_list (reached, stands (since.was_clean clean))) it.2 in
-    let told = tells_failed (λ clean. it.4) asked in (
+    let told = tells_failed (λ clean. it.4) came asked in (
       h,
       reached,
       (λ clean. same clean ∙ stands (since.was_clean clean)),
@@ -119,16 +121,17 @@ list_cut {I = I} {rows = rows} {a = a} {b = b} its_list s old new honest_is sinc
     ))
 
 -- a list is answered, and nothing happens
-pub list_ends : {S : Type 0} {I : IssuedOf S} {rows : S → Rows} {a b : S} (its_list : ListAsk) (s : Stream)
-    (old new : Option (List ℕ)) (written : Result (Unit {0}) WriteFailed)
+pub list_ends : {S : Type 0} {I : IssuedOf S} {rows : S → Rows} {a b : S} (its_list : ListAsk) (came : Bool)
+    (s : Stream) (old new : Option (List ℕ)) (written : Result (Unit {0}) WriteFailed)
     → ((x : S) → I.is_clean x → I.is_honest x) → Since I.is_clean I.is_honest I.failures a b
-    → (I.is_clean b → rows b ≡ rows a) → I.was_asked Ask (ask.List its_list) a b
+    → (I.is_clean b → rows b ≡ rows a) → I.was_asked Call (ask.List its_list, came) a b
     → (I.is_honest b → OnOk written (ListAnswered (listing_on (rows a) its_list)
-    (Whole old new (I.is_clean b)) (AreCounted (I.failures a) (I.failures b))))
+    (Whole old new (I.is_clean b × (came ≡ true))) (AreCounted (I.failures a) (I.failures b))))
     → (I.is_honest b → OnErr written (ListAnswered (listing_on (rows a) its_list) (AppendsFront old new)
     (AreCounted (I.failures a) (I.failures b))))
     → HappensBy I rows a (AskEnds (Some (ask.List its_list)) s s old new written) b
-list_ends {I = I} {rows = rows} {a = a} {b = b} its_list s old new (Ok done) honest_is since same asked whole front =
+list_ends {I = I} {rows = rows} {a = a} {b = b} its_list came s old new (Ok done) honest_is since same asked whole
+    front =
     so_by (ends_weaker (Some (ask.List its_list)) s s old new (Ok done)) honest_is since
     (λ honest h reached stands.
     let it = whole honest in
@@ -136,21 +139,22 @@ list_ends {I = I} {rows = rows} {a = a} {b = b} its_list s old new (Ok done) hon
     λ clean. subst (λ (l : Option Listing). AnswersList l it.0 it.1)
     (listing_stands h (rows a) its_list (reached, stands (since.was_clean clean))) it.2 in
     let vouched = λ (k : not (tells_failure it.0) ≡ true). it.3.1 (not-true (tells_failure it.0) k) in
-    let told = tells_once (not (tells_failure it.0)) (ask.List its_list) (λ clean. it.4) vouched asked since in (
+    let told = tells_once (not (tells_failure it.0)) came (ask.List its_list) (λ clean. it.4)
+    (λ k. (vouched k).0) (λ k. (vouched k).1) asked since in (
       h,
       reached,
       (λ clean. same clean ∙ stands (since.was_clean clean)),
       (
         it.0,
         it.1,
-        ((λ sure. answers (either (tells_failure it.0) sure it.3.1)), refl, refl),
+        ((λ sure. answers (either (tells_failure it.0) sure (λ k. (it.3.1 k).0))), refl, refl),
         it.3.0,
         told,
       ),
       assured h reached,
     ))
-list_ends its_list s old new (Err cut) honest_is since same asked whole front =
-    list_cut its_list s old new honest_is since same asked front
+list_ends its_list came s old new (Err cut) honest_is since same asked whole front =
+    list_cut its_list came s old new honest_is since same asked front
 
 -- nothing was asked of the books, and nothing happens
 quiet_ends : {S : Type 0} {I : IssuedOf S} {rows : S → Rows} (a : S) (wanted : Option Ask) (s : Stream) (text : List ℕ)

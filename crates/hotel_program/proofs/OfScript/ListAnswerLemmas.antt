@@ -19,7 +19,7 @@ use Rattle.hotel_core.specs.Books.Failures.{AreCounted}
 use Rattle.hotel_core.proofs.OfCode.FailuresCounted.{none_counted, one_counted}
 use Rattle.keycard_rules.specs.declared.issued.Issued.{Ghosts as IssuedOf}
 use Rattle.hotel_lists.specs.{Bytes.AppendsFront, Faults.told_refusal}
-use Rattle.hotel_lists.specs.Lines.{LooksAt, Vouches}
+use Rattle.hotel_lists.specs.Lines.{LooksAt, Vouches, is_answer}
 use Rattle.hotel_lists.specs.declared.fault.ListFault.{ListFault}
 use Rattle.hotel_lists.specs.declared.fault.ListFault.TheVariants as fault
 use Rattle.hotel_lists.specs.Listings.{Listing, ListEnds}
@@ -126,6 +126,15 @@ refusal_vouches something front fault.Store why e v k =
     tells_failure (front ++ refusal_text w) ≡ true) same (told_failed front refusal.Store refl)))
 refusal_vouches something front fault.Write why e v k = cc e
 
+-- the end of a list that vouches for something also shows that the list was answered
+vouches_answered : (something : Type 0) (end : Result (Unit {0}) ListFault)
+    → Vouches something end → Vouches (something × (is_answer end ≡ true)) end
+vouches_answered something (Ok done) v = (v, refl)
+vouches_answered something (Err fault.NoRoom) v = (v, refl)
+vouches_answered something (Err fault.Memory) v = tt
+vouches_answered something (Err fault.Store) v = tt
+vouches_answered something (Err fault.Write) v = tt
+
 -- An answer to a list that was written whole: these bytes, and what it vouches for.
 abbrev pub Whole : Option (List ℕ) → Option (List ℕ) → Type 0 → List ℕ → Type 0
 Whole old new something text = Appends old new text × (tells_failure text ≡ false → something)
@@ -136,7 +145,8 @@ pub refused_whole : {B : Type 0} (I : IssuedOf B) {b c : B}
     → told_refusal why_not ≡ Some why
     → ListEnds [] listing old mid (Err why_not) → LooksAt I b c (Err why_not) → I.is_honest c
     → Appends mid new (refusal_text why)
-    → ListAnswered listing (Whole old new (I.is_clean c)) (AreCounted (I.failures b) (I.failures c))
+    → ListAnswered listing (Whole old new (I.is_clean c × (is_answer (Err why_not) ≡ true)))
+    (AreCounted (I.failures b) (I.failures c))
 refused_whole I {b = b} {c = c} listing old mid new why_not why e p looks honest written =
     let r = refused_front listing old mid why_not why e p in (
       r.0 ++ refusal_text why,
@@ -144,7 +154,8 @@ refused_whole I {b = b} {c = c} listing old mid new why_not why e p looks honest
       r.1,
       (
         Appends-trans old mid new r.0 (refusal_text why) r.2 written,
-        refusal_vouches (I.is_clean c) r.0 why_not why e (looks.vouched honest),
+        refusal_vouches (I.is_clean c × (is_answer (Err why_not) ≡ true)) r.0 why_not why e
+            (vouches_answered (I.is_clean c) (Err why_not) (looks.vouched honest)),
       ),
       counted_by I why_not looks,
     )

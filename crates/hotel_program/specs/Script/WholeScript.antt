@@ -30,7 +30,8 @@ ScriptGoes sure h s (line ∷ later) (text ∷ texts) failed h' s' =
 ScriptGoes sure h s [] (text ∷ texts) failed h' s' = ⊥
 ScriptGoes sure h s (line ∷ later) [] failed h' s' = ⊥
 
--- what the books were asked for lines with these answers, in order; of lines that have none it isn't vouched for
+-- what the books were asked for lines with these answers, in order; for a line without an answer they were asked once
+-- or not at all
 unfoldable pub answers_to : List (List ℕ) → List (List ℕ) → List Call
 answers_to (line ∷ lines) (text ∷ texts) = answered_to (ask_in line) text ++ answers_to lines texts
 answers_to [] texts = []

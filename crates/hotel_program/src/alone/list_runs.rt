@@ -1,10 +1,10 @@
 //! A list that is asked for alone: its text on one writer, and what went wrong on another.
 
 ghost use Rattle.std.specs.Prelude.{◌≡◌, ◌≢◌, Result};
-ghost use Rattle.hotel_core.specs.declared.asks.Ask.{Ask};
+ghost use Rattle.hotel_core.specs.Books.Happens.{IsOneCall};
 ghost use Rattle.hotel_core.specs.declared.asks.Ask.TheVariants as ask;
 ghost use Rattle.hotel_lists.specs.Calls.{CountsWrites, OnErrOf};
-ghost use Rattle.hotel_lists.specs.Lines.{LooksAt};
+ghost use Rattle.hotel_lists.specs.Lines.{LooksAt, is_answer};
 ghost use Rattle.hotel_lists.specs.declared.fault.ListFault.{ListFault};
 ghost use Rattle.hotel_program.specs.Faults.{end_status, Tells};
 ghost use Rattle.hotel_program.specs.Alone.ListRuns.{AnswerEnds, AnswerEndsFor, list_end};
@@ -29,7 +29,7 @@ fn write_list_or_refusal<W: Write, B: ListDesk>(
     ensures text { B.is_honest books.new → AnswerEnds (listing_on (B.rows books.old) list.now) (W.contents writer.old)
         (W.contents writer.new) result }
     ensures books { LooksAt B.Issued books.old books.new result }
-    ensures asked { B.was_asked Ask (ask.List list.now) books.old books.new }
+    ensures asked { IsOneCall B.Issued books.old (ask.List list.now, is_answer result) books.new }
     ensures calls { CountsWrites calls.old calls.new (OnErrOf result ListFault.Write) }
 {
     match books.write_list(alloc, list, writer, calls) {
@@ -70,7 +70,8 @@ pub fn run_list<B: ListDesk, W: Write, F: FaultSink>(
         × Tells F.told faults.old (list_end end) faults.new
         × (B.is_honest books.new → AnswerEndsFor (B.rows books.old) list.now (W.contents writer.old)
         (W.contents writer.new) end)
-        × LooksAt B.Issued books.old books.new end × B.was_asked Ask (ask.List list.now) books.old books.new }
+        × LooksAt B.Issued books.old books.new end
+        × IsOneCall B.Issued books.old (ask.List list.now, is_answer end) books.new }
     ensures no_usage { result ≢ 2 }
 {
     let mut calls = IoCalls::none();

@@ -1,8 +1,9 @@
 use Rattle.std.proofs.Common.{◌≡◌, ◌∙◌, refl, sym, subst, Result, Ok, Err, IfOk, IfErr, OnErr}
-use Rattle.std.specs.Prelude.{is_ok}
-use Rattle.hotel_core.proofs.{Names.AreCounted, OfCode.Happens.is_call, OfCode.Happens.step_happens}
-use Rattle.hotel_audit.proofs.{LineAnswers.lead-note, LineAnswers.lead-unread, NoteReplies.answered_reply}
-use Rattle.hotel_audit.proofs.{NoteReplies.answered_sure, NoteReplies.failed_reply, NoteReplies.failure_told}
+use Rattle.std.specs.Prelude.{is_ok, not}
+use Rattle.hotel_core.proofs.{Names.AreCounted, Names.is_failed}
+use Rattle.hotel_core.proofs.OfCode.Happens.{is_call, step_happens}
+use Rattle.hotel_audit.proofs.{LineAnswers.lead-note, LineAnswers.lead-unread}
+use Rattle.hotel_audit.proofs.NoteReplies.{answered_call, answered_reply, answered_sure, failed_reply, failure_told}
 use Rattle.hotel_model.specs.declared.command.Command.TheVariants as command
 use Rattle.hotel_audit.proofs.imports.answer_line.Goals as goal
 
@@ -65,7 +66,12 @@ returns-in-Note-clause-vouched g c = if_ok c.answer_of.result _
 
 pub returns-in-Note-clause-asked : goal.returns-in-Note-clause-asked
 returns-in-Note-clause-asked g c =
-    rw c.in-Note.is (c.report.new.self, is_call g.B.Issued (is_ok c.answer_of.result) c.report.ensures.asked, refl)
+    rw c.in-Note.is (
+      c.report.new.self,
+      is_call g.B.Issued (is_ok c.answer_of.result) (not (is_failed c.report.result))
+          (answered_call c.report.result c.answer_of.result c.answer_of.ensures) c.report.ensures.asked,
+      refl,
+    )
 
 pub returns-in-Note-clause-unasked : goal.returns-in-Note-clause-unasked
 returns-in-Note-clause-unasked g c = if_ok c.answer_of.result _ (λ a e none.

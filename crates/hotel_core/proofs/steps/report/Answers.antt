@@ -30,5 +30,5 @@ returns-clause-noted g c =
       since = (taken silent).since;
     }
 
-pub returns-clause-asked : goal.returns-clause-asked
-returns-clause-asked g c = λ k. (c.take_note-taken.ensures silent).asked (rw c.reply_of-reply.ensures at k)
+pub returns-clause-called : goal.returns-clause-called
+returns-clause-called g c = λ k. (c.take_note-taken.ensures silent).called (rw c.reply_of-reply.ensures at k)

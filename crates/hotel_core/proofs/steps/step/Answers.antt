@@ -22,5 +22,5 @@ returns-clause-steps g c =
       sure = λ never takes. rw is (out.sure never takes);
     }
 
-pub returns-clause-asked : goal.returns-clause-asked
-returns-clause-asked g c = λ k. c.carry_out-outcome.ensures.steps.asked (rw c.reply_of-reply.ensures at k)
+pub returns-clause-called : goal.returns-clause-called
+returns-clause-called g c = λ k. c.carry_out-outcome.ensures.steps.called (rw c.reply_of-reply.ensures at k)

@@ -11,6 +11,6 @@ returns-clause-books g c =
       kept = λ clean. g.met.B.Issued.kept_trans _ _ _ (found.kept (wrote.since.was_clean clean)) (wrote.kept clean);
       since = since_then found.since wrote.since;
       vouched = wrote.vouched;
-      asked = vouches_so _ _ c.write_rows.result (called_then found.since) wrote.asked;
+      called = vouches_so _ _ c.write_rows.result (called_then found.since) wrote.called;
       store = λ failed. risen_since Store found.since wrote.since (wrote.store failed);
     }

@@ -49,8 +49,8 @@ returns-clause-books g c =
       since = walked.since;
       vouched = λ honest. list_vouches g.W.Write.contents _ _ _ c.walk-walked.result c.finish-end.result c.listed.result
           (walked.vouched honest) c.finish-end.ensures.ends c.listed.ensures;
-      asked = list_vouches g.W.Write.contents _ _ _ c.walk-walked.result c.finish-end.result c.listed.result
-          (λ none. called_now (walked.asked none)) c.finish-end.ensures.ends c.listed.ensures;
+      called = list_vouches g.W.Write.contents _ _ _ c.walk-walked.result c.finish-end.result c.listed.result
+          (λ none. called_now (walked.called none)) c.finish-end.ensures.ends c.listed.ensures;
       store = λ e. let failed = store_failed g.W.Write.contents _ _ c.walk-walked.result c.finish-end.result
           c.listed.result c.finish-end.ensures.ends c.listed.ensures e in rw failed at walked.fault;
     }

@@ -11,7 +11,7 @@ loop-init g c = record {
   moved = sym (past-zero _);
   since = since_refl;
   vouched = λ some honest. absurd (omega arith);
-  asked = λ some. absurd (omega arith);
+  called = λ some. absurd (omega arith);
   kept = λ h. g.met.I.Issued.kept_refl _;
   so_far = λ h. so_far_none _ _;
 }
@@ -49,7 +49,7 @@ loop-preserved g c = record {
   moved = past-next _ _ _ _ _ c.loop.invariant.moved c.next_u64.ensures;
   since = since_then c.loop.invariant.since c.is_issued.ensures.since;
   vouched = λ some honest. c.in-Ok-true.ensures.vouched honest;
-  asked = λ some. called_then c.loop.invariant.since (called_now c.in-Ok-true.ensures.asked);
+  called = λ some. called_then c.loop.invariant.since (called_now c.in-Ok-true.ensures.called);
   kept = λ clean.
       g.met.I.Issued.kept_trans _ _ _ (c.loop.invariant.kept (c.is_issued.ensures.since.was_clean clean))
       (c.is_issued.ensures.kept clean);
@@ -95,9 +95,9 @@ returns-clause-none_moved g c = λ is.
 pub returns-clause-vouched : goal.returns-clause-vouched
 returns-clause-vouched g c = λ honest none. c.loop.invariant.vouched (omega arith) honest
 
-pub returns-in-Ok-false-clause-asked : goal.returns-in-Ok-false-clause-asked
-returns-in-Ok-false-clause-asked g c = λ none.
-    called_then c.loop.invariant.since (called_now c.in-Ok-false.ensures.asked)
+pub returns-in-Ok-false-clause-called : goal.returns-in-Ok-false-clause-called
+returns-in-Ok-false-clause-called g c = λ none.
+    called_then c.loop.invariant.since (called_now c.in-Ok-false.ensures.called)
 
-pub returns-clause-asked : goal.returns-clause-asked
-returns-clause-asked g c = λ none. c.loop.invariant.asked (omega arith)
+pub returns-clause-called : goal.returns-clause-called
+returns-clause-called g c = λ none. c.loop.invariant.called (omega arith)

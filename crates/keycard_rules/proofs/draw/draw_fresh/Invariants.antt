@@ -13,7 +13,7 @@ invariant-loop g l =
       moved : stream l.source ≡ past l.counter (stream l.fn.source);
       since : Since is_clean is_honest g.I.Issued.failures l.fn.issued l.issued;
       vouched : 1 ≤ l.counter → is_honest l.issued → is_clean l.issued;
-      asked : 1 ≤ l.counter → WasCalled g.I.Issued l.fn.issued l.issued;
+      called : 1 ≤ l.counter → WasCalled g.I.Issued l.fn.issued l.issued;
       kept : is_clean l.issued → g.I.Issued.is_kept l.fn.issued l.issued;
       so_far : is_honest l.issued → SoFar (issued l.fn.issued) (stream l.fn.source) l.counter (stream l.source);
     }

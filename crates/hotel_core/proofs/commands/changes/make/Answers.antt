@@ -11,7 +11,7 @@ apply-requires g c = λ clean.
 pub returns-in-Ok-clause-steps : goal.returns-in-Ok-clause-steps
 returns-in-Ok-clause-steps g c = λ source.
     makes c.args.reply c.args.change source c.requires.is_answer c.in-Ok.ensures.ok
-    c.apply.ensures.since c.in-Ok.ensures.vouched (called_now c.in-Ok.ensures.asked)
+    c.apply.ensures.since c.in-Ok.ensures.vouched (called_now c.in-Ok.ensures.called)
 
 pub returns-in-Err-clause-steps : goal.returns-in-Err-clause-steps
 returns-in-Err-clause-steps g c = λ source.

@@ -10,5 +10,5 @@ returns-in_err-new_code g c = record {
     vouched = search rules;
     fault = search rules;
   };
-  asked = search rules;
+  called = search rules;
 }

@@ -1,7 +1,9 @@
-use Rattle.std.proofs.Common.{◌≡◌, ◌∙◌, [], sym, subst, Result, ℕ, List, Ok}
+use Rattle.std.proofs.Common.{◌≡◌, ◌∙◌, [], sym, ap, subst, Result, ℕ, List, Ok, Err}
 use Rattle.std.specs.Io.KnownBytes.{Appends}
 use Rattle.hotel_lists.specs.Bytes.{AppendsFront}
-use Rattle.hotel_lists.specs.Lines.{LooksAt, Vouches}
+use Rattle.hotel_core.specs.Books.Happens.{Call}
+use Rattle.hotel_core.specs.declared.asks.Ask.TheVariants as ask
+use Rattle.hotel_lists.specs.Lines.{LooksAt, Vouches, is_answer}
 use Rattle.hotel_lists.specs.declared.fault.ListFault.{ListFault}
 use Rattle.hotel_program.specs.Script.ListAnswers.{refusal_text}
 use Rattle.hotel_lists.specs.Listings.{ListEnds}
@@ -23,8 +25,12 @@ returns-clause-went g c = λ s.
     LooksAt g.B.Issued c.args.books.now c.write_list.new.self r) c.in-Err.is books in
     let said : c.as_bytes.result.now ≡ refusal_text c.in-Some.refusal =
     c.as_bytes.ensures.same ∙ c.reply_text-text.ensures in
-    list_ends c.args.list.now s old new c.write_bytes.result g.met.B.Issued.clean_honest books.since
-    (λ clean. g.met.B.Books.kept_rows _ _ (books.kept clean)) c.write_list.ensures.asked
+    let asked = subst (λ (r : Result (Unit {0}) ListFault). g.B.Issued.was_asked Call
+    (ask.List c.args.list.now, is_answer r) c.args.books.now c.write_list.new.self) c.in-Err.is
+    c.write_list.ensures.asked in
+    list_ends c.args.list.now (is_answer (Err c.in-Err.fault)) s old new c.write_bytes.result
+    g.met.B.Issued.clean_honest books.since
+    (λ clean. g.met.B.Books.kept_rows _ _ (books.kept clean)) asked
     (λ honest.
     let written = subst (λ (r : Result (Unit {0}) ListFault). ListEnds [] listing old mid r) c.in-Err.is
     (c.write_list.ensures.text honest) in
@@ -42,14 +48,14 @@ returns-in_default-clause-went g c = λ s.
     let old = g.W.Write.contents c.args.writer.now in
     let new = g.W.Write.contents c.write_list.new.writer in
     let books = c.write_list.ensures.books in
-    list_ends c.args.list.now s old new (Ok tt) g.met.B.Issued.clean_honest books.since
+    list_ends c.args.list.now (is_answer c.write_list.result) s old new (Ok tt) g.met.B.Issued.clean_honest books.since
     (λ clean. g.met.B.Books.kept_rows _ _ (books.kept clean)) c.write_list.ensures.asked
     (λ honest.
     let written = subst (λ (r : Result (Unit {0}) ListFault). ListEnds [] listing old new r) c.in_default.is
     (c.write_list.ensures.text honest) in
     let clean = subst (λ (r : Result (Unit {0}) ListFault). Vouches (g.B.Issued.is_clean c.write_list.new.self) r)
     c.in_default.is (books.vouched honest) in
-    whole_answered _ listing old new written clean books.since.counted)
+    whole_answered _ listing old new written (clean, ap is_answer c.in_default.is) books.since.counted)
     (λ honest. tt)
 
 pub returns-in_default-told_refusal-clause-went : goal.returns-in_default-told_refusal-clause-went
@@ -59,7 +65,7 @@ returns-in_default-told_refusal-clause-went g c = λ s.
     let new = g.W.Write.contents c.write_list.new.writer in
     let books = c.write_list.ensures.books in
     let none = sym c.told_refusal.ensures ∙ c.in_default-told_refusal.is in
-    list_cut c.args.list.now s old new g.met.B.Issued.clean_honest books.since
+    list_cut c.args.list.now (is_answer c.write_list.result) s old new g.met.B.Issued.clean_honest books.since
     (λ clean. g.met.B.Books.kept_rows _ _ (books.kept clean)) c.write_list.ensures.asked
     (λ honest.
     let written = subst (λ (r : Result (Unit {0}) ListFault). ListEnds [] listing old new r) c.in-Err.is

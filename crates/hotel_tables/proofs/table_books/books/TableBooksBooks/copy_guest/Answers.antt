@@ -14,7 +14,7 @@ returns g c = record {
     counted = λ why. omega (arith, c.in_ok-ask.ensures.counted why, c.counting.ensures.counted why);
   };
   vouched = search rules;
-  asked = on_ok_if _ _ _ (search rules);
+  called = on_ok_if _ _ _ (search rules);
   stop = search rules;
   fault = rw c.counting.ensures.same (IfErr-weaker _ _ _ (λ why risen. risen_later _ _ _ (c.in_ok-ask.ensures.counted
       why) risen (c.counting.ensures.counted why)) c.counting.ensures.risen);

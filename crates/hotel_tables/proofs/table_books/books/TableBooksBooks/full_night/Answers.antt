@@ -25,7 +25,7 @@ returns g c =
         counted = c.in_ok-ask.ensures.counted;
       };
       vouched = search rules;
-      asked = search rules;
+      called = search rules;
       stop = asked.crash;
       fault = tt;
       cause = λ _. tt;
