@@ -126,7 +126,7 @@ module _ {B : Type 0} (I : IssuedOf B) (rows : B → Rows) (old new : B) (honest
       → (next : Line) → take (i + 1) lines ≡ take i lines ++ next ∷ [] → LineGoes I rows mid next (Err by) new
       → Passes (IsCall I) mid (asked_of false (next ∷ [])) new
       → Imports I rows (Ok lines) old new (Err (stopped by (length answers) (has_taken answers)))
-  answered_before mid lines i answers by each before last same happened vouched asked through next more goes last_asked =
+  answered_before mid lines i answers by each before last same happened vouched asked through next more goes at_last =
       ended (Ok lines) (Err (stopped by (length answers) (has_taken answers))) (take i lines) answers each
       (ends_stopped by (Ok lines) (take i lines) answers (length answers) (has_taken answers)
       (drop i lines, ap (λ ls. Ok ls) (sym (take-append-drop i lines)), refl, refl))
@@ -135,7 +135,7 @@ module _ {B : Type 0} (I : IssuedOf B) (rows : B → Rows) (old new : B) (honest
       (subst (λ (l : List Call). Passes (IsCall I) old l new)
       (sym (asked_stopped by (Ok lines) (take i lines) next (drop (i + 1) lines) (length answers) (has_taken answers)
       (ap (λ ls. Ok ls) (around lines i next more))))
-      (passes_join (IsCall I) old mid new (asked_of true (take i lines)) (asked_of false (next ∷ [])) asked last_asked))
+      (passes_join (IsCall I) old mid new (asked_of true (take i lines)) (asked_of false (next ∷ [])) asked at_last))
       (λ now noted. before.was_clean (vouched (last.was_honest now) noted)) (λ now. tt) tt mid through
       (leaves_stopped I rows by (Ok lines) (take i lines) mid new (length answers) (has_taken answers)
       (next_fails mid lines i next by more goes))

@@ -13,7 +13,7 @@ use Rattle.hotel_model.specs.declared.reply.Reply.TheVariants as reply
 use Rattle.hotel_audit.specs.{declared.answer.LineAnswer.LineAnswer, declared.line.Cause.Cause, declared.line.Line.Line}
 use Rattle.hotel_audit.specs.declared.answer.LineAnswer.TheVariants as answer
 use Rattle.hotel_audit.specs.declared.line.Line.TheVariants as line
-use Rattle.hotel_audit.specs.Import.{AreAnswered, LinesLeadOn, answer_of, asked_of, called, commands_of}
+use Rattle.hotel_audit.specs.Import.{AreAnswered, LinesLeadOn, answer_of, asked_of, call_for, commands_of}
 use Rattle.hotel_audit.specs.Import.{replies_in}
 use Rattle.hotel_audit.proofs.NoteReplies.{answered_reply}
 
@@ -97,7 +97,7 @@ pub calls_next : {B : Type 0} (I : IssuedOf B) (old mid new : B) (lines : List L
     → Passes (IsCall I) old (asked_of true lines) mid → Passes (IsCall I) mid (asked_of true (l ∷ [])) new
     → Passes (IsCall I) old (asked_of true (lines ++ l ∷ [])) new
 calls_next I old mid new lines l before last =
-    rw (commands_of-append lines (l ∷ []), map-append (called true) (commands_of lines) (commands_of (l ∷ [])))
+    rw (commands_of-append lines (l ∷ []), map-append (call_for true) (commands_of lines) (commands_of (l ∷ [])))
     (passes_join (IsCall I) old mid new (asked_of true lines) (asked_of true (l ∷ [])) before last)
 
 -- answers of which none is to a note

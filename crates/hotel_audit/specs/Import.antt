@@ -29,13 +29,13 @@ commands_of [] = []
 commands_of (line.Note note ∷ lines) = command.Reported note ∷ commands_of lines
 commands_of (line.Unread cause ∷ lines) = commands_of lines
 
--- this command was asked
-abbrev pub called : Bool → Command → Call
-called answered command = (ask.Command command, answered)
+-- the call for this command, which was answered or wasn't
+abbrev pub call_for : Bool → Command → Call
+call_for answered command = (ask.Command command, answered)
 
 -- what the books were asked for these lines: to take their notes
 abbrev pub asked_of : Bool → List Line → List Call
-asked_of answered lines = map (called answered) (commands_of lines)
+asked_of answered lines = map (call_for answered) (commands_of lines)
 
 -- the line of a file behind these, if there is one
 abbrev pub next_of : Result (List Line) AuditFault → List Line → List Line

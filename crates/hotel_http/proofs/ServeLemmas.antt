@@ -22,16 +22,16 @@ use Rattle.hotel_lists.specs.{Bytes.AppendsFront, declared.calls.WriteFailed.Wri
 use Rattle.hotel_lists.proofs.BytesLemmas.{front_next}
 use Rattle.hotel_core.specs.declared.asks.Ask.{Ask}
 use Rattle.hotel_core.specs.declared.asks.Ask.TheVariants as ask
-use Rattle.hotel_lists.specs.{Listings.Listing, Lines.Vouches, Lines.is_answer, declared.fault.ListFault.ListFault}
+use Rattle.hotel_lists.specs.{Listings.Listing, Lines.is_answer, declared.fault.ListFault.ListFault}
 use Rattle.hotel_lists.specs.declared.fault.ListFault.TheVariants as fault
 use Rattle.hotel_core.specs.declared.asks.ListAsk.{ListAsk}
 use Rattle.hotel_asks.specs.{Listings.listing_on, Listings.listing_over}
 use Rattle.hotel_asks.proofs.ListingLemmas.{listing_stands}
-use Rattle.hotel_audit.specs.{AuditFile.audit_lines, Import.EndsAfter, Import.Imports, Import.Vouches as FileVouches}
+use Rattle.hotel_audit.specs.{AuditFile.audit_lines, Import.EndsAfter, Import.Imports, Import.Vouches}
 use Rattle.hotel_audit.specs.{Import.LeavesBehind, Import.next_of}
 use Rattle.hotel_audit.proofs.ImportEnds.{next_note}
 use Rattle.hotel_audit.specs.{Import.replies_in, declared.answer.LineAnswer.LineAnswer}
-use Rattle.hotel_audit.specs.{Import.AreAnswered, Import.asked_of, Import.called, Import.commands_of}
+use Rattle.hotel_audit.specs.{Import.AreAnswered, Import.asked_of, Import.call_for, Import.commands_of}
 use Rattle.hotel_audit.specs.declared.line.Line.TheVariants as line
 use Rattle.hotel_audit.specs.{declared.audit_file.AuditFault.AuditFault}
 use Rattle.hotel_audit.specs.{declared.imports.ImportFault.ImportFault, declared.line.Line.Line}
@@ -123,14 +123,14 @@ as_many_replies (asks ∷ lines) [] each = absurd each
 
 -- where one of these commands was answered, there is a reply
 some_reply : (commands : List Command) (replies : List Reply) → length replies ≡ length commands
-    → has_answer (map (called true) commands) ≡ true → replies ≢ []
+    → has_answer (map (call_for true) commands) ≡ true → replies ≢ []
 some_reply [] replies n k = absurd (false≢true k)
 some_reply (command ∷ commands) [] n k = absurd (omega (arith, n))
 some_reply (command ∷ commands) (reply ∷ replies) n k = λ e. cc e
 
 -- what is known after these commands were answered
 known_of : (was is : Type 0) (commands : List Command) (replies : List Reply) → length replies ≡ length commands
-    → (replies ≢ [] → is) → (replies ≡ [] → was → is) → known_after was (map (called true) commands) → is
+    → (replies ≢ [] → is) → (replies ≡ [] → was → is) → known_after was (map (call_for true) commands) → is
 known_of was is [] [] n after same k = same refl k
 known_of was is [] (reply ∷ replies) n after same k = absurd (omega (arith, n))
 known_of was is (command ∷ commands) [] n after same k = absurd (omega (arith, n))
@@ -157,7 +157,7 @@ stopped_tells {I = I} {a = a} {b = b} failed lines answers next note is each bef
 -- what an import tells
 import_tells : {S : Type 0} {I : IssuedOf S} {rows : S → Rows} {a b : S} (file : Result (List Line) AuditFault)
     (end : Result (List LineAnswer) ImportFault) (lines : List Line) (answers : List LineAnswer)
-    → AreAnswered lines answers → EndsAfter file end lines answers → FileVouches I rows file lines answers a b end
+    → AreAnswered lines answers → EndsAfter file end lines answers → Vouches I rows file lines answers a b end
     → Since I.is_clean I.is_honest I.failures a b → ((why : AuditFault) → end ≡ Err (import.File why) → b ≡ a)
     → (I.is_clean b → AreCounted (I.failures a) (I.failures b) (import_failures end))
     → (behind : S) → LeavesBehind I rows file lines behind end b
@@ -269,25 +269,17 @@ list_comes its_list there listing made out text vouched same honest of_text fail
         of_text listing (subst (λ (l : Option Listing). IsListText l made) (sym (same clean)) (text honest))
     by false k = failed k
 
--- the text of a list vouches as the list does
-pub text_vouched : (fault : ListFault) (C : Type 0)
-    → Vouches C (Err fault) → is_answered (Err (list_refusal fault)) ≡ true → C
-text_vouched fault.NoRoom C v k = v
-text_vouched fault.Memory C v k = cc k
-text_vouched fault.Store C v k = cc k
-text_vouched fault.Write C v k = cc k
-
--- a call for an ask, where its outcome is said otherwise
-pub same_call : {S : Type 0} (I : IssuedOf S) {a b : S} {asked : Ask} {came answers : Bool} → came ≡ answers
-    → I.was_asked Call (asked, came) a b → I.was_asked Call (asked, answers) a b
-same_call I {a} {b} {asked} same call = subst (λ (o : Bool). I.was_asked Call (asked, o) a b) same call
-
--- the text of a list is an answer where the list is
-pub text_answer : (fault : ListFault) → is_answer (Err fault) ≡ is_answered (Err (list_refusal fault))
-text_answer fault.NoRoom = refl
-text_answer fault.Memory = refl
-text_answer fault.Store = refl
-text_answer fault.Write = refl
+-- the refusal of a list that ended by a fault is an answer where the list is
+pub text_answer : (what : ListFault) (why : Refusal) (end : Result (Unit {0}) ListFault)
+    → end ≡ Err what → why ≡ list_refusal what → is_answer end ≡ is_answered (Err why)
+text_answer what why end is said =
+    ap is_answer is ∙ by what ∙ sym (ap (λ (w : Refusal). is_answered (Err w)) said)
+  where
+    by : (what : ListFault) → is_answer (Err what) ≡ is_answered (Err (list_refusal what))
+    by fault.NoRoom = refl
+    by fault.Memory = refl
+    by fault.Store = refl
+    by fault.Write = refl
 
 -- a list that failed has no listing
 pub list_failed : (its_list : ListAsk) (listing : Option Listing) (why : Refusal) → is_answered (Err why) ≡ false

@@ -13,7 +13,7 @@ use Rattle.hotel_core.specs.declared.books.walks.WalkFault.{WalkFault}
 use Rattle.hotel_core.specs.declared.books.walks.WalkFault.TheVariants as walk
 use Rattle.hotel_lists.specs.{Bytes.AppendsFront, LineSink.SameEnds, LineSink.Gathers, LineSink.StopsAtWrite}
 use Rattle.hotel_lists.specs.{LineSink.Finishes, declared.lines.Lines.Lines}
-use Rattle.hotel_lists.specs.{declared.fault.ListFault.ListFault, Lines.StopsBy, Lines.Vouches, Lines.listed}
+use Rattle.hotel_lists.specs.{declared.fault.ListFault.ListFault, Lines.StopsBy, Lines.is_answer, Lines.listed}
 use Rattle.hotel_lists.specs.{Listings.IsFront, Listings.ListEnds, Listings.listing}
 use Rattle.hotel_lists.specs.declared.fault.ListFault.TheVariants as fault
 use Rattle.hotel_lists.proofs.{BytesLemmas.front_next, CallsLemmas.none_forgotten, CallsLemmas.then_none_forgotten}
@@ -44,37 +44,26 @@ err_is_ok h = cc
 store_is_memory : {A : Type 0} → (the : Result A WalkFault) → the ≡ Err walk.Store → the ≡ Err walk.Memory → ⊥
 store_is_memory the h k = cc
 
--- a sink that stopped vouches for nothing
-stopped_vouches : (is_clean : Type 0) (failed : Bool) → Vouches is_clean (listed (Err walk.Stopped) failed)
-stopped_vouches is_clean true = tt
-stopped_vouches is_clean false = tt
-
--- a list that was written in full vouches as its walk does
-pub list_vouches : {W : Type 0} (contents : W → Option (List ℕ)) (is_clean : Type 0) (b c : Lines W)
+-- a list is answered only where its walk didn't fail
+pub answered_walk : {W : Type 0} (contents : W → Option (List ℕ)) (b c : Lines W)
     (end result : Result (Unit {0}) WalkFault) (last : Result (Unit {0}) ListFault)
-    → (failure_of end ≡ None → is_clean) → Finishes contents b c end result
-    → last ≡ listed result c.write_failed → Vouches is_clean last
-list_vouches contents is_clean b c end result last walked f e =
-    subst (Vouches is_clean) (sym e) (by end result walked f)
+    → Finishes contents b c end result → last ≡ listed result c.write_failed
+    → is_answer last ≡ true → failure_of end ≡ None
+answered_walk contents b c end result last f same k = by end result f (sym (ap is_answer same) ∙ k)
   where
-    by : (end result : Result (Unit {0}) WalkFault) → (failure_of end ≡ None → is_clean)
-        → Finishes contents b c end result → Vouches is_clean (listed result c.write_failed)
-    by (Ok done) (Ok ended) walked f = walked refl
-    by (Err walk.Stopped) (Ok ended) walked f = absurd (err_is_ok (sym f.0))
-    by (Err walk.Memory) (Ok ended) walked f = absurd (err_is_ok (sym f.0))
-    by (Err walk.Store) (Ok ended) walked f = absurd (err_is_ok (sym f.0))
-    by _ (Err walk.Memory) walked f = tt
-    by _ (Err walk.Store) walked f = tt
-    by _ (Err walk.Stopped) walked f = stopped_vouches is_clean c.write_failed
+    stopped : (failed : Bool) → is_answer (listed (Err walk.Stopped) failed) ≡ true → ⊥
+    stopped true k = cc k
+    stopped false k = cc k
 
--- what follows from that for which an end vouches
-pub vouches_so : (first then : Type 0) (end : Result (Unit {0}) ListFault) → (first → then)
-    → Vouches first end → Vouches then end
-vouches_so first then (Ok done) so v = so v
-vouches_so first then (Err fault.NoRoom) so v = so v
-vouches_so first then (Err fault.Memory) so v = tt
-vouches_so first then (Err fault.Store) so v = tt
-vouches_so first then (Err fault.Write) so v = tt
+    by : (end result : Result (Unit {0}) WalkFault) → Finishes contents b c end result
+        → is_answer (listed result c.write_failed) ≡ true → failure_of end ≡ None
+    by (Ok done) (Ok ended) f k = refl
+    by (Err walk.Stopped) (Ok ended) f k = refl
+    by (Err walk.Memory) (Ok ended) f k = absurd (err_is_ok (sym f.0))
+    by (Err walk.Store) (Ok ended) f k = absurd (err_is_ok (sym f.0))
+    by _ (Err walk.Memory) f k = cc k
+    by _ (Err walk.Store) f k = cc k
+    by _ (Err walk.Stopped) f k = absurd (stopped c.write_failed k)
 
 -- a list fails by the store only where its walk did
 pub store_failed : {W : Type 0} (contents : W → Option (List ℕ)) (b c : Lines W)

@@ -95,19 +95,13 @@ is_answer (Ok done) = true
 is_answer (Err fault.NoRoom) = true
 is_answer (Err _) = false
 
--- The end of a list vouches for something, where the list was answered.
-abbrev pub Vouches : Type 0 → Result (Unit {0}) ListFault → Type 0
-Vouches something (Ok done) = something
-Vouches something (Err fault.NoRoom) = something
-Vouches something (Err _) = Unit {0}
-
--- A list left of the books what a look-up may leave; its end vouches that they were asked, and that they are clean
--- where they are honest; the store fails only where a failure of the store was counted.
+-- A list left of the books what a look-up may leave; where it was answered, they were asked, and are clean where they
+-- are honest; the store fails only where a failure of the store was counted.
 pub record LooksAt {B : Type 0} (I : IssuedOf B) (old new : B) (result : Result (Unit {0}) ListFault) : Type 0 where
   pub kept : I.is_clean new → I.is_kept old new
   pub since : Since I.is_clean I.is_honest I.failures old new
-  pub vouched : I.is_honest new → Vouches (I.is_clean new) result
-  pub called : Vouches (WasCalled I old new) result
+  pub vouched : I.is_honest new → is_answer result ≡ true → I.is_clean new
+  pub called : is_answer result ≡ true → WasCalled I old new
   pub store : result ≡ Err fault.Store → HasRisen (I.failures old look.Store) (I.failures new look.Store)
 
 -- no row and no header can have been written

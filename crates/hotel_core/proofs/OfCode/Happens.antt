@@ -52,11 +52,15 @@ tells_unasked I old asked = record {
   ends = λ k. absurd k;
 }
 
+-- a call for an ask, where its outcome is said otherwise
+pub same_call : {S : Type 0} (I : IssuedOf S) {old new : S} {asked : Ask} {came answers : Bool} → came ≡ answers
+    → I.was_asked Call (asked, came) old new → I.was_asked Call (asked, answers) old new
+same_call I {old} {new} {asked} same call = subst (λ (b : Bool). I.was_asked Call (asked, b) old new) same call
+
 -- an ask by one call, which answered where the ask has an answer
 pub one_call : {S : Type 0} (I : IssuedOf S) {old new : S} {asked : Ask} (answers came : Bool)
     → (answers ≡ true → came ≡ true) → I.was_asked Call (asked, came) old new → IsOneCall I old (asked, answers) new
-one_call I {old} {new} {asked} true came so call =
-    subst (λ (b : Bool). I.was_asked Call (asked, b) old new) (so refl) call
+one_call I true came so call = same_call I (so refl) call
 one_call I false came so call = (came, call)
 
 pub is_call : {S : Type 0} (I : IssuedOf S) {old new : S} {asked : Ask} (answers came : Bool)

@@ -36,7 +36,7 @@ abbrev pub IsOneCall : {S : Type 0} → IssuedOf S → S → Call → S → Type
 IsOneCall I old (asked, true) new = I.was_asked Call (asked, true) old new
 IsOneCall I old (asked, false) new = (came : Bool) × I.was_asked Call (asked, came) old new
 
--- So they were asked; or, where this has no answer, they may not have been.
+-- The books were asked this by one call from old to new; or, where it has no answer, they may not have been asked.
 abbrev pub IsCall : {S : Type 0} → IssuedOf S → S → Call → S → Type 0
 IsCall I old (asked, true) new = IsOneCall I old (asked, true) new
 IsCall I old (asked, false) new = (new ≡ old) ⊎ IsOneCall I old (asked, false) new

@@ -19,7 +19,7 @@ use Rattle.hotel_core.specs.Books.Failures.{AreCounted}
 use Rattle.hotel_core.proofs.OfCode.FailuresCounted.{none_counted, one_counted}
 use Rattle.keycard_rules.specs.declared.issued.Issued.{Ghosts as IssuedOf}
 use Rattle.hotel_lists.specs.{Bytes.AppendsFront, Faults.told_refusal}
-use Rattle.hotel_lists.specs.Lines.{LooksAt, Vouches, is_answer}
+use Rattle.hotel_lists.specs.Lines.{LooksAt, is_answer}
 use Rattle.hotel_lists.specs.declared.fault.ListFault.{ListFault}
 use Rattle.hotel_lists.specs.declared.fault.ListFault.TheVariants as fault
 use Rattle.hotel_lists.specs.Listings.{Listing, ListEnds}
@@ -113,27 +113,17 @@ reply_sure (Refused refusal.Memory) k = absurd (false≢true (sym k ∙ told_fai
 reply_sure (Refused refusal.Store) k = absurd (false≢true (sym k ∙ told_failed [] refusal.Store refl))
 reply_sure _ k = refl
 
--- where the answer tells no failure it vouches as the list does
-refusal_vouches : (something : Type 0) (front : List ℕ) (why_not : ListFault) (why : Refusal)
-    → told_refusal why_not ≡ Some why → Vouches something (Err why_not)
-    → tells_failure (front ++ refusal_text why) ≡ false → something
-refusal_vouches something front fault.NoRoom why e v k = v
-refusal_vouches something front fault.Memory why e v k =
+-- where the text of a refusal tells no failure, the list was answered
+refusal_answered : (front : List ℕ) (why_not : ListFault) (why : Refusal) → told_refusal why_not ≡ Some why
+    → tells_failure (front ++ refusal_text why) ≡ false → is_answer (Err why_not) ≡ true
+refusal_answered front fault.NoRoom why e k = refl
+refusal_answered front fault.Memory why e k =
     let same : refusal.Memory ≡ why = cc e in absurd (false≢true (sym k ∙ subst (λ (w : Refusal).
     tells_failure (front ++ refusal_text w) ≡ true) same (told_failed front refusal.Memory refl)))
-refusal_vouches something front fault.Store why e v k =
+refusal_answered front fault.Store why e k =
     let same : refusal.Store ≡ why = cc e in absurd (false≢true (sym k ∙ subst (λ (w : Refusal).
     tells_failure (front ++ refusal_text w) ≡ true) same (told_failed front refusal.Store refl)))
-refusal_vouches something front fault.Write why e v k = cc e
-
--- the end of a list that vouches for something also shows that the list was answered
-vouches_answered : (something : Type 0) (end : Result (Unit {0}) ListFault)
-    → Vouches something end → Vouches (something × (is_answer end ≡ true)) end
-vouches_answered something (Ok done) v = (v, refl)
-vouches_answered something (Err fault.NoRoom) v = (v, refl)
-vouches_answered something (Err fault.Memory) v = tt
-vouches_answered something (Err fault.Store) v = tt
-vouches_answered something (Err fault.Write) v = tt
+refusal_answered front fault.Write why e k = cc e
 
 -- An answer to a list that was written whole: these bytes, and what it vouches for.
 abbrev pub Whole : Option (List ℕ) → Option (List ℕ) → Type 0 → List ℕ → Type 0
@@ -154,8 +144,7 @@ refused_whole I {b = b} {c = c} listing old mid new why_not why e p looks honest
       r.1,
       (
         Appends-trans old mid new r.0 (refusal_text why) r.2 written,
-        refusal_vouches (I.is_clean c × (is_answer (Err why_not) ≡ true)) r.0 why_not why e
-            (vouches_answered (I.is_clean c) (Err why_not) (looks.vouched honest)),
+        λ k. let answered = refusal_answered r.0 why_not why e k in (looks.vouched honest answered, answered),
       ),
       counted_by I why_not looks,
     )

@@ -43,12 +43,12 @@ AskGoes sure None h s text failed h' s' = (text ≡ unread_text) × (failed ≡ 
 abbrev pub LineGoes : (List ℕ → Type 0) → History → Stream → List ℕ → List ℕ → List Refusal → History → Stream → Type 0
 LineGoes sure h s line text failed h' s' = AskGoes sure (ask_in line) h s text failed h' s'
 
--- what the books are asked, where this is asked of the desk: just this, or nothing
+-- the calls where this is asked of the desk, and was answered or wasn't: one, or none where nothing is asked
 abbrev pub asked_for : Option Ask → Bool → List Call
 asked_for None answered = []
 asked_for (Some wanted) answered = (wanted, answered) ∷ []
 
--- the same where this is the answer, which may say that they failed
+-- the same where this is the text of the answer, which may tell that the books failed
 abbrev pub answered_to : Option Ask → List ℕ → List Call
 answered_to wanted text = asked_for wanted (not (tells_failure text))
 

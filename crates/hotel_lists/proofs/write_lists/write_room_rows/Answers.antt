@@ -1,6 +1,5 @@
 use Rattle.keycard_rules.specs.declared.issued.LookFault.TheVariants.{Store}
 use Rattle.hotel_core.proofs.{Names.called_then, Names.since_then, OfCode.Parts.risen_since}
-use Rattle.hotel_lists.proofs.LinesWritten.{vouches_so}
 use Rattle.hotel_lists.proofs.write_lists.write_room_rows.Goals as goal
 
 pub returns-clause-books : goal.returns-clause-books
@@ -11,6 +10,6 @@ returns-clause-books g c =
       kept = λ clean. g.met.B.Issued.kept_trans _ _ _ (found.kept (wrote.since.was_clean clean)) (wrote.kept clean);
       since = since_then found.since wrote.since;
       vouched = wrote.vouched;
-      called = vouches_so _ _ c.write_rows.result (called_then found.since) wrote.called;
+      called = λ answered. called_then found.since (wrote.called answered);
       store = λ failed. risen_since Store found.since wrote.since (wrote.store failed);
     }

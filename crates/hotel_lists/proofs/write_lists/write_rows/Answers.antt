@@ -2,7 +2,7 @@ use Rattle.std.proofs.Common.{Err, rules, sym, ◌∙◌}
 use Rattle.hotel_lists.specs.declared.fault.ListFault.TheVariants.{Write}
 use Rattle.hotel_core.proofs.Names.{called_now}
 use Rattle.hotel_lists.proofs.CallsLemmas.{then_none_forgotten}
-use Rattle.hotel_lists.proofs.LinesWritten.{Ends, cut_ends, front_of_first, list_ended, list_vouches, list_written}
+use Rattle.hotel_lists.proofs.LinesWritten.{Ends, answered_walk, cut_ends, front_of_first, list_ended, list_written}
 use Rattle.hotel_lists.proofs.LinesWritten.{store_failed}
 use Rattle.hotel_lists.proofs.write_lists.write_rows.Goals as goal
 
@@ -44,13 +44,13 @@ returns-clause-calls g c =
 pub returns-clause-books : goal.returns-clause-books
 returns-clause-books g c =
     let walked = c.walk-walked.ensures in
+    let went = answered_walk g.W.Write.contents _ _ c.walk-walked.result c.finish-end.result c.listed.result
+    c.finish-end.ensures.ends c.listed.ensures in
     record {
       kept = walked.kept;
       since = walked.since;
-      vouched = λ honest. list_vouches g.W.Write.contents _ _ _ c.walk-walked.result c.finish-end.result c.listed.result
-          (walked.vouched honest) c.finish-end.ensures.ends c.listed.ensures;
-      called = list_vouches g.W.Write.contents _ _ _ c.walk-walked.result c.finish-end.result c.listed.result
-          (λ none. called_now (walked.called none)) c.finish-end.ensures.ends c.listed.ensures;
+      vouched = λ honest answered. walked.vouched honest (went answered);
+      called = λ answered. called_now (walked.called (went answered));
       store = λ e. let failed = store_failed g.W.Write.contents _ _ c.walk-walked.result c.finish-end.result
           c.listed.result c.finish-end.ensures.ends c.listed.ensures e in rw failed at walked.fault;
     }

@@ -1,9 +1,8 @@
 use Rattle.std.proofs.Common.{◌≡◌, ◌∙◌, [], sym, ap, subst, Result, ℕ, List, Ok, Err}
 use Rattle.std.specs.Io.KnownBytes.{Appends}
 use Rattle.hotel_lists.specs.Bytes.{AppendsFront}
-use Rattle.hotel_core.specs.Books.Happens.{Call}
-use Rattle.hotel_core.specs.declared.asks.Ask.TheVariants as ask
-use Rattle.hotel_lists.specs.Lines.{LooksAt, Vouches, is_answer}
+use Rattle.hotel_core.proofs.OfCode.Happens.{same_call}
+use Rattle.hotel_lists.specs.Lines.{LooksAt, is_answer}
 use Rattle.hotel_lists.specs.declared.fault.ListFault.{ListFault}
 use Rattle.hotel_program.specs.Script.ListAnswers.{refusal_text}
 use Rattle.hotel_lists.specs.Listings.{ListEnds}
@@ -25,9 +24,7 @@ returns-clause-went g c = λ s.
     LooksAt g.B.Issued c.args.books.now c.write_list.new.self r) c.in-Err.is books in
     let said : c.as_bytes.result.now ≡ refusal_text c.in-Some.refusal =
     c.as_bytes.ensures.same ∙ c.reply_text-text.ensures in
-    let asked = subst (λ (r : Result (Unit {0}) ListFault). g.B.Issued.was_asked Call
-    (ask.List c.args.list.now, is_answer r) c.args.books.now c.write_list.new.self) c.in-Err.is
-    c.write_list.ensures.asked in
+    let asked = same_call g.B.Issued (ap is_answer c.in-Err.is) c.write_list.ensures.asked in
     list_ends c.args.list.now (is_answer (Err c.in-Err.fault)) s old new c.write_bytes.result
     g.met.B.Issued.clean_honest books.since
     (λ clean. g.met.B.Books.kept_rows _ _ (books.kept clean)) asked
@@ -53,9 +50,8 @@ returns-in_default-clause-went g c = λ s.
     (λ honest.
     let written = subst (λ (r : Result (Unit {0}) ListFault). ListEnds [] listing old new r) c.in_default.is
     (c.write_list.ensures.text honest) in
-    let clean = subst (λ (r : Result (Unit {0}) ListFault). Vouches (g.B.Issued.is_clean c.write_list.new.self) r)
-    c.in_default.is (books.vouched honest) in
-    whole_answered _ listing old new written (clean, ap is_answer c.in_default.is) books.since.counted)
+    let answered = ap is_answer c.in_default.is in
+    whole_answered _ listing old new written (books.vouched honest answered, answered) books.since.counted)
     (λ honest. tt)
 
 pub returns-in_default-told_refusal-clause-went : goal.returns-in_default-told_refusal-clause-went
