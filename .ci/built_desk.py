@@ -35,12 +35,14 @@ LISTS = b"in-house\nchain 101\naudit-of 101\n"
 # Desks of the first version of the tables, which an earlier program made: NAME.db, and what its lists answered over it,
 # NAME.lists.txt, in which `$` and the words of a call stand before each text.
 FIRST_DESKS = sorted((HERE / "version-1").glob("*.db"))
-# The statements that make a desk of the second version of one of the first.
-UPGRADE = """\
+# The statements that make the indexes of a new desk, in their order.
+INDEXES = ["CREATE INDEX stay_room ON stay (room);\n", "CREATE INDEX card_party ON card (party);\n",
+           "CREATE INDEX stay_arrive ON stay (state, arrive);\n"]
+# The statements that make a new desk of one of the first version.
+UPGRADE = f"""\
 CREATE TABLE fit (room INTEGER NOT NULL REFERENCES room, fit INTEGER NOT NULL, place INTEGER NOT NULL, \
 before INTEGER NOT NULL, PRIMARY KEY (room, fit), UNIQUE (room, place)) STRICT;
-CREATE INDEX stay_room ON stay (room);
-CREATE INDEX card_party ON card (party);
+{"".join(INDEXES)}\
 INSERT INTO fit SELECT room, 1, 0, 0 FROM room ORDER BY room;
 UPDATE meta SET version = 2;
 """
@@ -159,14 +161,21 @@ class Desk:
         db.close()
         return rows
 
-    def versions(self, start):
-        """The tables and rows of the desk of the first version that is in this file, and of that of the second which
-        comes of it. The database is then as it is in the file."""
+    def lacking(self, name, count, start):
+        """A file of this name with the desk of the second version, of which it has but so many of the indexes, that
+        comes of the one of the first version in this file."""
         self.laid(start)
-        self.edited(UPGRADE)
-        second = self.rows()
+        self.edited(UPGRADE + "".join(f"DROP INDEX {index.split()[2]};\n" for index in reversed(INDEXES[count:])))
+        return shutil.copy(self.db, self.folder / name)
+
+    def versions(self, start, missing=UPGRADE):
+        """The tables and rows of the desk that is in this file, and of the whole one that comes of it by these
+        statements. The database is then as it is in the file."""
         self.laid(start)
-        return self.rows(), second
+        self.edited(missing)
+        whole = self.rows()
+        self.laid(start)
+        return self.rows(), whole
 
     def sizes(self):
         """The sizes of the database file and of what lies beside it."""

@@ -8,6 +8,10 @@
  * syncs one, or that fails: `write LOG PLACE SIZE FAILED` with the bytes behind the line, `cut LOG SIZE 0 FAILED`,
  * `sync LOG 0 0 FAILED`, `read LOG PLACE SIZE 1`, where LOG is 1 of a log.
  *
+ * LIMITS is a file to which each limit of time that a socket gets is appended, and each call that reads or writes one:
+ * `receive MICROSECONDS` and `send MICROSECONDS`, `read 0` and `write 0`. JUMP is two numbers of seconds: so long after
+ * the program began, the clocks that can be set go on so much later; no other clock does.
+ *
  * REFUSE_AT is the number of the allocation that finds no memory, from 1 on, over malloc, calloc, realloc,
  * posix_memalign and aligned_alloc; where the program comes to it, the file named by REFUSED is made.
  *
@@ -21,6 +25,8 @@
 #include <sys/socket.h>
 #include <sys/stat.h>
 #include <sys/syscall.h>
+#include <sys/time.h>
+#include <time.h>
 #include <unistd.h>
 
 extern void *__libc_malloc(size_t), *__libc_calloc(size_t, size_t), *__libc_realloc(void *, size_t),
@@ -63,8 +69,27 @@ static int fails(struct kind *kind, size_t *size, ssize_t *result) {
     return 0;
 }
 
+/* Appends what is asked of a socket to the file of LIMITS, where there is one. */
+static void note_limit(const char *what, long micros) {
+    char line[64];
+    int count = snprintf(line, sizeof line, "%s %ld\n", what, micros);
+    int to = getenv("LIMITS") ? open(getenv("LIMITS"), O_CREAT | O_WRONLY | O_APPEND, 0600) : -1;
+    if (to < 0) return;
+    if (syscall(SYS_write, to, line, count) != count) abort();
+    close(to);
+}
+
 static int file_fails(int file, int is_read, size_t *size, ssize_t *result) {
-    return fails(kind_of(file, is_read), size, result);
+    struct kind *kind = kind_of(file, is_read);
+    if (kind == &receives || kind == &sends) note_limit(is_read ? "read" : "write", 0);
+    return fails(kind, size, result);
+}
+
+int setsockopt(int file, int level, int name, const void *value, socklen_t size) {
+    const struct timeval *limit = value;
+    if (level == SOL_SOCKET && (name == SO_RCVTIMEO || name == SO_SNDTIMEO))
+        note_limit(name == SO_RCVTIMEO ? "receive" : "send", limit->tv_sec * 1000000L + limit->tv_usec);
+    return syscall(SYS_setsockopt, file, level, name, value, size);
 }
 
 ssize_t read(int file, void *bytes, size_t size) {
@@ -136,6 +161,39 @@ int ftruncate(int file, off_t size) {
 int fdatasync(int file) { return store_fails("sync", file, 0, 0, NULL) ? -1 : syscall(SYS_fdatasync, file); }
 
 int fsync(int file) { return store_fails("sync", file, 0, 0, NULL) ? -1 : syscall(SYS_fsync, file); }
+
+static struct timespec begun;
+
+__attribute__((constructor)) static void begin(void) { syscall(SYS_clock_gettime, CLOCK_MONOTONIC, &begun); }
+
+/* How many seconds the clocks that can be set have jumped by now. */
+static long jumped(void) {
+    char *rest = getenv("JUMP");
+    if (!rest) return 0;
+    struct timespec now;
+    syscall(SYS_clock_gettime, CLOCK_MONOTONIC, &now);
+    long after = strtol(rest, &rest, 10), seconds = strtol(rest, &rest, 10);
+    return now.tv_sec - begun.tv_sec < after ? 0 : seconds;
+}
+
+int clock_gettime(clockid_t clock, struct timespec *now) {
+    int status = syscall(SYS_clock_gettime, clock, now);
+    if (clock == CLOCK_REALTIME || clock == CLOCK_REALTIME_COARSE || clock == CLOCK_TAI) now->tv_sec += jumped();
+    return status;
+}
+
+int gettimeofday(struct timeval *restrict now, void *restrict zone) {
+    int status = syscall(SYS_gettimeofday, now, zone);
+    now->tv_sec += jumped();
+    return status;
+}
+
+time_t time(time_t *now) {
+    struct timespec shown;
+    clock_gettime(CLOCK_REALTIME, &shown);
+    if (now) *now = shown.tv_sec;
+    return shown.tv_sec;
+}
 
 static int refuses(void) {
     static long calls, refused_at = -1;

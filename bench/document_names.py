@@ -23,7 +23,7 @@ CRATES = {path.name: path for path in sorted((TOP / "crates").iterdir())}
 DOCUMENTS = [TOP / "README.md", *sorted((TOP / "docs").glob("*.md")), TOP / "bench" / "README.md"]
 TEST_CRATES = ("hotel_tests", "hotel_stored_tests")
 # Words of other libraries that documents name.
-FOREIGN = {"assert_eq"}
+FOREIGN = {"assert_eq", "auto_vacuum", "sqlite_stat1"}
 
 IDENTIFIER = re.compile(r"[A-Za-z]\w*_\w+|[A-Z][a-z0-9]+(?:[A-Z][a-z0-9]*)+")
 FOLDERS = "src|specs|proofs|must-fail"

@@ -9,16 +9,20 @@ Python's sqlite3, with the texts of hotel_statements' texts.rt, and a past stay 
 - Commands: twelve rounds of 150 of each kind over a desk of so many past stays, beside the same ones over a desk of
   none. The first round finds few pages of the file in memory, and is told apart from the later ones. Of these the mean
   counts: now and then a command copies the log into the file, for all that wrote to it.
+- Lists: each of the five, many times, over a desk of so many past stays, beside the same over a desk of none. Both have
+  the same rows to show, in rooms that had none of the past stays.
 - Beside C SQLite: a check-in, a booking and a look-up, beside their statements run by sqlite_statements.c over the same
   file, with the same journal (WAL) and `synchronous` (FULL) and with foreign keys. Each commit of both syncs the log.
 - `open`: a script without a line, beside the same file with one table more. There the connection is opened, which is
   SQLite's own test of the whole file, and then the desk answers `not a desk`.
-- A migrating opening: one of the first version's tables, beside one of the second's with the same rows.
+- An opening that makes what is missing: one of the first version's tables, and one of the second's without indexes,
+  beside one of a whole desk with the same rows.
 
 A command's time is the mean of those of its kind by the clock, from answer to answer, and in brackets the processor's
 time as the kernel counts it for the process, which says more on a machine that has other work. Of an opening both are
 those of the whole process. Each is the least of some runs that take turns.
 """
+import itertools
 import os
 import pathlib
 import random
@@ -32,11 +36,15 @@ import tempfile
 import time
 import typing
 
+import scripts
 from stored_desk import DESK, HERE
 
 DAY = 11443  # 2031-05-01, counted from 2000-01-01
 ROOMS, GUESTS, ROUNDS = 300, 150, 12  # each guest of a round checks into one room, and moves to another
-LOOKS = 20000
+LOOKS, LISTED = 20000, 500
+# A kind of its own for the rooms that lists show: so many parties booked, in house, left behind; the room that has
+# codes and notes, and how many of them.
+SHOWN_KIND, SHOWN_ROOM, SHOWN = "K1", 1000, 20
 TURNS, OPENINGS = 5, 3
 FIRST, SECOND = 1, 2
 SOURCE = HERE.parent / "crates" / "hotel_statements" / "src" / "texts.rt"
@@ -44,7 +52,8 @@ SOURCE = HERE.parent / "crates" / "hotel_statements" / "src" / "texts.rt"
 CONSTANTS = re.findall(r'const (\w+): &str =\s*"([^"]*)"', SOURCE.read_text())
 TEXTS = {name: re.sub(r"\\\n\s*", "", text) for name, text in CONSTANTS}
 MADE = {FIRST: ["META", "KIND", "ROOM", "STAY", "CODE", "CARD", "INSIDE", "NOTE"]}
-MADE[SECOND] = MADE[FIRST] + ["FIT", "STAY_ROOM", "CARD_PARTY"]
+MADE[SECOND] = MADE[FIRST] + ["FIT"]
+INDEXES = ["STAY_ROOM", "CARD_PARTY", "STAY_ARRIVE"]
 
 
 class Times(typing.NamedTuple):
@@ -89,15 +98,15 @@ def past_rows(stays):
     return rows
 
 
-def make_desk(db, version, stays):
-    """Writes a desk of a version, with so many past stays."""
+def make_desk(db, version, stays, indexes):
+    """Writes a desk of a version, with so many past stays, and with these indexes."""
     rows = past_rows(stays)
     rows["META"], rows["KIND"] = [(1, version, DAY)], [("K0",)]
     rows["FIT"] = [(room, 1, 0, 0) for room in range(1, ROOMS + 1)]
     file = sqlite3.connect(db, isolation_level=None)
     file.execute("PRAGMA journal_mode = WAL")
     file.execute("BEGIN")
-    for name in MADE[version]:
+    for name in MADE[version] + indexes:
         file.execute(TEXTS[f"CREATE_{name}"])
     for name in MADE[version]:
         for row in rows.get(name, [])[:1]:
@@ -124,6 +133,24 @@ def commands(stays):
             ("a refit", turn): [f"refit {room}" for room in guests],
         }
     return lines
+
+
+def lists(stays):
+    """The lines by which a desk of so many past stays gets what the lists show; and each list, with how many lines its
+    answer has."""
+    rooms = range(SHOWN_ROOM, SHOWN_ROOM + 3 * SHOWN)
+    booked, in_house, behind = (stays + 1 + SHOWN * part for part in range(3))
+    made = [f"add-kind {SHOWN_KIND}", *(f"add-room {room} {SHOWN_KIND}" for room in rooms),
+            *[f"reserve {SHOWN_KIND} 2031-05-01 2 Guest"] * 3 * SHOWN]
+    for at in range(SHOWN):
+        made += [f"check-in {in_house + at} {SHOWN_ROOM + at}", f"check-in {behind + at} {SHOWN_ROOM + SHOWN + at}",
+                 f"reissue {behind + at}", f"check-out {behind + at}"]
+    last, codes = SHOWN_ROOM + 3 * SHOWN - 1, list(itertools.islice(scripts.codes(), 7 * SHOWN + 1))
+    made += [f"refit {last}"] * SHOWN + [f"check-in {booked} {last}"]
+    lock, card = f"{last}/{SHOWN + 1}", stays + 3 * SHOWN + 1
+    made += [scripts.note(("entered", "left")[at % 2], lock, at + 1, card, codes[-2:]) for at in range(SHOWN)]
+    return made, {"arrivals 2031-05-01": SHOWN, "in-house": SHOWN + 2, f"chain {last}": SHOWN + 3,
+                  "left-behind": SHOWN + 1, f"audit-of {last}": SHOWN + 1}
 
 
 def plain_statements(db):
@@ -177,8 +204,9 @@ class Bench:
     def on(self, db):
         return [self.program, "--db", db, "--seed-file", self.folder / "zeros", "script"]
 
-    def answers(self, words, before, lines):
-        """The times of each kind of lines, of which none may be refused but those that look for a missing room."""
+    def answers(self, words, before, lines, sizes=()):
+        """The times of each kind of lines, of which none may be refused but those that look for a missing room. Answers
+        have a line each, but for those of lists, which have so many and a header."""
         script = self.folder / "script"
         script.write_text("\n".join([*before, *(line for kind in lines.values() for line in kind)]) + "\n")
         times = {}
@@ -189,6 +217,8 @@ class Bench:
                 for line in asked:
                     said = child.stdout.readline()
                     assert said and (line == "chain 9999" or not said.startswith(b"refused")), f"{line}: {said}"
+                    if line in sizes:
+                        assert b"," in said and all(child.stdout.readline() for _ in range(sizes[line] - 1)), line
                 took = time.perf_counter() - began, (int(used.read_text().split()[0]) - ran) / 1e9
                 times[kind] = Times(*(all / len(asked) for all in took))
         assert child.returncode == 0
@@ -217,7 +247,7 @@ def times_of_commands(bench, none, large, stays):
         {kind: least([times[kind] for times in turns]) for kind in turns[0]} for turns in zip(*rounds)]
     for kind in dict.fromkeys(kind for kind, turn in at_first if turn):
         took, later = [mean([times[kind, turn] for turn in range(1, ROUNDS)]) for times in (at_first, at_last)]
-        print(f"{kind}: over no stay {took}, over {stays} stays {later}: {later.ratio(took)}, wanted 1.2 at most; "
+        print(f"{kind}: over no stay {took}, over {stays} stays {later}: {later.ratio(took)}, wanted 1.25 at most; "
               f"in the first round {at_last[kind, 0].ratio(at_first[kind, 0])}")
     for kind in ("a look-up", "a booking", "a check-in"):
         ours, theirs = at_first[kind, 0], plain[kind, 0]
@@ -225,19 +255,35 @@ def times_of_commands(bench, none, large, stays):
         print(f"{kind}: desk {ours}, C SQLite {theirs}: {ours.ratio(theirs)}{wanted}", flush=True)
 
 
-def times_of_openings(bench, first, second):
+def times_of_lists(bench, none, large, stays):
+    def run(db, past):
+        made, sizes = lists(past)
+        asked = {(line, 0): [line] * LISTED for line in sizes}
+        return bench.answers(bench.on(bench.copied(db)), [], {("what is shown", 0): made, **asked}, sizes)
+
+    rounds = [[run(none, 0), run(large, stays)] for _ in range(TURNS)]
+    at_first, at_last = [{kind: least([times[kind] for times in turns]) for kind in turns[0]} for turns in zip(*rounds)]
+    for kind in lists(stays)[1]:
+        took, later = at_first[kind, 0], at_last[kind, 0]
+        print(f"{kind}: over no stay {took}, over {stays} stays {later}: {later.ratio(took)}, wanted 1.2 at most",
+              flush=True)
+
+
+def times_of_openings(bench, first, bare, second):
     foreign = pathlib.Path(shutil.copy(second, bench.folder / "foreign.db"))
     with sqlite3.connect(foreign) as file:
         file.execute("CREATE TABLE other (x INTEGER) STRICT")
     file.close()
-    runs = [lambda: bench.opening(foreign, 5), lambda: bench.opening(second), lambda: bench.opening(first)]
+    runs = [lambda: bench.opening(foreign, 5), lambda: bench.opening(second), lambda: bench.opening(first),
+            lambda: bench.opening(bare)]
     rounds = [[run() for run in runs] for _ in range(OPENINGS)]
-    test, opened, migrated = [least([took for took, _ in turns]) for turns in zip(*rounds)]
+    test, opened, migrated, indexed = [least([took for took, _ in turns]) for turns in zip(*rounds)]
     memory = max(memory for _, memory in list(zip(*rounds))[1])
     size = second.stat().st_size / 1e6
     print(f"open of {size:.0f} MB: {opened}, {memory:.0f} MB of memory; SQLite's own test alone {test}: "
-          f"{opened.ratio(test)}, wanted 1.5 at most")
-    print(f"a migrating opening {migrated}: {migrated.ratio(opened)} to one that doesn't, wanted 1.2 at most")
+          f"{opened.ratio(test)}, wanted 1.4 at most")
+    for what, took in (("makes the second version", migrated), ("makes the indexes", indexed)):
+        print(f"an opening that {what} {took}: {took.ratio(opened)} to one that doesn't, wanted 1.3 at most")
 
 
 def main():
@@ -246,9 +292,11 @@ def main():
     with tempfile.TemporaryDirectory() as made:
         folder = pathlib.Path(made)
         bench = Bench(program, folder)
-        none = make_desk(folder / "none.db", SECOND, 0)
-        large = make_desk(folder / "large.db", SECOND, stays)
-        times_of_openings(bench, make_desk(folder / "first.db", FIRST, stays), large)
+        none = make_desk(folder / "none.db", SECOND, 0, INDEXES)
+        large = make_desk(folder / "large.db", SECOND, stays, INDEXES)
+        first, bare = make_desk(folder / "first.db", FIRST, stays, []), make_desk(folder / "bare.db", SECOND, stays, [])
+        times_of_openings(bench, first, bare, large)
+        times_of_lists(bench, none, large, stays)
         times_of_commands(bench, none, large, stays)
 
 

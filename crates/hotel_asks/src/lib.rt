@@ -10,7 +10,7 @@ mod verbs;
 
 pub use asks::read_ask;
 pub use hotel_core::{Ask, ListAsk};
-pub use listings::{ListDesk, write_list};
+pub use listings::write_list;
 pub use values::{
     AskFault, Lock, ValueFault, ValueName, read_card, read_code, read_count, read_day, read_guest,
     read_kind, read_lock, read_moment, read_nights, read_party, read_room,

@@ -2,12 +2,10 @@
 
 ghost use Rattle.std.specs.Prelude.{[]};
 ghost use Rattle.hotel_lists.specs.Calls.{CountsWrites, OnErrOf};
-ghost use Rattle.hotel_core.specs.Books.Happens.{Call};
-ghost use Rattle.hotel_core.specs.declared.asks.Ask.TheVariants as ask;
-ghost use Rattle.hotel_lists.specs.{Lines.LooksAt, Lines.is_answer, Listings.ListEnds};
+ghost use Rattle.hotel_lists.specs.{Lines.LooksAt, Listings.ListEnds};
 ghost use Rattle.hotel_asks.specs.Listings.{listing_on};
 
-use hotel_core::{Desk, ListAsk, ListBooks, StoppingBooks, Walks};
+use hotel_core::{ListAsk, Walks};
 use hotel_lists::{
     IoCalls, ListFault, write_arrivals, write_audit_of, write_chain_of, write_in_house,
     write_left_behind,
@@ -25,7 +23,7 @@ pub fn write_list<W: Write, B: Walks>(
 ) -> Result<(), ListFault>
     ensures text { B.is_honest books.new → ListEnds [] (listing_on (B.rows books.old) list.now) (W.contents writer.old)
         (W.contents writer.new) result }
-    ensures books { LooksAt B.Issued books.old books.new result }
+    ensures books { LooksAt B.Kept books.old books.new result }
     ensures calls { CountsWrites calls.old calls.new (OnErrOf result ListFault.Write) }
 {
     match list {
@@ -34,46 +32,5 @@ pub fn write_list<W: Write, B: Walks>(
         ListAsk::ChainOf(room) => write_chain_of(alloc, books, *room, writer, calls),
         ListAsk::LeftBehind => write_left_behind(alloc, books, writer, calls),
         ListAsk::AuditOf(room) => write_audit_of(alloc, books, *room, writer, calls),
-    }
-}
-
-/// Desks that write the list that they are asked for, by a call of its own (as [`Desk`] carries out a command).
-pub trait ListDesk: Desk {
-    /// Writes the text of a list, as [`write_list`] does.
-    fn write_list<W: Write>(
-        &mut self,
-        alloc: Global,
-        list: &ListAsk,
-        writer: &mut W,
-        calls: &mut IoCalls,
-    ) -> Result<(), ListFault>
-        ensures text { Self.is_honest self.new → ListEnds [] (listing_on (Self.rows self.old) list.now)
-            (W.contents writer.old) (W.contents writer.new) result }
-        ensures books { LooksAt Self.Issued self.old self.new result }
-        ensures asked { Self.Issued.was_asked Call (ask.List list.now, is_answer result) self.old self.new }
-        ensures calls { CountsWrites calls.old calls.new (OnErrOf result ListFault.Write) };
-}
-
-impl ListDesk for ListBooks {
-    fn write_list<W: Write>(
-        &mut self,
-        alloc: Global,
-        list: &ListAsk,
-        writer: &mut W,
-        calls: &mut IoCalls,
-    ) -> Result<(), ListFault> {
-        write_list(alloc, list, writer, self, calls)
-    }
-}
-
-impl ListDesk for StoppingBooks {
-    fn write_list<W: Write>(
-        &mut self,
-        alloc: Global,
-        list: &ListAsk,
-        writer: &mut W,
-        calls: &mut IoCalls,
-    ) -> Result<(), ListFault> {
-        write_list(alloc, list, writer, self, calls)
     }
 }

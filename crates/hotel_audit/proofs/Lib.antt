@@ -5,6 +5,7 @@ mod NoteReplies
 pub mod ImportEnds
 mod LineAnswers
 mod ShutImports
+pub mod ImportsLead
 mod NotesKnown
 mod SentAgain
 mod NoteOutcomes

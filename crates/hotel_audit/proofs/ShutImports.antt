@@ -1,39 +1,41 @@
 -- Books that were not clean as a line began answer no note.
-use Rattle.std.proofs.Common.{◌∙◌, [], Ok, subst, sym}
-use Rattle.hotel_core.proofs.Names.{Rows, false≢true, is_failed}
-use Rattle.hotel_core.proofs.OfCode.ShutBooks.{happens_shut, passes_shut, reply_fails, tells_shut}
-use Rattle.hotel_core.specs.Books.Shut.{BeganShut}
+use Rattle.std.proofs.Common.{[], ◌∷◌, Ok, List, subst, sym}
+use Rattle.hotel_core.proofs.Names.{Rows}
+use Rattle.hotel_core.proofs.OfCode.Counting.{untold}
 use Rattle.rand_core.specs.Stream.{Stream}
-use Rattle.keycard_rules.specs.{Since.Since, declared.issued.Issued.Ghosts as IssuedOf}
-use Rattle.keycard_rules.proofs.Sinces.{since_refl}
+use Rattle.keycard_rules.specs.{Since.Since, declared.kept.Kept.Ghosts as KeptOf, Calls.BeganShut, Calls.Passes}
+use Rattle.keycard_rules.proofs.Sinces.{since_refl, since_then}
 use Rattle.hotel_audit.specs.{declared.answer.LineAnswer.LineAnswer, declared.line.Line.Line}
 use Rattle.hotel_audit.specs.declared.line.Line.TheVariants as line
-use Rattle.hotel_core.specs.declared.asks.Ask.TheVariants as ask
-use Rattle.hotel_model.specs.declared.command.Command.TheVariants as command
 use Rattle.hotel_audit.specs.{Import.LineGoes, Import.LineHappens, Shut.ImportsNothing, Shut.IsUnread}
 use Rattle.hotel_audit.proofs.NoteReplies.{answered_sure}
 
 -- a source, of which an import takes nothing
-no_words : Stream
+pub no_words : Stream
 no_words = record { u32_after = λ calls. 0; u64_after = λ calls. 0; bytes_after = λ calls n. [] }
 
-unread_by : {B : Type 0} (I : IssuedOf B) (rows : B → Rows) (old new : B) (l : Line) (a : LineAnswer)
-    → LineGoes I rows old l (Ok a) new → BeganShut I old new → IsUnread l
-unread_by I rows old new (line.Unread cause) a went shut = tt
-unread_by I rows old new (line.Note note) a went shut =
-    let s = happens_shut (went.2 no_words) shut in
-    let fails = reply_fails (is_failed went.0) (ask.Command (command.Reported note)) (tells_shut s.2.1 shut) in
-    absurd (false≢true (sym (answered_sure went.0 a went.1) ∙ fails))
+module _ {B : Type 0} (K : KeptOf B) (rows : B → Rows) where
+  since_line : (old new : B) (l : Line) (a : LineAnswer) → LineGoes K rows old l (Ok a) new → Since K old new
+  since_line old new (line.Unread cause) a went = subst (λ b. Since K old b) (sym went.1) since_refl
+  since_line old new (line.Note note) a went = let s = went.3 no_words in s.leaves.since
 
-since_line : {B : Type 0} (I : IssuedOf B) (rows : B → Rows) (old new : B) (l : Line) (a : LineAnswer)
-    → LineGoes I rows old l (Ok a) new → Since I.is_clean I.is_honest I.failures old new
-since_line I rows old new (line.Unread cause) a went =
-    subst (λ b. Since I.is_clean I.is_honest I.failures old b) (sym went.1) since_refl
-since_line I rows old new (line.Note note) a went = let s = went.2 no_words in s.since
+  pub since_lines : (old new : B) (asked : List (Line × LineAnswer))
+      → Passes (LineHappens K rows) old asked new → Since K old new
+  since_lines old new [] p = subst (λ b. Since K old b) (sym p) since_refl
+  since_lines old new ((l, a) ∷ asked) p =
+      since_then (since_line old p.0 l a p.1) (since_lines p.0 new asked p.2)
 
-pub imports_nothing : {B : Type 0} (I : IssuedOf B) (rows : B → Rows) → ImportsNothing I rows
-imports_nothing I rows =
-    passes_shut I (λ b. b) (LineHappens I rows) (λ a. IsUnread a.0)
-    (λ old new a went. (since_line I rows old new a.0 a.1 went).was_honest)
-    (λ old new a went. (since_line I rows old new a.0 a.1 went).was_clean)
-    (λ old new a went shut. unread_by I rows old new a.0 a.1 went shut)
+  unread_by : (old new : B) (l : Line) (a : LineAnswer)
+      → LineGoes K rows old l (Ok a) new → BeganShut K old new → IsUnread l
+  unread_by old new (line.Unread cause) a went shut = tt
+  unread_by old new (line.Note note) a went shut =
+      let s = went.3 no_words in
+      absurd (shut.1 (s.leaves.since.was_clean (s.leaves.vouched shut.0 (untold went.0 (answered_sure went.0 a
+      went.1)))))
+
+  pub imports_nothing : ImportsNothing K rows
+  imports_nothing old new [] p shut = tt
+  imports_nothing old new ((l, a) ∷ asked) p shut = (
+    unread_by old p.0 l a p.1 ((since_lines p.0 new asked p.2).was_honest shut.0, shut.1),
+    imports_nothing p.0 new asked p.2 (shut.0, λ clean. shut.1 ((since_line old p.0 l a p.1).was_clean clean)),
+  )

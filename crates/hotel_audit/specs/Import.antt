@@ -1,20 +1,17 @@
 -- The import of an audit file: its notes are reported in order, and its unread lines do nothing.
-use Rattle.std.specs.Prelude.{ℕ, ◌≡◌, ◌≢◌, ◌⊎◌, Bool, true, false, List, [], ◌∷◌, ◌++◌, length, map, zip, take, drop}
-use Rattle.std.specs.Prelude.{if◌then◌else◌}
-use Rattle.std.specs.Prelude.{Result, Ok, Err, OnOk}
+use Rattle.std.specs.Prelude.{ℕ, ◌≡◌, ◌⊎◌, Bool, true, false, List, [], ◌∷◌, ◌++◌, length, map, zip, Option, Some, None}
+use Rattle.std.specs.Prelude.{if◌then◌else◌, Result, Ok, Err}
 use Rattle.rand_core.specs.Stream.{Stream}
-use Rattle.keycard_rules.specs.{declared.issued.LookFault.LookFault, declared.issued.Issued.Ghosts as IssuedOf}
+use Rattle.keycard_rules.specs.{declared.issued.LookFault.LookFault, declared.kept.Kept.Ghosts as KeptOf}
+use Rattle.keycard_rules.specs.{Leaves.Leaves, Calls.LeaveAll, Calls.Passes}
 use Rattle.keycard_rules.specs.declared.issued.LookFault.TheVariants as look
 use Rattle.hotel_model.specs.{declared.command.Command.Command, declared.reply.Reply.Reply}
-use Rattle.hotel_model.specs.{declared.reply.Refusal.Refusal, Leads.Leads, Leads.LeadsOn, Rows.Rows}
+use Rattle.hotel_model.specs.{declared.reply.Refusal.Refusal, NoteReplies.IsNoteReply, Rows.Rows}
 use Rattle.hotel_model.specs.declared.command.Command.TheVariants as command
 use Rattle.hotel_model.specs.declared.reply.Reply.TheVariants as reply
 use Rattle.hotel_model.specs.declared.reply.Refusal.TheVariants as refusal
 use Rattle.hotel_model.specs.Run.{Runs, is_failed}
-use Rattle.hotel_core.specs.Books.Failures.{refusal_of}
-use Rattle.hotel_core.specs.Books.Happens.{Call, Happens, IsCall, StepTold}
-use Rattle.hotel_core.specs.declared.asks.Ask.TheVariants as ask
-use Rattle.hotel_core.specs.Books.Passes.{Passes}
+use Rattle.hotel_core.specs.{Books.Happens.Happens, Books.Stepped.Noted}
 use Rattle.hotel_audit.specs.{declared.answer.LineAnswer.LineAnswer, declared.audit_file.AuditFault.AuditFault}
 use Rattle.hotel_audit.specs.{declared.imports.ImportFault.ImportFault}
 use Rattle.hotel_audit.specs.declared.answer.LineAnswer.TheVariants.{Taken, Seen, Unread, Refused}
@@ -28,27 +25,6 @@ abbrev pub commands_of : List Line → List Command
 commands_of [] = []
 commands_of (line.Note note ∷ lines) = command.Reported note ∷ commands_of lines
 commands_of (line.Unread cause ∷ lines) = commands_of lines
-
--- the call for this command, which was answered or wasn't
-abbrev pub call_for : Bool → Command → Call
-call_for answered command = (ask.Command command, answered)
-
--- what the books were asked for these lines: to take their notes
-abbrev pub asked_of : Bool → List Line → List Call
-asked_of answered lines = map (call_for answered) (commands_of lines)
-
--- the line of a file behind these, if there is one
-abbrev pub next_of : Result (List Line) AuditFault → List Line → List Line
-next_of (Ok all) lines = take 1 (drop (length lines) all)
-next_of (Err why) lines = []
-
--- What the books were asked in an import of a file that ended so behind these lines: to take their notes; and where it
--- was stopped, to take the next one, which failed.
-abbrev pub asked_by : Result (List Line) AuditFault → List Line → Result (List LineAnswer) ImportFault → List Call
-asked_by file lines (Ok answers) = asked_of true lines
-asked_by file lines (Err (File why)) = []
-asked_by file lines (Err (Memory answered taken)) = asked_of true lines ++ asked_of false (next_of file lines)
-asked_by file lines (Err (Store answered taken)) = asked_of true lines ++ asked_of false (next_of file lines)
 
 -- the reply to a line's note, or why the line is none
 abbrev pub reply_or_cause : LineAnswer → Result Reply Cause
@@ -81,18 +57,6 @@ AreAnswered [] [] = Unit {0}
 AreAnswered (line ∷ lines) (answer ∷ answers) = IsAnswerTo line answer × AreAnswered lines answers
 AreAnswered [] (answer ∷ answers) = ⊥
 AreAnswered (line ∷ lines) [] = ⊥
-
--- The lines with these answers lead from rows to later ones: their notes ran, with these replies, and no word of a
--- source was taken.
-abbrev pub LinesLeadTo : Rows → List Line → List LineAnswer → Rows → Type 0
-LinesLeadTo rows lines answers later =
-    (source : Stream) → Leads rows (λ h h'. Runs h source (commands_of lines) (replies_in answers) h' source) later
-
--- The same of books that may have failed for good: the rows are those of the history if they were kept before the first
--- line, and the later ones if they are kept after the last.
-abbrev pub LinesLeadOn : Type 0 → Rows → List Line → List LineAnswer → Type 0 → Rows → Type 0
-LinesLeadOn was rows lines answers is later = (source : Stream)
-    → LeadsOn was rows (λ h h'. Runs h source (commands_of lines) (replies_in answers) h' source) is later
 
 -- one of the answers is Taken
 abbrev pub has_taken : List LineAnswer → Bool
@@ -128,19 +92,6 @@ EndsAfter file (Err (File why)) lines answers =
 EndsAfter file (Err (Memory answered taken)) lines answers = IsFrontOf file lines answers answered taken
 EndsAfter file (Err (Store answered taken)) lines answers = IsFrontOf file lines answers answered taken
 
--- What lines of a file with these answers show of books from old to new that may have failed for good, where an import
--- of it ended so: the notes ran with these replies; the books were asked to take them in turn, and nothing else; and an
--- answer to a note vouches that they were clean before the first line, and, where no failure came behind it, that they
--- are after the last.
-pub record Vouches {B : Type 0} (I : IssuedOf B) (rows : B → Rows) (file : Result (List Line) AuditFault)
-    (lines : List Line) (answers : List LineAnswer) (old new : B) (outcome : Result (List LineAnswer) ImportFault)
-    : Type 0 where
-  pub happened : LinesLeadOn (I.is_clean old) (rows old) lines answers (I.is_clean new) (rows new)
-  pub asked : Passes (IsCall I) old (asked_by file lines outcome) new
-  pub was_clean : replies_in answers ≢ [] → I.is_clean old
-  pub is_clean : OnOk outcome (replies_in answers ≢ [] → I.is_clean new)
-  pub unasked : OnOk outcome (replies_in answers ≡ [] → I.is_clean old → I.is_clean new)
-
 -- which of the two failed, by the refusal that says so
 abbrev pub failed_by : Refusal → LookFault
 failed_by refusal.Memory = look.Memory
@@ -156,44 +107,64 @@ answer_of _ = Err look.Store
 
 -- A line was carried out, and this came of it: by the reply to its note, which was reported; an unread line asked
 -- nothing of the books.
-abbrev pub LineGoes : {B : Type 0} → IssuedOf B → (B → Rows) → B → Line → Result LineAnswer LookFault → B → Type 0
-LineGoes I rows old (line.Unread cause) came new = (came ≡ Ok (Unread cause)) × (new ≡ old)
-LineGoes I rows old (line.Note note) came new = (given : Reply) × (came ≡ answer_of given)
-    × ((source : Stream) → Happens I rows old (StepTold source (command.Reported note) given source) new)
+abbrev pub LineGoes : {B : Type 0} → KeptOf B → (B → Rows) → B → Line → Result LineAnswer LookFault → B → Type 0
+LineGoes K rows old (line.Unread cause) came new = (came ≡ Ok (Unread cause)) × (new ≡ old)
+LineGoes K rows old (line.Note note) came new = (given : Reply) × (came ≡ answer_of given)
+    × (K.is_honest new → IsNoteReply given) × Noted K rows note old new given
 
 -- A line was carried out with this answer.
-abbrev pub LineHappens : {B : Type 0} → IssuedOf B → (B → Rows) → B → Line × LineAnswer → B → Type 0
-LineHappens I rows old asked new = LineGoes I rows old asked.0 (Ok asked.1) new
+abbrev pub LineHappens : {B : Type 0} → KeptOf B → (B → Rows) → B → Line × LineAnswer → B → Type 0
+LineHappens K rows old asked new = LineGoes K rows old asked.0 (Ok asked.1) new
 
 -- Behind these lines of the file there is one more, which failed for this cause.
-abbrev pub NextFails : {B : Type 0} → IssuedOf B → (B → Rows) → Result (List Line) AuditFault → List Line
+abbrev pub NextFails : {B : Type 0} → KeptOf B → (B → Rows) → Result (List Line) AuditFault → List Line
     → B → LookFault → B → Type 0
-NextFails I rows file lines old why new =
-    (next : Line) × (rest : List Line) × (file ≡ Ok (lines ++ next ∷ rest)) × LineGoes I rows old next (Err why) new
+NextFails K rows file lines old why new =
+    (next : Line) × (rest : List Line) × (file ≡ Ok (lines ++ next ∷ rest)) × LineGoes K rows old next (Err why) new
 
 -- What became of books that were so behind these lines of the file, where the import ended so: it left them, or the
 -- next line failed.
-abbrev pub LeavesBehind : {B : Type 0} → IssuedOf B → (B → Rows) → Result (List Line) AuditFault → List Line
+abbrev pub LeavesBehind : {B : Type 0} → KeptOf B → (B → Rows) → Result (List Line) AuditFault → List Line
     → B → Result (List LineAnswer) ImportFault → B → Type 0
-LeavesBehind I rows file lines old (Ok given) new = new ≡ old
-LeavesBehind I rows file lines old (Err (File why)) new = new ≡ old
-LeavesBehind I rows file lines old (Err (Memory answered taken)) new = NextFails I rows file lines old look.Memory new
-LeavesBehind I rows file lines old (Err (Store answered taken)) new = NextFails I rows file lines old look.Store new
+LeavesBehind K rows file lines old (Ok given) new = new ≡ old
+LeavesBehind K rows file lines old (Err (File why)) new = new ≡ old
+LeavesBehind K rows file lines old (Err (Memory answered taken)) new = NextFails K rows file lines old look.Memory new
+LeavesBehind K rows file lines old (Err (Store answered taken)) new = NextFails K rows file lines old look.Store new
 
 -- An import of a file into books from old to new ended so: some of its lines have these answers, by which the books
 -- went, from line to line.
-abbrev pub Imports : {B : Type 0} → IssuedOf B → (B → Rows) → Result (List Line) AuditFault → B → B
-    → Result (List LineAnswer) ImportFault → Type 0
-Imports {B = B} I rows file old new outcome =
-    (lines : List Line) × (answers : List LineAnswer) × AreAnswered lines answers × EndsAfter file outcome lines answers
-    × (I.is_clean new → LinesLeadTo (rows old) lines answers (rows new))
-    × (I.is_honest new → Vouches I rows file lines answers old new outcome)
-    × (behind : B) × Passes (LineHappens I rows) old (zip lines answers) behind
-    × LeavesBehind I rows file lines behind outcome new
+pub record Imports {B : Type 0} (K : KeptOf B) (rows : B → Rows) (file : Result (List Line) AuditFault) (old new : B)
+    (outcome : Result (List LineAnswer) ImportFault) : Type 0 where
+  pub lines : List Line
+  pub answers : List LineAnswer
+  pub each : AreAnswered lines answers
+  pub ends : EndsAfter file outcome lines answers
+  pub behind : B
+  pub through : Passes (LineHappens K rows) old (zip lines answers) behind
+  pub leaves : LeavesBehind K rows file lines behind outcome new
 
--- The failure that stopped the import, which the books counted. That there was no memory to read the file or for its
--- answers isn't counted.
-abbrev pub failures_of : ImportFault → List Refusal
-failures_of (Memory answered taken) = refusal_of look.Memory ∷ []
-failures_of (Store answered taken) = refusal_of look.Store ∷ []
-failures_of (File why) = []
+-- the failure that stopped an import. That there was no memory to read the file or for its answers is none of the
+-- books', and isn't counted.
+abbrev pub failures_of : Result (List LineAnswer) ImportFault → List (Option LookFault)
+failures_of (Err (Memory answered taken)) = Some look.Memory ∷ []
+failures_of (Err (Store answered taken)) = Some look.Store ∷ []
+failures_of _ = []
+
+-- What the calls of an import told that ended so behind these lines: each note was answered, and where it was stopped
+-- the next one failed.
+abbrev pub told_by_import : List Line → Result (List LineAnswer) ImportFault → List (Option LookFault)
+told_by_import lines outcome = map (λ command. None) (commands_of lines) ++ failures_of outcome
+
+-- Its notes ran, with their replies, and took no word of a source; and the books are left as its calls leave them.
+pub record ImportLeads {B : Type 0} (K : KeptOf B) (rows : B → Rows) (old new : B) (lines : List Line)
+    (answers : List LineAnswer) (outcome : Result (List LineAnswer) ImportFault) : Type 0 where
+  pub happened : (source : Stream)
+      → Happens K rows old (λ h h'. Runs h source (commands_of lines) (replies_in answers) h' source) new
+  pub calls : Passes (Leaves K) old (told_by_import lines outcome) new
+  pub leaves : LeaveAll K old (told_by_import lines outcome) new
+
+-- an import leads so
+abbrev pub ImportsLead : {B : Type 0} → KeptOf B → (B → Rows) → Type 0
+ImportsLead {B = B} K rows = (old new : B) (file : Result (List Line) AuditFault)
+    (outcome : Result (List LineAnswer) ImportFault) → (i : Imports K rows file old new outcome)
+    → ImportLeads K rows old new i.lines i.answers outcome

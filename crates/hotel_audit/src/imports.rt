@@ -1,18 +1,13 @@
 //! The import of an audit file into any books that take notes.
-ghost use Rattle.std.specs.Prelude.{◌≡◌, ◌≢◌, ◌<◌, [], ◌∷◌, length, is_ok, IfOk, IfErr, OnErr, Ok, Err};
-ghost use Rattle.keycard_rules.specs.Since.{Since};
-ghost use Rattle.hotel_core.specs.{Books.Happens.IsCall, Books.Passes.Passes};
-ghost use Rattle.hotel_core.specs.{Books.Failures.AreCounted, Books.Failures.refusal_of};
+ghost use Rattle.std.specs.Prelude.{◌≡◌, ◌<◌, length, IfOk, Ok, Err};
 ghost use Rattle.hotel_audit.specs.{declared.audit_file.AuditFault.AuditFault, AuditFile.audit_lines};
 ghost use Rattle.hotel_audit.specs.declared.audit_file.TheConstants.{AUDIT_BYTES};
-ghost use Rattle.hotel_audit.specs.Import.{Imports, IsAnswerTo, LineGoes, LinesLeadOn};
-ghost use Rattle.hotel_audit.specs.Import.{answer_of, asked_of, failures_of, has_taken, outcome_of, replies_in};
-ghost use Rattle.hotel_audit.specs.Import.{stopped};
+ghost use Rattle.hotel_audit.specs.Import.{Imports, IsAnswerTo, LineGoes, answer_of, has_taken, outcome_of, stopped};
 
 use crate::answer::{LineAnswer, has_taken};
 use crate::audit_file::{AuditFault, read_notes};
 use crate::line::Line;
-use hotel_core::{Desk, Refusal, Reply};
+use hotel_core::{Books, Refusal, Reply, report};
 use keycard_rules::LookFault;
 use std::alloc::Global;
 
@@ -44,24 +39,13 @@ const fn answer_of(reply: &Reply) -> Result<LineAnswer, LookFault>
 }
 
 /// Carries out one line.
-fn answer_line<B: Desk>(books: &mut B, line: &Line) -> Result<LineAnswer, LookFault>
+fn answer_line<B: Books>(books: &mut B, line: &Line) -> Result<LineAnswer, LookFault>
     ensures answer { IfOk result (λ answer. IsAnswerTo line.now answer) }
-    ensures went { LineGoes B.Issued B.rows books.old line.now result books.new }
-    ensures happened { IfOk result (λ answer. B.is_honest books.new →
-        LinesLeadOn (B.is_clean books.old) (B.rows books.old) (line.now ∷ []) (answer ∷ []) (B.is_clean books.new)
-        (B.rows books.new)) }
-    ensures vouched { IfOk result (λ answer. B.is_honest books.new → replies_in (answer ∷ []) ≢ []
-        → B.is_clean books.new) }
-    ensures asked { Passes (IsCall B.Issued) books.old (asked_of (is_ok result) (line.now ∷ [])) books.new }
-    ensures unasked { IfOk result (λ answer. replies_in (answer ∷ []) ≡ [] → books.new ≡ books.old) }
-    ensures unchanged { OnErr result (B.is_clean books.new → B.rows books.new ≡ B.rows books.old) }
-    ensures failed { IfErr result (λ why. B.is_clean books.new
-        → AreCounted (B.failures books.old) (B.failures books.new) (refusal_of why ∷ [])) }
-    ensures since { Since B.is_clean B.is_honest B.failures books.old books.new }
+    ensures went { LineGoes B.Kept B.rows books.old line.now result books.new }
 {
     match line {
         Line::Unread(cause) => Ok(LineAnswer::Unread(*cause)),
-        Line::Note(note) => answer_of(&books.report(note)),
+        Line::Note(note) => answer_of(&report(books, note)),
     }
 }
 
@@ -77,16 +61,12 @@ fn stopped(answers: &[LineAnswer], by: LookFault) -> ImportFault
 }
 
 /// Carries out lines in order. The memory for all answers is taken before the first line.
-fn import_lines<B: Desk>(
+fn import_lines<B: Books>(
     alloc: Global,
     books: &mut B,
     lines: &[Line],
 ) -> Result<Vec<LineAnswer>, ImportFault>
-    ensures imported { Imports B.Issued B.rows (Ok lines.now) books.old books.new (outcome_of (λ v. v.items) result) }
-    ensures no_file { IfErr result (λ f. (why : AuditFault) → f ≡ ImportFault.File why → books.new ≡ books.old) }
-    ensures failed { IfErr result (λ f. B.is_clean books.new
-        → AreCounted (B.failures books.old) (B.failures books.new) (failures_of f)) }
-    ensures since { Since B.is_clean B.is_honest B.failures books.old books.new }
+    ensures { Imports B.Kept B.rows (Ok lines.now) books.old books.new (outcome_of (λ v. v.items) result) }
 {
     let Ok(mut answers) = Vec::with_capacity(alloc, lines.len()) else {
         return Err(ImportFault::File(AuditFault::Memory));
@@ -107,18 +87,14 @@ fn import_lines<B: Desk>(
 ///
 /// The file is read whole and the memory for all answers is taken first. The answers are those to the lines, in order:
 /// the reply to the line's note, or Unread with its cause. Unread and refused lines don't stop the import.
-pub fn import<B: Desk>(
+pub fn import<B: Books>(
     alloc: Global,
     books: &mut B,
     bytes: &[u8],
 ) -> Result<Vec<LineAnswer>, ImportFault>
-    ensures imported { Imports B.Issued B.rows (audit_lines bytes.now) books.old books.new
+    ensures imported { Imports B.Kept B.rows (audit_lines bytes.now) books.old books.new
         (outcome_of (λ v. v.items) result) }
     ensures large { AUDIT_BYTES < length bytes.now → result ≡ Err (ImportFault.File AuditFault.TooLarge) }
-    ensures no_file { IfErr result (λ f. (why : AuditFault) → f ≡ ImportFault.File why → books.new ≡ books.old) }
-    ensures failed { IfErr result (λ fault. B.is_clean books.new →
-        AreCounted (B.failures books.old) (B.failures books.new) (failures_of fault)) }
-    ensures since { Since B.is_clean B.is_honest B.failures books.old books.new }
 {
     match read_notes(alloc, bytes) {
         Ok(lines) => import_lines(alloc, books, lines.as_slice()),

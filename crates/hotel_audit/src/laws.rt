@@ -2,7 +2,7 @@
 ghost use Rattle.hotel_audit.specs.{FilesCounted.FilesCounted, FilesCounted.NotesCounted, FilesCounted.RunsTake};
 ghost use Rattle.hotel_audit.specs.{Readings.GivesFileRecords, Readings.HasOneReading};
 ghost use Rattle.hotel_audit.specs.{SentAgain.SeenAgain, SentAtOnce.SentAtOnce, SentAtOnce.StoppedAndSent};
-ghost use Rattle.hotel_audit.specs.Shut.{ImportsNothing};
+ghost use Rattle.hotel_audit.specs.{Import.ImportsLead, Shut.ImportsNothing};
 
 use hotel_core::Books;
 
@@ -45,5 +45,11 @@ pub fn files_counted()
 /// Of an import (`imported`): from the first state on that was not clean, each line that was answered is unread, where
 /// nobody else wrote what the books are kept in. So none is a note.
 pub fn shut_import_answers_nothing<B: Books>()
-    ensures { ImportsNothing B.Issued B.rows }
+    ensures { ImportsNothing B.Kept B.rows }
+{}
+
+/// Of an import (`imported`): its notes are a run of the model, with their replies, and it leaves of the books what its
+/// calls leave together: each note was answered, and where it was stopped, the next one failed.
+pub fn imports_lead<B: Books>()
+    ensures { ImportsLead B.Kept B.rows }
 {}

@@ -15,8 +15,8 @@ pub use answer::{LineAnswer, has_taken};
 pub use audit_file::{AUDIT_BYTES, AuditFault, read_notes};
 pub use imports::{ImportFault, import};
 pub use laws::{
-    files_counted, records_of_bytes, seen_again, sent_again_at_once, shut_import_answers_nothing,
-    stopped_and_sent_again,
+    files_counted, imports_lead, records_of_bytes, seen_again, sent_again_at_once,
+    shut_import_answers_nothing, stopped_and_sent_again,
 };
 pub use line::{Cause, Line};
 pub use texts::{AnswerText, StoppedText, answer_text, stopped_text};

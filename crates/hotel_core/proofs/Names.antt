@@ -1,14 +1,14 @@
 -- The names that the proofs of this crate cite most, and those of the model among them, passed on from one place.
 -- Declares nothing.
-pub use Rattle.hotel_core.specs.Books.Failures.{AreCounted, failure_in, failures_in, times, refusal_of}
-pub use Rattle.hotel_core.specs.Books.Passes.{Passes}
+pub use Rattle.hotel_core.specs.Books.Failures.{failure_in, refusal_of}
+pub use Rattle.keycard_rules.specs.Calls.{Passes}
 pub use Rattle.hotel_core.specs.Books.Walks.{Hands, StopsAt, TakesFront, failure_of}
 pub use Rattle.hotel_core.specs.KindRooms.{is_there, rooms_in}
 pub use Rattle.hotel_core.specs.Memory.{HaveCardNumbers, HaveCounts, HaveRoomNumbers, LaterPlacesFree, PlacesAgree}
 pub use Rattle.hotel_core.specs.Memory.{RoomsKnown, CountsNightsOf, TablesAgree}
 pub use Rattle.hotel_core.specs.NightIndex.{HasNoEmptyBlock, HasTakenNight, block_at, block_cmp, counted, spans}
 pub use Rattle.hotel_core.specs.Refinement.Finds.{AnyRows, DrawsCode, Drew, DrewNone, Finds, drawn_or, first_refusal}
-pub use Rattle.hotel_core.specs.Refinement.Finds.{FindsGiven, has_failed, reply_of}
+pub use Rattle.hotel_core.specs.Refinement.Finds.{failure_at, has_failed, reply_of}
 pub use Rattle.hotel_core.specs.Refinement.StepOnRows.{StepsAs}
 pub use Rattle.hotel_core.specs.Stops.{EndsAs, Stopping, StopsEither}
 pub use Rattle.hotel_core.specs.declared.books.Books.{Ghosts}
@@ -24,7 +24,7 @@ pub use Rattle.hotel_model.specs.declared.reply.Refusal.TheVariants.{NotBegun, O
 pub use Rattle.hotel_model.specs.declared.reply.Reply.{Reply}
 pub use Rattle.hotel_model.specs.declared.reply.Reply.TheVariants.{Refused}
 pub use Rattle.hotel_model.proofs.Names.{accepted, Act, After, after, All-head, All-tail, and_last, answered}
-pub use Rattle.hotel_model.proofs.Names.{any_answered, are_none, AreWhole, arrivals_on, arrives_on, Assured, at_number}
+pub use Rattle.hotel_model.proofs.Names.{are_none, AreWhole, arrivals_on, arrives_on, Assured, at_number}
 pub use Rattle.hotel_model.proofs.Names.{awaited, bars_to_check_in, bars_to_transfer, before_in, Begun, effect, Event}
 pub use Rattle.hotel_model.proofs.Names.{behind_row_on, by_draw, bytes_eq-Decides, Card, card_at, card_of, cards}
 pub use Rattle.hotel_model.proofs.Names.{chain_on, chain_row_on, checks, checks_on, code_place, codes_in, codes_of}
@@ -36,7 +36,7 @@ pub use Rattle.hotel_model.proofs.Names.{insert_key, inside, inside_at, insiders
 pub use Rattle.hotel_model.proofs.Names.{is_begun, is_booked_state, is_card, is_failed, is_fit, is_fit_on, is_full}
 pub use Rattle.hotel_model.proofs.Names.{is_of_fit, is_one_of, is_room, is_standing, IsCommand, IsReply, IsSound}
 pub use Rattle.hotel_model.proofs.Names.{issued_codes, issued_on, IsTimed, IsTotalOrder, IsUntaken, keys_of}
-pub use Rattle.hotel_model.proofs.Names.{last_answered, last_fit, left_behind_on, Link, list_all, list_any}
+pub use Rattle.hotel_model.proofs.Names.{last_fit, left_behind_on, Link, list_all, list_any}
 pub use Rattle.hotel_model.proofs.Names.{lock_place_of, lookup, made, made_by, match_ordering, moment_of, moved}
 pub use Rattle.hotel_model.proofs.Names.{nat_cmp_total, nat_tests, needs, Next, next_card, next_fit, NextDay, none_fall}
 pub use Rattle.hotel_model.proofs.Names.{Note, note_at, note_numbered, note_of, notes, notes_at, notes_before}
@@ -55,10 +55,8 @@ pub use Rattle.hotel_nights.specs.Block.{one_if}
 pub use Rattle.keycard_rules.specs.Draw.{Draws, fault_in}
 unfoldable pub use Rattle.keycard_rules.specs.Draw.{drawn}
 pub use Rattle.keycard_rules.specs.Numbers.{IsNumberUpTo}
-pub use Rattle.keycard_rules.proofs.Calls.{called_before, called_now, called_then}
 pub use Rattle.keycard_rules.proofs.Sinces.{since_refl, since_then}
-pub use Rattle.keycard_rules.specs.Called.{WasCalled}
-pub use Rattle.keycard_rules.specs.Rise.{HasRisen, HasRisenBy, NoFewer}
+pub use Rattle.keycard_rules.specs.Rise.{Counts, NoFewer, counted_on, one_of}
 pub use Rattle.keycard_rules.specs.Since.{Since}
 pub use Rattle.keycard_rules.specs.declared.issued.LookFault.{LookFault}
 pub use Rattle.std.proofs.lemmas.Cmp.{tied_itself}

@@ -2,16 +2,14 @@ pub mod LaterNotes
 pub mod NoteParts
 pub mod FitParts
 pub mod NoteReplies
+pub mod Counting
 pub mod Parts
 pub mod LookUps
 pub mod CheckParts
 pub mod DrawParts
 pub mod FailuresCounted
 pub mod Happened
-pub mod Passes
 pub mod Happens
-pub mod ShutBooks
-pub mod RepliesAnswered
 pub mod Walking
 pub mod AnswerParts
 pub mod HandedOn

@@ -1,8 +1,7 @@
 -- What books promise.
 pub mod Reads
 pub mod Failures
-pub mod Passes
 pub mod Walks
+pub mod Changes
 pub mod Happens
 pub mod Stepped
-pub mod Shut

@@ -1,12 +1,10 @@
 //! The books of the desk, however they are kept.
-ghost use Rattle.std.specs.Prelude.{◌≡◌, ◌-◌, Option, true, false, OnOk, OnErr, IfErr, IsOk};
-ghost use Rattle.std.specs.Prelude.{Result, length, not};
-ghost use Rattle.keycard_rules.specs.{Rise.HasRisen, declared.issued.LookFault.LookFault};
-ghost use Rattle.keycard_rules.specs.{Since.Since};
+ghost use Rattle.std.specs.Prelude.{◌≡◌, ◌-◌, Option, Some, true, false, IsOk, length, not};
+ghost use Rattle.keycard_rules.specs.Leaves.{Leaves, Rose, told_by};
 ghost use Rattle.keycard_rules.specs.{declared.issued.LookFault.TheVariants.Store};
 ghost use Rattle.hotel_model.specs.{Words.is_one_of, Rows.Rows, Rows.has_kind, Rows.fit_at, Rows.rooms_of_kind};
-ghost use Rattle.hotel_model.specs.{Guests.are_none, Refinement.Change.made};
-ghost use Rattle.hotel_core.specs.Books.Reads.{LooksUp};
+ghost use Rattle.hotel_model.specs.Guests.{are_none};
+ghost use Rattle.hotel_core.specs.Books.{Reads.LooksUp, Changes.rows_after};
 ghost use Rattle.hotel_model.specs.Refinement.Lookups.{room_at, codes_in, code_place, code_at, stay_at, stays_of_kind};
 ghost use Rattle.hotel_model.specs.Refinement.Lookups.{card_at, inside_at, note_at, first_full_on};
 ghost use Rattle.hotel_model.specs.Refinement.Lookups.{number_after};
@@ -23,47 +21,45 @@ use keycard_rules::{
 
 /// The books of the desk: nine tables, each seen as the list of its rows in the order of their keys.
 ///
-/// A look-up changes nothing but the counts of failures. What is answered is so where the test of the state holds as
-/// the call ends, and then it held as the call began; where the state is honest as the call ends, an answer that is no
-/// fault says that the test holds. What is answered for want of memory or by the store's failure is counted, each by
-/// its cause.
+/// A look-up changes nothing but the counts of failures. What is answered is so where the state is honest as the call
+/// ends. What is answered for want of memory or by the store's failure is counted, each by its cause.
 pub trait Books: Issued {
     /// The rows of the nine tables.
     ghost rows: { Self → Rows };
 
-    /// What a stop leaves in a change, or after it, from the first state to the second, which was answered so.
-    ghost leaves_change: { Change → Self → Self → Result (Unit {0}) LookFault → Type 0 };
+    /// What a stop leaves in a change, or after it, from the first state to the second.
+    ghost leaves_change: { Change → Self → Self → Type 0 };
 
     /// Why a change from the first state to the second isn't made, but for want of memory: a call of the store failed.
     ghost change_fails: { Change → Self → Self → Type 0 };
 
     /// The business day, once it is set.
     fn day(&mut self) -> Result<Option<Day>, LookFault>
-        ensures { LooksUp Self.Issued false (λ a. a) (rows self.old).day self.old self.new result };
+        ensures { LooksUp Self.Kept false (λ a. a) (rows self.old).day self.old self.new result };
 
     /// Whether the kind is there.
     fn kind(&mut self, kind: &KindCode) -> Result<bool, LookFault>
-        ensures { LooksUp Self.Issued false (λ a. a) (has_kind (rows self.old) kind.now) self.old self.new result };
+        ensures { LooksUp Self.Kept false (λ a. a) (has_kind (rows self.old) kind.now) self.old self.new result };
 
     /// A room's row.
     fn room(&mut self, room: RoomNo) -> Result<Option<RoomRow>, LookFault>
-        ensures { LooksUp Self.Issued false (λ a. a) (room_at (rows self.old) room) self.old self.new result };
+        ensures { LooksUp Self.Kept false (λ a. a) (room_at (rows self.old) room) self.old self.new result };
 
     /// The room and the place at which a code stands.
     fn code_place(&mut self, code: Code) -> Result<Option<CodeRow>, LookFault>
-        ensures { LooksUp Self.Issued false (λ a. a) (code_place (rows self.old) code) self.old self.new result };
+        ensures { LooksUp Self.Kept false (λ a. a) (code_place (rows self.old) code) self.old self.new result };
 
     /// The code at a place of a room.
     fn code_at(&mut self, room: RoomNo, place: u32) -> Result<Option<Code>, LookFault>
-        ensures { LooksUp Self.Issued false (λ a. a) (code_at (rows self.old) room place) self.old self.new result };
+        ensures { LooksUp Self.Kept false (λ a. a) (code_at (rows self.old) room place) self.old self.new result };
 
     /// A party's stay; its guest's name is copied.
     fn stay(&mut self, party: PartyNo) -> Result<Option<Stay>, LookFault>
-        ensures { LooksUp Self.Issued true (λ a. a) (stay_at (rows self.old) party) self.old self.new result };
+        ensures { LooksUp Self.Kept true (λ a. a) (stay_at (rows self.old) party) self.old self.new result };
 
     /// The stays of a kind, by the party's number.
     fn stays_of_kind(&mut self, kind: &KindCode) -> Result<Vec<Stay>, LookFault>
-        ensures { LooksUp Self.Issued true (λ v. v.items)
+        ensures { LooksUp Self.Kept true (λ v. v.items)
             (stays_of_kind (rows self.old) kind.now) self.old self.new result };
 
     /// The first night from `arrive` on and before `depart` on which the kind's booked and in-house stays take all its
@@ -74,29 +70,29 @@ pub trait Books: Issued {
         arrive: Day,
         depart: Day,
     ) -> Result<Option<Day>, LookFault>
-        ensures { LooksUp Self.Issued false (λ a. a) (first_full_on (rows self.old) kind.now arrive (depart - arrive))
+        ensures { LooksUp Self.Kept false (λ a. a) (first_full_on (rows self.old) kind.now arrive (depart - arrive))
             self.old self.new result };
 
     /// A copy of a guest's name, which takes memory of the books' own.
     fn copy_guest(&mut self, guest: &Guest) -> Result<Guest, LookFault>
-        ensures { LooksUp Self.Issued true (λ a. a) guest.now self.old self.new result };
+        ensures { LooksUp Self.Kept true (λ a. a) guest.now self.old self.new result };
 
     /// A card, by its number.
     fn card(&mut self, number: CardNo) -> Result<Option<Card>, LookFault>
-        ensures { LooksUp Self.Issued false (λ a. a) (card_at (rows self.old) number) self.old self.new result };
+        ensures { LooksUp Self.Kept false (λ a. a) (card_at (rows self.old) number) self.old self.new result };
 
     /// The numbers of the cards inside a room, in order.
     fn inside(&mut self, room: RoomNo) -> Result<Vec<CardNo>, LookFault>
-        ensures { LooksUp Self.Issued true (λ v. v.items) (inside_at (rows self.old) room) self.old self.new result };
+        ensures { LooksUp Self.Kept true (λ v. v.items) (inside_at (rows self.old) room) self.old self.new result };
 
     /// Whether a card is inside a room.
     fn is_inside(&mut self, room: RoomNo, number: CardNo) -> Result<bool, LookFault>
-        ensures { LooksUp Self.Issued false (λ a. a) (is_one_of number (inside_at (rows self.old) room))
+        ensures { LooksUp Self.Kept false (λ a. a) (is_one_of number (inside_at (rows self.old) room))
             self.old self.new result };
 
     /// Whether any card is inside a room.
     fn has_inside(&mut self, room: RoomNo) -> Result<bool, LookFault>
-        ensures { LooksUp Self.Issued false (λ a. a) (not (are_none (inside_at (rows self.old) room)))
+        ensures { LooksUp Self.Kept false (λ a. a) (not (are_none (inside_at (rows self.old) room)))
             self.old self.new result };
 
     /// A note that was taken, by its room, lock and count.
@@ -106,21 +102,21 @@ pub trait Books: Issued {
         fit: FitNo,
         count: Count,
     ) -> Result<Option<LockNote>, LookFault>
-        ensures { LooksUp Self.Issued false (λ a. a) (note_at (rows self.old) room fit count)
+        ensures { LooksUp Self.Kept false (λ a. a) (note_at (rows self.old) room fit count)
             self.old self.new result };
 
     /// A lock of a room, by its number.
     fn fit(&mut self, room: RoomNo, fit: FitNo) -> Result<Option<FitRow>, LookFault>
-        ensures { LooksUp Self.Issued false (λ a. a) (fit_at (rows self.old) room fit) self.old self.new result };
+        ensures { LooksUp Self.Kept false (λ a. a) (fit_at (rows self.old) room fit) self.old self.new result };
 
     /// How many rooms a kind has; 0 where it isn't there.
     fn rooms_of_kind(&mut self, kind: &KindCode) -> Result<u32, LookFault>
-        ensures { LooksUp Self.Issued false (λ a. a) (rooms_of_kind (rows self.old).rooms kind.now)
+        ensures { LooksUp Self.Kept false (λ a. a) (rooms_of_kind (rows self.old).rooms kind.now)
             self.old self.new result };
 
     /// The numbers that the next party and the next card are given, up to the last number.
     fn next_numbers(&mut self) -> Result<NextNumbers, LookFault>
-        ensures { LooksUp Self.Issued false (λ a. a) (record {
+        ensures { LooksUp Self.Kept false (λ a. a) (record {
           party = number_after
               (length (rows self.old).stays);
           card = number_after (length (rows self.old).cards);
@@ -134,15 +130,11 @@ pub trait Books: Issued {
     /// Makes all of a change, or nothing.
     fn apply(&mut self, change: Change) -> Result<(), LookFault>
         requires { Self.is_clean self.old → Fits change (rows self.old) }
-        ensures ok { Self.is_clean self.new → OnOk result (rows self.new ≡ made change (rows self.old)) }
-        ensures err { Self.is_clean self.new → OnErr result (rows self.new ≡ rows self.old) }
-        ensures since { Since Self.is_clean Self.is_honest Self.failures self.old self.new }
-        ensures vouched { Self.is_honest self.new → OnOk result (Self.is_clean self.new) }
-        ensures called { OnOk result (Self.has_answered self.old self.new) }
-        ensures stop { leaves_change change self.old self.new result }
-        ensures fault { IfErr result (λ why. HasRisen (Self.failures self.old why) (Self.failures self.new why)) }
-        ensures cause { Self.is_honest self.new → IfErr result
-            (λ why. why ≡ Store → change_fails change self.old self.new) }
+        ensures rows { Self.is_clean self.new → rows self.new ≡ rows_after result change (rows self.old) }
+        ensures leaves { Leaves Self.Kept self.old (told_by result) self.new }
+        ensures rose { Rose Self.Kept self.old (told_by result) self.new }
+        ensures cause { Self.is_honest self.new → told_by result ≡ Some Store → change_fails change self.old self.new }
+        ensures stop { leaves_change change self.old self.new }
         ensures sure { Self.never_fails → takes_memory change ≡ false → IsOk result };
 
     // What a look-up leaves has the same rows, and the issued codes are those of the rows.

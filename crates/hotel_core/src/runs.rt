@@ -1,12 +1,9 @@
-//! Commands one after the other, over any desk.
-ghost use Rattle.std.specs.Prelude.{◌≡◌, true, IfOk, IfErr, length, zip};
-ghost use Rattle.keycard_rules.specs.{Since.Since};
-ghost use Rattle.hotel_core.specs.Books.Happens.{CommandHappens};
-ghost use Rattle.hotel_core.specs.Books.Passes.{Passes};
-ghost use Rattle.hotel_core.specs.{Books.Failures.AreCounted, Books.Failures.failures_in};
-ghost use Rattle.hotel_model.specs.{Leads.Leads, Leads.LeadsOn, Run.Runs, Run.any_answered, Run.last_answered};
+//! Commands one after the other, over any books.
+ghost use Rattle.std.specs.Prelude.{◌≡◌, IfOk, IfErr};
+ghost use Rattle.hotel_core.specs.Books.Stepped.{RunThrough};
 
-use crate::desk::Desk;
+use crate::books::Books;
+use crate::steps::step;
 use hotel_model::{Command, Reply};
 use rand_core::Rng;
 use std::alloc::Global;
@@ -18,36 +15,22 @@ pub struct RunFault {
 }
 
 /// Carries out commands in order. The memory for all replies is taken before the first command.
-pub fn run<B: Desk, R: Rng>(
+pub fn run<B: Books, R: Rng>(
     alloc: Global,
     books: &mut B,
     source: &mut R,
     commands: &[Command],
 ) -> Result<Vec<Reply>, RunFault>
-    ensures run { IfOk result (λ replies. B.is_clean books.new → Leads (B.rows books.old)
-        (λ h h'. Runs h (R.stream source.old) commands.now replies.items h' (R.stream source.new))
-        (B.rows books.new)) }
     ensures fault { IfErr result (λ fault. (fault.answered ≡ 0)
         × (books.new ≡ books.old) × (source.new ≡ source.old)) }
-    ensures failed { IfOk result (λ replies. B.is_clean books.new →
-        AreCounted (B.failures books.old) (B.failures books.new) (failures_in replies.items)) }
-    ensures happened { IfOk result (λ replies. B.is_honest books.new → LeadsOn (B.is_clean books.old) (B.rows books.old)
-        (λ h h'. Runs h (R.stream source.old) commands.now replies.items h' (R.stream source.new))
-        (B.is_clean books.new) (B.rows books.new)) }
-    ensures vouched { IfOk result (λ replies. B.is_honest books.new →
-        any_answered replies.items ≡ true → B.is_clean books.old) }
-    ensures vouched_last { IfOk result (λ replies. B.is_honest books.new →
-        last_answered replies.items ≡ true → B.is_clean books.new) }
-    ensures through { IfOk result (λ replies. (length replies.items ≡ length commands.now)
-        × Passes (CommandHappens B.Issued B.rows R.stream) (books.old, source.old)
-        (zip commands.now replies.items) (books.new, source.new)) }
-    ensures since { Since B.is_clean B.is_honest B.failures books.old books.new }
+    ensures through { IfOk result (λ replies. RunThrough B.Kept B.rows (books.old, R.stream source.old) commands.now
+        replies.items (books.new, R.stream source.new)) }
 {
     let Ok(mut replies) = Vec::with_capacity(alloc, commands.len()) else {
         return Err(RunFault { answered: 0 });
     };
     for command in commands {
-        let reply = books.step(source, command);
+        let reply = step(books, source, command);
         let Ok(()) = replies.push(reply) else {
             unreachable!()
         };

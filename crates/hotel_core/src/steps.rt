@@ -1,8 +1,7 @@
 //! One command, over any books.
 ghost use Rattle.std.specs.Prelude.{◌≡◌, true, false};
-ghost use Rattle.keycard_rules.specs.{Called.WasCalled};
 ghost use Rattle.hotel_core.specs.Books.Stepped.{Noted, Stepped};
-ghost use Rattle.hotel_model.specs.{Ranges.IsCommand, Run.is_failed};
+ghost use Rattle.hotel_model.specs.{NoteReplies.IsNoteReply, Ranges.IsCommand, Run.is_failed};
 ghost use Rattle.hotel_core.specs.{Refinement.Finds.reply_of, Refinement.StepOnRows.CarriesOut};
 ghost use Rattle.hotel_model.specs.Refinement.Fits.{takes_none};
 
@@ -34,7 +33,7 @@ fn carry_out<B: Books, R: Rng>(
     command: &Command,
 ) -> Result<Reply, Refusal>
     requires { IsCommand command.now }
-    ensures steps { CarriesOut B.Issued B.Books.own command.now books.old books.new
+    ensures steps { CarriesOut B.Kept B.Books.own command.now books.old books.new
         (R.stream source.old) (R.stream source.new) (reply_of result) }
     ensures sure { B.never_fails → takes_none command.now ≡ true → is_failed (reply_of result) ≡ false }
 {
@@ -64,9 +63,8 @@ fn carry_out<B: Books, R: Rng>(
 ///
 /// `Memory` and `Store` may stand in place of any answer; the books count these failures.
 pub fn step<B: Books, R: Rng>(books: &mut B, source: &mut R, command: &Command) -> Reply
-    ensures steps { Stepped B.Issued B.rows command.now books.old books.new (R.stream source.old)
-        (R.stream source.new) result }
-    ensures called { is_failed result ≡ false → WasCalled B.Issued books.old books.new }
+    ensures { Stepped B.Kept B.rows (books.old, R.stream source.old) (command.now, result)
+        (books.new, R.stream source.new) }
 {
     known_command(command);
     books.known_sound();
@@ -78,8 +76,8 @@ pub fn step<B: Books, R: Rng>(books: &mut B, source: &mut R, command: &Command) 
 
 /// Takes a note of a lock: `step` of [`Command::Reported`], which draws nothing.
 pub fn report<B: Books>(books: &mut B, note: &LockNote) -> Reply
-    ensures noted { Noted B.Issued B.rows note.now books.old books.new result }
-    ensures called { is_failed result ≡ false → WasCalled B.Issued books.old books.new }
+    ensures noted { Noted B.Kept B.rows note.now books.old books.new result }
+    ensures note { B.is_honest books.new → IsNoteReply result }
 {
     known_note(note);
     books.known_sound();

@@ -1,10 +1,11 @@
 //! The words, files, databases, ports and the clock of the system. No clause can say what they give, so the functions
-//! here do no more than ask.
+//! here do no more than ask; of an opening they say that it is one of some database's file.
 
 ghost use Rattle.std.specs.Prelude.{◌≡◌, IfErr};
 ghost use Rattle.hotel_program.specs.declared.faults.Fault.TheVariants as fault;
 
 use crate::database::open_file;
+use hotel_lists::IoCalls;
 use hotel_program::{Databases, Fault, FileName, SEED_BYTES, Surroundings, audit_file_in, seed_in};
 use hotel_tables::{PathDisk, TableBooks, close_file};
 use sqlite::FileStore;
@@ -81,12 +82,12 @@ impl<D: PathDisk> Surroundings for Host<D> {
         let Ok(mut file) = self.open(path) else {
             return Err(Fault::Seed);
         };
-        seed_in(alloc, &mut file)
+        seed_in(alloc, &mut file, &mut IoCalls::none())
     }
 
     fn read_file(&mut self, alloc: Global, name: &FileName) -> Result<Vec<u8>, Fault> {
         let mut file = self.open(name.as_str())?;
-        audit_file_in(alloc, &mut file)
+        audit_file_in(alloc, &mut file, &mut IoCalls::none())
     }
 
     fn listen(&mut self, port: u16) -> Result<TcpListener, Fault> {
@@ -98,7 +99,12 @@ impl<D: PathDisk> Surroundings for Host<D> {
 }
 
 impl<D: PathDisk> Databases<TableBooks<FileStore<D>>> for Host<D> {
-    ghost books_opened = { λ _ _ _ _. Unit {0} };
+    ghost use Rattle.std.specs.Prelude.{IfOk, IfErr};
+    ghost use Rattle.hotel_tables.specs.Files.{AreOfOpening};
+    ghost use Rattle.hotel_desk.specs.Database.{IsOfFile};
+
+    ghost books_opened = { λ _ _ opened _. IfOk opened (λ b. AreOfOpening D.PathDisk.is_part b.conn)
+        × IfErr opened (IsOfFile D.Disk D.PathDisk.is_part) };
 
     fn open_books(
         &mut self,

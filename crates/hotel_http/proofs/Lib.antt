@@ -1,4 +1,3 @@
-pub mod ReadLemmas
 pub mod HeadLemmas
 pub mod FieldLemmas
 pub mod FormLemmas

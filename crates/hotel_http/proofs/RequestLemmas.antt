@@ -6,8 +6,8 @@ use Rattle.std.proofs.KnownBytes.{Appends-nil, Consumes-kept, Consumes-nil, Cons
 use Rattle.std.proofs.lemmas.List.{drop-append-le}
 use Rattle.httparse.specs.{Grammar.RequestHead, Spans.IsRequestAt, Spans.IsRequestOf, Spans.IsRequestWithin}
 use Rattle.httparse.specs.{declared.spans.HeaderSpan.HeaderSpan, declared.spans.RequestSpans.RequestSpans}
-use Rattle.hotel_http.specs.Reads.{ReadsWhile}
-use Rattle.hotel_http.proofs.ReadLemmas.{reads_while}
+use Rattle.hotel_lists.specs.Reads.{ReadsWhile}
+use Rattle.hotel_lists.proofs.ReadLemmas.{reads_while}
 use Rattle.hotel_http.specs.{Body.ReadsBody, Body.interim_where, Head.BeginsWith, Head.IsJudged, Head.LiesWithin}
 use Rattle.hotel_http.specs.{Head.WantsHead, declared.head.Judged.Judged}
 use Rattle.hotel_http.specs.declared.head.TheConstants.{HEAD_BYTES, HEAD_FIELDS}

@@ -1,4 +1,3 @@
-pub mod Reads
 pub mod Head
 pub mod Fields
 pub mod Form

@@ -1,25 +1,26 @@
 -- What comes of a request: its answer, and the history of the books after it.
-use Rattle.std.specs.Prelude.{◌≡◌, ◌⊎◌, ℕ, Bool, true, false, not, List, [], ◌∷◌, ◌++◌, Option, Some, None, IfSome}
+use Rattle.std.specs.Prelude.{◌≡◌, ◌⊎◌, ℕ, Bool, true, false, List, [], ◌∷◌, ◌++◌, Option, Some, None, IfSome}
 use Rattle.std.specs.Prelude.{Result, Ok, Err}
 use Rattle.std.specs.{Io.KnownBytes.Appends, Option.unwrap_or}
 use Rattle.rand_core.specs.Stream.{Stream}
-use Rattle.keycard_rules.specs.{declared.issued.Issued.Ghosts as IssuedOf}
+use Rattle.keycard_rules.specs.{declared.issued.LookFault.LookFault, declared.kept.Kept.Ghosts as KeptOf}
+use Rattle.keycard_rules.specs.Calls.{NoCallFailed, Told}
 use Rattle.hotel_model.specs.{declared.reply.Reply.Reply, declared.reply.Refusal.Refusal, History.History}
 use Rattle.hotel_model.specs.Rows.{Rows}
-use Rattle.hotel_core.specs.{Books.Failures.failure_in, Books.Happens.Call, Books.Happens.Happens, Books.Happens.Told}
-use Rattle.hotel_core.specs.declared.asks.ListAsk.{ListAsk}
+use Rattle.hotel_core.specs.{Books.Failures.failure_in, Books.Failures.refusal_of, Books.Happens.HappensBy}
 use Rattle.hotel_model.specs.declared.reply.Reply.TheVariants as reply
 use Rattle.hotel_model.specs.declared.reply.Refusal.TheVariants as refusal
-use Rattle.hotel_model.specs.Run.{Steps, Runs, is_failed}
+use Rattle.hotel_model.specs.Run.{Steps, Runs}
 use Rattle.hotel_lists.specs.{Bytes.AppendsFront, declared.calls.WriteFailed.WriteFailed}
-use Rattle.hotel_lists.specs.{Faults.told_refusal, declared.fault.ListFault.ListFault}
+use Rattle.hotel_lists.specs.{Faults.told_refusal, Lines.ListFailed, declared.fault.ListFault.ListFault}
+use Rattle.hotel_lists.specs.declared.fault.ListFault.TheVariants as fault
 use Rattle.hotel_lists.specs.Listings.{Listing, in_full}
 use Rattle.hotel_core.specs.declared.asks.Ask.{Ask}
 use Rattle.hotel_asks.specs.Listings.{listing_over}
 use Rattle.hotel_core.specs.declared.asks.Ask.TheVariants as ask
-use Rattle.hotel_audit.specs.{AuditFile.audit_lines, Import.AreAnswered, Import.EndsAfter, Import.asked_by}
-use Rattle.hotel_audit.specs.{Import.commands_of, declared.audit_file.AuditFault.AuditFault}
-use Rattle.hotel_audit.specs.{Import.replies_in, Import.has_taken, Import.failures_of}
+use Rattle.hotel_audit.specs.{AuditFile.audit_lines, Import.AreAnswered, Import.EndsAfter}
+use Rattle.hotel_audit.specs.{Import.commands_of}
+use Rattle.hotel_audit.specs.{Import.replies_in, Import.has_taken, Import.told_by_import}
 use Rattle.hotel_audit.specs.{declared.answer.LineAnswer.LineAnswer, declared.imports.ImportFault.ImportFault}
 use Rattle.hotel_audit.specs.{declared.line.Line.Line}
 use Rattle.hotel_audit.specs.declared.imports.ImportFault.TheVariants as import
@@ -36,21 +37,18 @@ use Rattle.hotel_http.specs.{Body.interim_text, Body.interim_where}
 use Rattle.hotel_http.specs.{Request.Wanted, Request.Requests, Request.IsAwaited, Request.AtMostInterim}
 use Rattle.hotel_http.specs.{Status.number_of}
 
--- An answer: its bytes, its status, whether the books took something of the request, and what they were asked for it,
--- in turn.
+-- An answer: its bytes, its status, and whether the books took something of the request.
 pub record Outcome : Type 0 where
   pub text : List ℕ
   pub status : ℕ
   pub acted : Bool
-  pub calls : List Call
 
 -- an answer of this status
-abbrev pub outcome : List ℕ → Status → Bool → List Call → Outcome
-outcome text status acted calls =
-    record { text = text; status = number_of status; acted = acted; calls = calls }
+abbrev pub outcome : List ℕ → Status → Bool → Outcome
+outcome text status acted = record { text = text; status = number_of status; acted = acted }
 
 abbrev pub rejected : Rejection → Outcome
-rejected why = outcome (rejection_answer why) (rejection_status why) false []
+rejected why = outcome (rejection_answer why) (rejection_status why) false
 
 -- a command with this reply was accepted
 abbrev pub is_accepted : Reply → Bool
@@ -58,15 +56,13 @@ is_accepted (reply.Refused why) = false
 is_accepted _ = true
 
 -- the reply to what was asked
-abbrev pub replied : Ask → Reply → Outcome
-replied wanted given = outcome (reply_answer given) (reply_status given) (is_accepted given)
-    ((wanted, not (is_failed given)) ∷ [])
+abbrev pub replied : Reply → Outcome
+replied given = outcome (reply_answer given) (reply_status given) (is_accepted given)
 
 -- A list in full, or that its room isn't there.
-abbrev pub listed : ListAsk → Option Listing → Outcome
-listed its_list None = replied (ask.List its_list) (reply.Refused refusal.NoRoom)
-listed its_list (Some listing) =
-    outcome (list_answer (in_full [] (Some listing))) Success false ((ask.List its_list, true) ∷ [])
+abbrev pub listed : Option Listing → Outcome
+listed None = replied (reply.Refused refusal.NoRoom)
+listed (Some listing) = outcome (list_answer (in_full [] (Some listing))) Success false
 
 -- a line was taken before an import ended without answers
 abbrev pub taken_by : ImportFault → Bool
@@ -74,51 +70,40 @@ taken_by (import.File why) = false
 taken_by (import.Memory answered taken) = taken
 taken_by (import.Store answered taken) = taken
 
--- an import of a file, of which these lines were answered
-abbrev pub imported : Result (List Line) AuditFault → List Line → Result (List LineAnswer) ImportFault → Outcome
-imported file lines (Ok answers) =
-    outcome (lines_answer answers) Success (has_taken answers) (asked_by file lines (Ok answers))
-imported file lines (Err why) =
-    outcome (fault_answer why) (fault_status why) (taken_by why) (asked_by file lines (Err why))
+-- an import that ended so
+abbrev pub imported : Result (List LineAnswer) ImportFault → Outcome
+imported (Ok answers) = outcome (lines_answer answers) Success (has_taken answers)
+imported (Err why) = outcome (fault_answer why) (fault_status why) (taken_by why)
 
--- the failures that the books counted in an import that ended so
-abbrev pub import_failures : Result (List LineAnswer) ImportFault → List Refusal
-import_failures (Ok answers) = []
-import_failures (Err why) = failures_of why
-
--- The answer to a list, with the failures that the books counted: it in full or that its room isn't there, or that
--- memory or the store failed. The memory of the list's text is its own: want of it isn't counted.
-abbrev pub ListComes : ListAsk → Option Listing → Outcome → List Refusal → Type 0
-ListComes its_list listing out failed =
-    ((out ≡ listed its_list listing) × (failed ≡ []))
-    ⊎ (((out ≡ replied (ask.List its_list) (reply.Refused refusal.Memory)) × (failed ≡ []))
-    ⊎ ((out ≡ replied (ask.List its_list) (reply.Refused refusal.Store)) × (failed ≡ refusal.Store ∷ [])))
+-- The answer to a list, by what its calls told: it in full or that its room isn't there; or the failure.
+abbrev pub ListComes : Option Listing → Outcome → Told → Type 0
+ListComes listing out told = ((out ≡ listed listing) × NoCallFailed told)
+    ⊎ ((why : LookFault) × (out ≡ replied (reply.Refused (refusal_of why))) × ListFailed why told)
 
 -- What comes of a command, which is a step, or of a list, which changes nothing.
-abbrev pub AskComes : Ask → History → Stream → Outcome → List Refusal → History → Stream → Type 0
-AskComes (ask.Command command) h s out failed h' s' =
-    (given : Reply) × Steps h s command given h' s' × (out ≡ replied (ask.Command command) given)
-    × (failed ≡ failure_in given)
-AskComes (ask.List its_list) h s out failed h' s' =
-    ListComes its_list (listing_over h its_list) out failed × (h' ≡ h) × (s' ≡ s)
+abbrev pub AskComes : Ask → History → Stream → Outcome → Told → History → Stream → Type 0
+AskComes (ask.Command command) h s out told h' s' =
+    (given : Reply) × Steps h s command given h' s' × (out ≡ replied given) × (told ≡ failure_in given ∷ [])
+AskComes (ask.List its_list) h s out told h' s' =
+    ListComes (listing_over h its_list) out told × (h' ≡ h) × (s' ≡ s)
 
 -- What comes of an audit file: the run of the notes of its answered lines.
-abbrev pub FileComes : List ℕ → History → Stream → Outcome → List Refusal → History → Stream → Type 0
-FileComes file h s out failed h' s' =
+abbrev pub FileComes : List ℕ → History → Stream → Outcome → Told → History → Stream → Type 0
+FileComes file h s out told h' s' =
     (end : Result (List LineAnswer) ImportFault) × (lines : List Line) × (answers : List LineAnswer)
     × AreAnswered lines answers
     × EndsAfter (audit_lines file) end lines answers × Runs h s (commands_of lines) (replies_in answers) h' s
-    × (out ≡ imported (audit_lines file) lines end) × (failed ≡ import_failures end) × (s' ≡ s)
+    × (out ≡ imported end) × (told ≡ told_by_import lines end) × (s' ≡ s)
 
 -- What comes of a task with its body.
-abbrev pub TaskComes : Task → List ℕ → History → Stream → Outcome → List Refusal → History → Stream → Type 0
+abbrev pub TaskComes : Task → List ℕ → History → Stream → Outcome → Told → History → Stream → Type 0
 TaskComes (task.Asks given) body = AskComes given
 TaskComes task.Audit body = FileComes body
 
 -- What comes of what a request asks for: a rejection changes nothing.
-abbrev pub Comes : Wanted → History → Stream → Outcome → List Refusal → History → Stream → Type 0
-Comes (Ok given) h s out failed h' s' = TaskComes given.0 given.1 h s out failed h' s'
-Comes (Err why) h s out failed h' s' = (out ≡ rejected why) × (failed ≡ []) × (h' ≡ h) × (s' ≡ s)
+abbrev pub Comes : Wanted → History → Stream → Outcome → Told → History → Stream → Type 0
+Comes (Ok given) h s out told h' s' = TaskComes given.0 given.1 h s out told h' s'
+Comes (Err why) h s out told h' s' = (out ≡ rejected why) × (told ≡ []) × (h' ≡ h) × (s' ≡ s)
 
 -- How an answer ended: it was written whole, or cut short.
 abbrev pub AnswerEnd : Type 0
@@ -130,14 +115,11 @@ EndsAs out before old new (Ok served) =
     (served.status ≡ out.status) × (served.acted ≡ out.acted) × Appends old new (before ++ out.text)
 EndsAs out before old new (Err cut) = (cut.acted ≡ out.acted) × AppendsFront old new (before ++ out.text)
 
--- This came, its answer was written so behind this text, and of its failures and of what the books were asked this is
--- told.
-abbrev pub Answered : (History → Stream → Outcome → List Refusal → History → Stream → Type 0) → Stream → Stream → List ℕ
-    → Option (List ℕ) → Option (List ℕ)
-    → AnswerEnd → Told → History → History → Type 0
+-- This came of calls that told this, and its answer was written so behind this text.
+abbrev pub Answered : (History → Stream → Outcome → Told → History → Stream → Type 0) → Stream → Stream → List ℕ
+    → Option (List ℕ) → Option (List ℕ) → AnswerEnd → Told → History → History → Type 0
 Answered came s s' before old new end told h h' =
-    (out : Outcome) × (failed : List Refusal) × came h s out failed h' s' × EndsAs out before old new end
-    × told failed out.calls
+    (out : Outcome) × came h s out told h' s' × EndsAs out before old new end
 
 -- How an answer ends that was written or not.
 abbrev pub ended : Result (Unit {0}) WriteFailed → Status → Bool → Result Served Cut
@@ -145,33 +127,23 @@ ended (Ok done) status acted = Ok (record { status = number_of status; acted = a
 ended (Err failed) status acted = Err (record { acted = acted })
 
 -- A list's text as it was made in memory, or why it wasn't.
-abbrev pub IsListText : Option Listing → Result (List ℕ) Refusal → Type 0
-IsListText (Some listing) (Ok text) = text ≡ in_full [] (Some listing)
-IsListText (Some listing) (Err refusal.Memory) = Unit {0}
-IsListText (Some listing) (Err refusal.Store) = Unit {0}
-IsListText (Some listing) (Err _) = ⊥
+abbrev pub IsListText : Option Listing → Result (List ℕ) ListFault → Type 0
 IsListText None (Ok text) = ⊥
-IsListText None (Err refusal.NoRoom) = Unit {0}
-IsListText None (Err refusal.Memory) = Unit {0}
-IsListText None (Err refusal.Store) = Unit {0}
-IsListText None (Err _) = ⊥
+IsListText (Some listing) (Ok text) = text ≡ in_full [] (Some listing)
+IsListText listing (Err fault.NoRoom) = listing ≡ None
+IsListText listing (Err why) = Unit {0}
 
 -- the refusal that a list's fault is answered by: a writer in memory fails for want of it
 abbrev pub list_refusal : ListFault → Refusal
-list_refusal fault = unwrap_or (told_refusal fault) refusal.Memory
+list_refusal why = unwrap_or (told_refusal why) refusal.Memory
 
--- the failures that the books counted of a list's text
-abbrev pub list_failures : Result (List ℕ) Refusal → List Refusal
-list_failures (Err refusal.Store) = refusal.Store ∷ []
-list_failures _ = []
-
--- the books answered for a list's text, also that its room isn't there
-abbrev pub is_answered : Result (List ℕ) Refusal → Bool
-is_answered (Ok text) = true
-is_answered (Err why) = not (is_failed (reply.Refused why))
+-- how a list ended whose text was made in memory
+abbrev pub end_of : {A : Type 0} → Result A ListFault → Result (Unit {0}) ListFault
+end_of (Ok text) = Ok tt
+end_of (Err why) = Err why
 
 -- the text, where there is one
-abbrev pub text_in : {A : Type 0} → (A → List ℕ) → Result A Refusal → Result (List ℕ) Refusal
+abbrev pub text_in : {A : Type 0} → (A → List ℕ) → Result A ListFault → Result (List ℕ) ListFault
 text_in items (Ok text) = Ok (items text)
 text_in items (Err why) = Err why
 
@@ -195,11 +167,11 @@ Serves known old new same went (Err Memory) = same × AtMostInterim known old ne
 
 -- A request was served over these books, with codes from this source. The answer's bytes are those that the writer's
 -- contents grew by.
-abbrev pub ServesOver : {B R : Type 0} → IssuedOf B → (B → Rows) → (R → Stream) → Option (List ℕ) → Option (List ℕ)
+abbrev pub ServesOver : {B R : Type 0} → KeptOf B → (B → Rows) → (R → Stream) → Option (List ℕ) → Option (List ℕ)
     → Option (List ℕ) → B × R → B × R → Result Served ServeFault → Type 0
-ServesOver I rows stream known old new before after =
+ServesOver K rows stream known old new before after =
     Serves known old new ((after.0 ≡ before.0) × (after.1 ≡ before.1))
-    (λ wanted awaited end. Happens I rows before.0 (Answered (Comes wanted) (stream before.1) (stream after.1)
+    (λ wanted awaited end. HappensBy K rows before.0 (Answered (Comes wanted) (stream before.1) (stream after.1)
     (interim_where awaited) old new end) after.0)
 
 -- Where a write failed, this holds.

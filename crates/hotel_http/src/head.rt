@@ -3,7 +3,7 @@
 ghost use Rattle.std.specs.Prelude.{◌≡◌, ◌≢◌, ◌≤◌, ℕ, List, [], ◌++◌, take, length, IfOk, OnOk, IfSome};
 ghost use Rattle.std.specs.Prelude.{true};
 ghost use Rattle.std.specs.Io.KnownBytes.{Consumes};
-ghost use Rattle.hotel_http.specs.Reads.{ReadsWhile};
+ghost use Rattle.hotel_lists.specs.Reads.{ReadsWhile};
 ghost use Rattle.hotel_lists.specs.Calls.{CountsReads, OnErrOf};
 ghost use Rattle.hotel_lists.specs.{declared.bytes.ReadFault.TheVariants.Read};
 ghost use Rattle.httparse.specs.{Grammar.HasNoRequest, declared.spans.HeaderSpan.HeaderSpan};

@@ -2,8 +2,8 @@
 
 ghost use Rattle.std.specs.Prelude.{◌≡◌, ◌++◌, ◌≤◌, length, take, drop, IsUtf8};
 ghost use Rattle.httparse.specs.{Grammar.RequestHead, Spans.IsRequestWithin, Spans.IsRequestAt, Spans.span_bytes};
-ghost use Rattle.hotel_lists.specs.Calls.{CountsReads, CountsWrites, OnErrOf};
-ghost use Rattle.hotel_http.specs.Reads.{ReadsWhile};
+ghost use Rattle.hotel_lists.specs.Calls.{CountsCalls, OnErrOf};
+ghost use Rattle.hotel_lists.specs.Reads.{ReadsWhile};
 ghost use Rattle.hotel_http.specs.{Body.ReadsBody, Plan.plan_in, Request.request_fault_of, Request.IsMeant};
 ghost use Rattle.hotel_http.specs.{Request.EndsBody, Request.wanted_of, Request.EndsHead, Request.EndsRequest};
 ghost use Rattle.hotel_http.specs.Request.{ReadsBehind, WantsMore};
@@ -119,8 +119,7 @@ fn read_planned<R: Read, W: Write>(
     ensures ends { EndsBody plan path.now begun.now (R.remaining reader.old) (W.contents writer.old)
         (W.contents writer.new) result }
     ensures wanted { ReadsBody begun.now plan.size (R.remaining reader.old) (R.remaining reader.new) }
-    ensures reads_counted { CountsReads calls.old calls.new (OnErrOf result Read) }
-    ensures writes_counted { CountsWrites calls.old calls.new (OnErrOf result Write) }
+    ensures calls { CountsCalls calls.old calls.new (OnErrOf result Read) (OnErrOf result Write) }
 {
     write_interim(writer, plan.awaited, calls)?;
     let body = read_body(alloc, reader, begun, plan.size, calls)?;
@@ -152,8 +151,7 @@ fn read_behind_head<R: Read, W: Write>(
         (W.contents writer.old) (W.contents writer.new) result }
     ensures wanted { (head : RequestHead) → IsRequestAt (take HEAD_BYTES bytes.now) headers.now spans.now head
         → ReadsBehind head spans.now.len bytes.now (R.remaining reader.old) (R.remaining reader.new) }
-    ensures reads_counted { CountsReads calls.old calls.new (OnErrOf result Read) }
-    ensures writes_counted { CountsWrites calls.old calls.new (OnErrOf result Write) }
+    ensures calls { CountsCalls calls.old calls.new (OnErrOf result Read) (OnErrOf result Write) }
 {
     let front = head_part(bytes);
     match plan_head(routes, front, headers, spans) {
@@ -177,8 +175,7 @@ pub fn read_request<R: Read, W: Write>(
 ) -> Result<Result<Request, Rejection>, RequestFault>
     ensures ends { EndsRequest (R.remaining reader.old) (W.contents writer.old) (W.contents writer.new) result }
     ensures wanted { ReadsWhile WantsMore (R.remaining reader.old) (R.remaining reader.new) }
-    ensures reads_counted { CountsReads calls.old calls.new (OnErrOf result Read) }
-    ensures writes_counted { CountsWrites calls.old calls.new (OnErrOf result Write) }
+    ensures calls { CountsCalls calls.old calls.new (OnErrOf result Read) (OnErrOf result Write) }
 {
     let mut bytes = Vec::new(alloc);
     let mut headers = [EMPTY_HEADER_SPAN; HEAD_FIELDS];

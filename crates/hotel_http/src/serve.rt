@@ -2,18 +2,17 @@
 
 ghost use Rattle.std.specs.Prelude.{◌≡◌, [], true, OnErr};
 ghost use Rattle.rand_core.specs.Stream.{Stream};
-ghost use Rattle.keycard_rules.specs.Since.{Since};
-ghost use Rattle.hotel_core.specs.{Books.Failures.AreCounted, Books.Happens.Call, Books.Happens.Happens};
-ghost use Rattle.hotel_lists.specs.Calls.{CountsReads, CountsWrites, OnErrOf};
+ghost use Rattle.hotel_lists.specs.Calls.{CountsCalls, CountsWrites, OnErrOf};
 ghost use Rattle.hotel_asks.specs.Listings.{listing_on};
-ghost use Rattle.hotel_http.specs.Reads.{ReadsWhile};
+ghost use Rattle.hotel_lists.specs.Reads.{ReadsWhile};
 ghost use Rattle.hotel_http.specs.Request.{WantsMore};
-ghost use Rattle.hotel_core.specs.declared.asks.Ask.{Ask};
 ghost use Rattle.hotel_core.specs.declared.asks.Ask.TheVariants as ask;
 ghost use Rattle.hotel_http.specs.declared.serve.ServeFault.TheVariants.{Read, Write};
-ghost use Rattle.hotel_http.specs.Serve.{rejected, replied, is_accepted, is_answered, taken_by, AskComes};
-ghost use Rattle.hotel_http.specs.Serve.{FileComes, TaskComes, EndsAs, Answered, ended, IsListText};
-ghost use Rattle.hotel_http.specs.Serve.{list_refusal, list_failures, text_in, ServesOver, IfUnwritten, serve_fault_of};
+ghost use Rattle.hotel_http.specs.Serve.{rejected, replied, is_accepted, taken_by, AskComes};
+ghost use Rattle.hotel_core.specs.Books.Happens.{HappensBy};
+ghost use Rattle.hotel_lists.specs.Lines.{LooksAt};
+ghost use Rattle.hotel_http.specs.Serve.{FileComes, TaskComes, EndsAs, Answered, ended, end_of, IsListText};
+ghost use Rattle.hotel_http.specs.Serve.{list_refusal, text_in, ServesOver, IfUnwritten, serve_fault_of};
 
 use crate::answer::{rejection_status, reply_status, write_csv, write_rejection, write_reply};
 use crate::audit_answer::{fault_status, write_audit, write_fault};
@@ -22,9 +21,9 @@ use crate::requests::{Request, RequestFault, read_request};
 use crate::routes::{Routes, make_routes};
 use crate::status::Status;
 use crate::tasks::Task;
-use hotel_asks::{Ask, ListAsk, ListDesk};
+use hotel_asks::{Ask, ListAsk, write_list};
 use hotel_audit::{ImportFault, has_taken, import};
-use hotel_core::{Command, Refusal, Reply};
+use hotel_core::{Books, Command, Refusal, Reply, Walks, step};
 use hotel_lists::{IoCalls, ListFault, WriteFailed};
 use rand_core::Rng;
 use std::alloc::Global;
@@ -117,8 +116,7 @@ fn is_accepted(reply: &Reply) -> bool
 }
 
 fn answer_reply<W: Write>(reply: &Reply, writer: &mut W, calls: &mut IoCalls) -> Result<Served, Cut>
-    ensures ends { (asked : Ask) → EndsAs (replied asked reply.now) [] (W.contents writer.old) (W.contents writer.new)
-        result }
+    ensures ends { EndsAs (replied reply.now) [] (W.contents writer.old) (W.contents writer.new) result }
     ensures calls { CountsWrites calls.old calls.new (OnErr result) }
 {
     let written = write_reply(writer, reply, calls);
@@ -126,19 +124,19 @@ fn answer_reply<W: Write>(reply: &Reply, writer: &mut W, calls: &mut IoCalls) ->
 }
 
 /// Carries out a command and answers its reply. No memory but the command's own is taken.
-fn answer_command<W: Write, B: ListDesk, R: Rng>(
+fn answer_command<W: Write, B: Books, R: Rng>(
     command: &Command,
     writer: &mut W,
     books: &mut B,
     source: &mut R,
     calls: &mut IoCalls,
 ) -> Result<Served, Cut>
-    ensures went { Happens B.Issued B.rows books.old (Answered (AskComes (ask.Command command.now))
+    ensures went { HappensBy B.Kept B.rows books.old (Answered (AskComes (ask.Command command.now))
         (R.stream source.old) (R.stream source.new) []
         (W.contents writer.old) (W.contents writer.new) result) books.new }
     ensures calls { CountsWrites calls.old calls.new (OnErr result) }
 {
-    let reply = books.step(source, command);
+    let reply = step(books, source, command);
     answer_reply(&reply, writer, calls)
 }
 
@@ -150,34 +148,27 @@ fn list_refusal(fault: ListFault) -> Refusal
     fault.told_refusal().unwrap_or(Refusal::Memory)
 }
 
-/// The text of a list, made whole in memory; or why it is refused.
-fn list_text<B: ListDesk>(alloc: Global, list: &ListAsk, books: &mut B) -> Result<Vec<u8>, Refusal>
+/// The text of a list, made whole in memory; or why there is none.
+fn list_text<B: Walks>(alloc: Global, list: &ListAsk, books: &mut B) -> Result<Vec<u8>, ListFault>
     ensures text { B.is_honest books.new → IsListText (listing_on (B.rows books.old) list.now)
         (text_in (λ t. t.items) result) }
-    ensures vouched { B.is_honest books.new → is_answered (text_in (λ t. t.items) result) ≡ true
-        → B.is_clean books.new }
-    ensures asked { B.was_asked Call (ask.List list.now, is_answered (text_in (λ t. t.items) result))
-        books.old books.new }
-    ensures kept { B.is_clean books.new → B.is_kept books.old books.new }
-    ensures since { Since B.is_clean B.is_honest B.failures books.old books.new }
-    ensures failures { AreCounted (B.failures books.old) (B.failures books.new)
-        (list_failures (text_in (λ t. t.items) result)) }
+    ensures books { LooksAt B.Kept books.old books.new (end_of result) }
 {
     let mut text = Vec::new(alloc);
-    match books.write_list(alloc, list, &mut text, &mut IoCalls::none()) {
+    match write_list(alloc, list, &mut text, books, &mut IoCalls::none()) {
         Ok(()) => Ok(text),
-        Err(fault) => Err(list_refusal(fault)),
+        Err(fault) => Err(fault),
     }
 }
 
-fn answer_list<W: Write, B: ListDesk>(
+fn answer_list<W: Write, B: Walks>(
     alloc: Global,
     list: &ListAsk,
     writer: &mut W,
     books: &mut B,
     calls: &mut IoCalls,
 ) -> Result<Served, Cut>
-    ensures went { (s : Stream) → Happens B.Issued B.rows books.old (Answered (AskComes (ask.List list.now)) s s []
+    ensures went { (s : Stream) → HappensBy B.Kept B.rows books.old (Answered (AskComes (ask.List list.now)) s s []
         (W.contents writer.old) (W.contents writer.new) result) books.new }
     ensures calls { CountsWrites calls.old calls.new (OnErr result) }
 {
@@ -186,7 +177,7 @@ fn answer_list<W: Write, B: ListDesk>(
             let written = write_csv(writer, &text, calls);
             ended(written, Status::Success, false)
         }
-        Err(refusal) => answer_reply(&Reply::Refused(refusal), writer, calls),
+        Err(fault) => answer_reply(&Reply::Refused(list_refusal(fault)), writer, calls),
     }
 }
 
@@ -201,14 +192,14 @@ fn taken_by(why: &ImportFault) -> bool
 }
 
 /// Imports an audit file and answers. No memory but the import's own is taken.
-fn answer_audit<W: Write, B: ListDesk>(
+fn answer_audit<W: Write, B: Books>(
     alloc: Global,
     file: &[u8],
     writer: &mut W,
     books: &mut B,
     calls: &mut IoCalls,
 ) -> Result<Served, Cut>
-    ensures went { (s : Stream) → Happens B.Issued B.rows books.old (Answered (FileComes file.now) s s []
+    ensures went { (s : Stream) → HappensBy B.Kept B.rows books.old (Answered (FileComes file.now) s s []
         (W.contents writer.old) (W.contents writer.new) result) books.new }
     ensures calls { CountsWrites calls.old calls.new (OnErr result) }
 {
@@ -226,7 +217,7 @@ fn answer_audit<W: Write, B: ListDesk>(
 }
 
 /// Carries out a command, or makes a list, and answers.
-fn answer_ask<W: Write, B: ListDesk, R: Rng>(
+fn answer_ask<W: Write, B: Walks, R: Rng>(
     alloc: Global,
     asked: &Ask,
     writer: &mut W,
@@ -234,7 +225,7 @@ fn answer_ask<W: Write, B: ListDesk, R: Rng>(
     source: &mut R,
     calls: &mut IoCalls,
 ) -> Result<Served, Cut>
-    ensures went { Happens B.Issued B.rows books.old (Answered (AskComes asked.now) (R.stream source.old)
+    ensures went { HappensBy B.Kept B.rows books.old (Answered (AskComes asked.now) (R.stream source.old)
         (R.stream source.new) []
         (W.contents writer.old) (W.contents writer.new) result) books.new }
     ensures calls { CountsWrites calls.old calls.new (OnErr result) }
@@ -246,7 +237,7 @@ fn answer_ask<W: Write, B: ListDesk, R: Rng>(
 }
 
 /// Carries out what a request asks for, and answers.
-fn answer_request<W: Write, B: ListDesk, R: Rng>(
+fn answer_request<W: Write, B: Walks, R: Rng>(
     alloc: Global,
     request: &Request,
     writer: &mut W,
@@ -254,7 +245,7 @@ fn answer_request<W: Write, B: ListDesk, R: Rng>(
     source: &mut R,
     calls: &mut IoCalls,
 ) -> Result<Served, Cut>
-    ensures went { Happens B.Issued B.rows books.old (Answered (TaskComes request.now.task request.now.body.items)
+    ensures went { HappensBy B.Kept B.rows books.old (Answered (TaskComes request.now.task request.now.body.items)
         (R.stream source.old) (R.stream source.new) []
         (W.contents writer.old) (W.contents writer.new) result) books.new }
     ensures calls { CountsWrites calls.old calls.new (OnErr result) }
@@ -267,7 +258,7 @@ fn answer_request<W: Write, B: ListDesk, R: Rng>(
 
 /// Reads one request, carries out what it asks for, and answers, as `serve_one` does. The caller made the table of
 /// routes, once for all its requests, and no memory is taken for it here. The reads and writes are added to the calls.
-pub fn serve_by<I: Read, W: Write, B: ListDesk, R: Rng>(
+pub fn serve_by<I: Read, W: Write, B: Walks, R: Rng>(
     alloc: Global,
     routes: &Routes,
     reader: &mut I,
@@ -276,12 +267,10 @@ pub fn serve_by<I: Read, W: Write, B: ListDesk, R: Rng>(
     source: &mut R,
     calls: &mut IoCalls,
 ) -> Result<Served, ServeFault>
-    ensures serves { ServesOver B.Issued B.rows R.stream (I.remaining reader.old) (W.contents writer.old)
+    ensures serves { ServesOver B.Kept B.rows R.stream (I.remaining reader.old) (W.contents writer.old)
         (W.contents writer.new) (books.old, source.old) (books.new, source.new) result }
-    ensures since { Since B.is_clean B.is_honest B.failures books.old books.new }
     ensures wanted { ReadsWhile WantsMore (I.remaining reader.old) (I.remaining reader.new) }
-    ensures reads_counted { CountsReads calls.old calls.new (OnErrOf result Read) }
-    ensures writes_counted { CountsWrites calls.old calls.new (IfUnwritten result) }
+    ensures calls { CountsCalls calls.old calls.new (OnErrOf result Read) (IfUnwritten result) }
 {
     match read_request(alloc, routes, reader, writer, calls)? {
         Ok(request) => Ok(answer_request(alloc, &request, writer, books, source, calls)?),
@@ -296,16 +285,15 @@ pub fn serve_by<I: Read, W: Write, B: ListDesk, R: Rng>(
 /// are written from buffers of fixed size, and a list's text is made whole before its answer begins. The interrupted
 /// reads and writes of the call are counted together; the thousandth is a fault. The writer is not flushed.
 #[tactic(auto, using(crate::proofs::RequestLemmas::none_read))]
-pub fn serve_one<I: Read, W: Write, B: ListDesk, R: Rng>(
+pub fn serve_one<I: Read, W: Write, B: Walks, R: Rng>(
     alloc: Global,
     reader: &mut I,
     writer: &mut W,
     books: &mut B,
     source: &mut R,
 ) -> Result<Served, ServeFault>
-    ensures serves { ServesOver B.Issued B.rows R.stream (I.remaining reader.old) (W.contents writer.old)
+    ensures serves { ServesOver B.Kept B.rows R.stream (I.remaining reader.old) (W.contents writer.old)
         (W.contents writer.new) (books.old, source.old) (books.new, source.new) result }
-    ensures since { Since B.is_clean B.is_honest B.failures books.old books.new }
     ensures wanted { ReadsWhile WantsMore (I.remaining reader.old) (I.remaining reader.new) }
 {
     let Ok(routes) = make_routes(alloc) else {

@@ -13,7 +13,7 @@ use Rattle.hotel_core.specs.declared.books.walks.WalkFault.{WalkFault}
 use Rattle.hotel_core.specs.declared.books.walks.WalkFault.TheVariants as walk
 use Rattle.hotel_lists.specs.{Bytes.AppendsFront, LineSink.SameEnds, LineSink.Gathers, LineSink.StopsAtWrite}
 use Rattle.hotel_lists.specs.{LineSink.Finishes, declared.lines.Lines.Lines}
-use Rattle.hotel_lists.specs.{declared.fault.ListFault.ListFault, Lines.StopsBy, Lines.is_answer, Lines.listed}
+use Rattle.hotel_lists.specs.{declared.fault.ListFault.ListFault, Lines.ListTold, Lines.StopsBy, Lines.listed}
 use Rattle.hotel_lists.specs.{Listings.IsFront, Listings.ListEnds, Listings.listing}
 use Rattle.hotel_lists.specs.declared.fault.ListFault.TheVariants as fault
 use Rattle.hotel_lists.proofs.{BytesLemmas.front_next, CallsLemmas.none_forgotten, CallsLemmas.then_none_forgotten}
@@ -38,53 +38,31 @@ then_same a b c h k = record {
   none_forgotten = then_none_forgotten a.calls.now b.calls.now c.calls.now h.none_forgotten k.none_forgotten;
 }
 
-err_is_ok : {A E : Type 0} {e : E} {a : A} → Err e ≡ Ok a → ⊥
-err_is_ok h = cc
-
-store_is_memory : {A : Type 0} → (the : Result A WalkFault) → the ≡ Err walk.Store → the ≡ Err walk.Memory → ⊥
-store_is_memory the h k = cc
-
--- a list is answered only where its walk didn't fail
-pub answered_walk : {W : Type 0} (contents : W → Option (List ℕ)) (b c : Lines W)
+-- a list told what its walk did
+pub walk_told : {W : Type 0} (contents : W → Option (List ℕ)) (b c : Lines W)
     (end result : Result (Unit {0}) WalkFault) (last : Result (Unit {0}) ListFault)
-    → Finishes contents b c end result → last ≡ listed result c.write_failed
-    → is_answer last ≡ true → failure_of end ≡ None
-answered_walk contents b c end result last f same k = by end result f (sym (ap is_answer same) ∙ k)
+    → Finishes contents b c end result → last ≡ listed result c.write_failed → ListTold last (failure_of end ∷ [])
+walk_told contents b c end result last f same =
+    subst (λ l. ListTold l (failure_of end ∷ [])) (sym same) (by end result f)
   where
-    stopped : (failed : Bool) → is_answer (listed (Err walk.Stopped) failed) ≡ true → ⊥
-    stopped true k = cc k
-    stopped false k = cc k
+    stopped : (failed : Bool) → ListTold (listed (Err walk.Stopped) failed) (None ∷ [])
+    stopped true = refl
+    stopped false = inl refl
+
+    of_err : (result : Result (Unit {0}) WalkFault) (why : WalkFault) → result ≡ Err why
+        → ListTold (listed (Err why) c.write_failed) (failure_of (Err why) ∷ [])
+        → ListTold (listed result c.write_failed) (failure_of (Err why) ∷ [])
+    of_err result why e t = subst (λ r. ListTold (listed r c.write_failed) (failure_of (Err why) ∷ [])) (sym e) t
 
     by : (end result : Result (Unit {0}) WalkFault) → Finishes contents b c end result
-        → is_answer (listed result c.write_failed) ≡ true → failure_of end ≡ None
-    by (Ok done) (Ok ended) f k = refl
-    by (Err walk.Stopped) (Ok ended) f k = refl
-    by (Err walk.Memory) (Ok ended) f k = absurd (err_is_ok (sym f.0))
-    by (Err walk.Store) (Ok ended) f k = absurd (err_is_ok (sym f.0))
-    by _ (Err walk.Memory) f k = cc k
-    by _ (Err walk.Store) f k = cc k
-    by _ (Err walk.Stopped) f k = absurd (stopped c.write_failed k)
-
--- a list fails by the store only where its walk did
-pub store_failed : {W : Type 0} (contents : W → Option (List ℕ)) (b c : Lines W)
-    (end result : Result (Unit {0}) WalkFault) (last : Result (Unit {0}) ListFault)
-    → Finishes contents b c end result → last ≡ listed result c.write_failed
-    → last ≡ Err fault.Store → end ≡ Err walk.Store
-store_failed contents b c end result last f same e = by end result f (sym same ∙ e)
-  where
-    stopped : (failed : Bool) → listed (Err walk.Stopped) failed ≡ Err fault.Store → ⊥
-    stopped true e = cc e
-    stopped false e = cc e
-
-    by : (end result : Result (Unit {0}) WalkFault)
-        → Finishes contents b c end result → listed result c.write_failed ≡ Err fault.Store → end ≡ Err walk.Store
-    by end (Ok done) f e = cc e
-    by end (Err walk.Memory) f e = cc e
-    by end (Err walk.Stopped) f e = absurd (stopped c.write_failed e)
-    by (Err walk.Store) (Err walk.Store) f e = refl
-    by (Err walk.Memory) (Err walk.Store) f e = absurd (store_is_memory (Err walk.Store) refl f.0)
-    by (Err walk.Stopped) (Err walk.Store) f e = cc f.0
-    by (Ok done) (Err walk.Store) f e = absurd (err_is_ok f.0)
+        → ListTold (listed result c.write_failed) (failure_of end ∷ [])
+    by (Err walk.Memory) result f = of_err result walk.Memory f.0 (inr ([], refl, refl))
+    by (Err walk.Store) result f = of_err result walk.Store f.0 ([], refl, refl)
+    by (Err walk.Stopped) result f = of_err result walk.Stopped f.0 (stopped c.write_failed)
+    by (Ok done) (Ok ended) f = (omega arith, refl)
+    by (Ok done) (Err walk.Stopped) f = stopped c.write_failed
+    by (Ok done) (Err walk.Memory) f = absurd f
+    by (Ok done) (Err walk.Store) f = absurd f
 
 -- of rows in two parts, and of one more row
 regroup : {R : Type 0} (sent held : List R) (row : R) (rest : List R)
@@ -207,9 +185,13 @@ module _ {W R : Type 0} (contents : W → Option (List ℕ)) (line : R → List 
       subst (λ (s : Lines W). s.calls.now.write_failed ≡ true) (sym f.1)
       (h.6.1.1 (stopped_for_write b.write_failed here))
   write_had_failed rows a b c (Ok done) (Err walk.Stopped) h f e = f.1 (stopped_for_write c.write_failed e)
-  write_had_failed rows a b c (Err walk.Memory) (Err walk.Stopped) h f e = f.1 (stopped_for_write c.write_failed e)
-  write_had_failed rows a b c (Err walk.Store) (Err walk.Stopped) h f e = f.1 (stopped_for_write c.write_failed e)
-  write_had_failed rows a b c _ _ h f e = cc
+  write_had_failed rows a b c (Ok done) (Ok ended) h f e = cc
+  write_had_failed rows a b c (Ok done) (Err walk.Memory) h f e = absurd f
+  write_had_failed rows a b c (Ok done) (Err walk.Store) h f e = absurd f
+  write_had_failed rows a b c (Err walk.Memory) result h f e =
+      let k = subst (λ r. listed r c.write_failed ≡ Err fault.Write) f.0 e in cc
+  write_had_failed rows a b c (Err walk.Store) result h f e =
+      let k = subst (λ r. listed r c.write_failed ≡ Err fault.Write) f.0 e in cc
 
   -- a list was written at the same writer and calls, and ends with Write only after a write that failed
   pub list_ended : (rows : List R) (a b c : Lines W)
@@ -244,6 +226,16 @@ module _ {W R : Type 0} (contents : W → Option (List ℕ)) (line : R → List 
   rest_stopped w header rows taken rest b c e (sent, held, all, written, gathered) f =
       stopped c.write_failed w (contents b.writer.now) (contents c.writer.now) header rows sent held rest b.gathered.now
       (e ∙ ap (λ l. l ++ rest) all) gathered written f.0
+
+  -- what was gathered before the walk failed isn't written
+  walk_failed : (w : Option (List ℕ)) (header : List ℕ) (rows taken rest : List R) (b c : Lines W)
+      → rows ≡ taken ++ rest → Stands w header taken b → c ≡ b
+      → (front : List ℕ) × IsFront (Some (listing header line rows)) front × Appends w (contents c.writer.now) front
+  walk_failed w header rows taken rest b c e (sent, held, all, written, gathered) same =
+      subst (λ (s : Lines W). (front : List ℕ) × IsFront (Some (listing header line rows)) front
+      × Appends w (contents s.writer.now) front) (sym same)
+      (front_ends line w (contents b.writer.now) header rows sent (held ++ rest)
+      (e ∙ ap (λ l. l ++ rest) all ∙ append_assoc sent held rest) written)
 
   rest_written : (w : Option (List ℕ)) (header : List ℕ) (rows : List R) (b c : Lines W)
       → Stands w header rows b → Appends (contents b.writer.now) (contents c.writer.now) b.gathered.now
@@ -282,22 +274,12 @@ module _ {W R : Type 0} (contents : W → Option (List ℕ)) (line : R → List 
   list_written w header rows handed a b c (Ok done) (Ok ended) first none e h f =
       whole_ends line w (contents c.writer.now) header rows
       (subst (λ rs. Appends w (contents c.writer.now) (list_text header line rs)) e
-      (rest_written w header handed b c (from_header w header handed a b first none h) f.1))
-  list_written w header rows handed a b c (Ok done) (Err walk.Memory) first none e h f = absurd (err_is_ok f.0)
-  list_written w header rows handed a b c (Ok done) (Err walk.Store) first none e h f = absurd (err_is_ok f.0)
-  list_written w header rows handed a b c (Err walk.Memory) (Err walk.Stopped) first none e h f =
-      rest_stopped w header rows h.0 h.1 b c (sym e ∙ h.2) (from_header w header h.0 a b first none h.3) f
-  list_written w header rows handed a b c (Err walk.Memory) (Err walk.Memory) first none e h f =
-      front_ends line w (contents c.writer.now) header rows h.0 h.1 (sym e ∙ h.2)
-      (rest_written w header h.0 b c (from_header w header h.0 a b first none h.3) f.1)
-  list_written w header rows handed a b c (Err walk.Memory) (Err walk.Store) first none e h f =
-      absurd (store_is_memory (Err walk.Store) refl f.0)
-  list_written w header rows handed a b c (Err walk.Memory) (Ok done) first none e h f = absurd (err_is_ok (sym f.0))
-  list_written w header rows handed a b c (Err walk.Store) (Err walk.Stopped) first none e h f =
-      rest_stopped w header rows h.0 h.1 b c (sym e ∙ h.2) (from_header w header h.0 a b first none h.3) f
-  list_written w header rows handed a b c (Err walk.Store) (Err walk.Store) first none e h f =
-      front_ends line w (contents c.writer.now) header rows h.0 h.1 (sym e ∙ h.2)
-      (rest_written w header h.0 b c (from_header w header h.0 a b first none h.3) f.1)
-  list_written w header rows handed a b c (Err walk.Store) (Err walk.Memory) first none e h f =
-      absurd (store_is_memory (Err walk.Store) refl (sym f.0))
-  list_written w header rows handed a b c (Err walk.Store) (Ok done) first none e h f = absurd (err_is_ok (sym f.0))
+      (rest_written w header handed b c (from_header w header handed a b first none h) f))
+  list_written w header rows handed a b c (Ok done) (Err walk.Memory) first none e h f = absurd f
+  list_written w header rows handed a b c (Ok done) (Err walk.Store) first none e h f = absurd f
+  list_written w header rows handed a b c (Err walk.Memory) result first none e h f =
+      subst (λ r. Ends line w (contents c.writer.now) header rows (listed r c.write_failed)) (sym f.0)
+      (walk_failed w header rows h.0 h.1 b c (sym e ∙ h.2) (from_header w header h.0 a b first none h.3) f.1)
+  list_written w header rows handed a b c (Err walk.Store) result first none e h f =
+      subst (λ r. Ends line w (contents c.writer.now) header rows (listed r c.write_failed)) (sym f.0)
+      (walk_failed w header rows h.0 h.1 b c (sym e ∙ h.2) (from_header w header h.0 a b first none h.3) f.1)

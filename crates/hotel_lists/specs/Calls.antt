@@ -26,3 +26,10 @@ pub record CountsReads (before after : Calls) (on_fault : Type 0 → Type 0) : T
 pub record CountsWrites (before after : Calls) (on_fault : Type 0 → Type 0) : Type 0 where
   pub failed : on_fault (after.write_failed ≡ true)
   pub none_forgotten : NoneForgotten before after
+
+-- The reads and writes of a call were counted: on the first fault a read failed, on the second one a write, and no call
+-- is forgotten.
+pub record CountsCalls (before after : Calls) (on_read on_write : Type 0 → Type 0) : Type 0 where
+  pub read : on_read (after.read_failed ≡ true)
+  pub write : on_write (after.write_failed ≡ true)
+  pub none_forgotten : NoneForgotten before after

@@ -1,5 +1,5 @@
 -- A sink that gathers the lines of rows and writes many of them by one write.
-use Rattle.std.specs.Prelude.{◌≡◌, ℕ, ◌⊎◌, true, List, [], ◌++◌, Option, Result, Err}
+use Rattle.std.specs.Prelude.{◌≡◌, ℕ, ◌⊎◌, true, List, [], ◌++◌, Option, Result, Ok, Err}
 use Rattle.std.specs.Io.KnownBytes.{Appends, Keeps}
 use Rattle.hotel_core.specs.declared.books.walks.WalkFault.{WalkFault}
 use Rattle.hotel_core.specs.declared.books.walks.WalkFault.TheVariants as walk
@@ -22,11 +22,12 @@ abbrev pub StopsAtWrite : {W : Type 0} → (W → Option (List ℕ)) → Lines W
 StopsAtWrite contents old new bytes = StopsBy new.write_failed (contents old.writer.now) (contents new.writer.now) bytes
     × (new.write_failed ≡ true → new.calls.now.write_failed ≡ true)
 
--- How a walk's end became that of the list: a sink that stopped was left so; another one wrote what it had gathered, or
--- stopped.
+-- How a walk's end became that of the list: after its last row the sink wrote what it had gathered, or stopped; after
+-- another end it was left as it was.
 abbrev pub Finishes : {W : Type 0} → (W → Option (List ℕ)) → Lines W → Lines W → Result (Unit {0}) WalkFault
     → Result (Unit {0}) WalkFault → Type 0
-Finishes contents old new (Err walk.Stopped) result = (result ≡ Err walk.Stopped) × (new ≡ old)
-Finishes contents old new end (Err walk.Stopped) = StopsAtWrite contents old new old.gathered.now
-Finishes contents old new end result =
-    (result ≡ end) × Appends (contents old.writer.now) (contents new.writer.now) old.gathered.now
+Finishes contents old new (Err why) result = (result ≡ Err why) × (new ≡ old)
+Finishes contents old new (Ok done) (Ok ended) =
+    Appends (contents old.writer.now) (contents new.writer.now) old.gathered.now
+Finishes contents old new (Ok done) (Err walk.Stopped) = StopsAtWrite contents old new old.gathered.now
+Finishes contents old new (Ok done) (Err why) = ⊥

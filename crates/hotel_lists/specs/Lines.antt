@@ -1,11 +1,12 @@
 -- The lines of the five lists, and how a sink of lines and a look-up of a room end.
-use Rattle.std.specs.Prelude.{ℕ, ◌≡◌, Bool, true, false, List, [], ◌∷◌, ◌++◌, codes, if◌then◌else◌, Option, Some, None}
-use Rattle.std.specs.Prelude.{Result, Ok, Err}
+use Rattle.std.specs.Prelude.{ℕ, ◌≡◌, ◌⊎◌, Bool, true, false, List, [], ◌∷◌, ◌++◌, codes, if◌then◌else◌, Option, Some}
+use Rattle.std.specs.Prelude.{None, Result, Ok, Err}
 use Rattle.std.specs.Fmt.{decimal}
 use Rattle.std.specs.Io.KnownBytes.{Keeps}
 use Rattle.csv.specs.Writing.{default_writer, row_text}
-use Rattle.keycard_rules.specs.{Rise.HasRisen, declared.issued.Issued.Ghosts as IssuedOf}
-use Rattle.keycard_rules.specs.{Since.Since, Called.WasCalled}
+use Rattle.keycard_rules.specs.{declared.kept.Kept.Ghosts as KeptOf, declared.issued.LookFault.LookFault}
+use Rattle.keycard_rules.specs.{Leaves.Leaves, Calls.LastCallFailed, Calls.NoCallFailed, Calls.Passes, Calls.Told}
+use Rattle.keycard_rules.specs.Calls.{all_answer}
 use Rattle.keycard_rules.specs.{Numerals.code_text, Note.Note, declared.note.Act.Act}
 use Rattle.keycard_rules.specs.declared.issued.LookFault.TheVariants as look
 use Rattle.keycard_rules.specs.declared.note.Act.TheVariants.{Entered, Left, Recoded}
@@ -89,20 +90,27 @@ listed (Err walk.Memory) write_failed = Err fault.Memory
 listed (Err walk.Store) write_failed = Err fault.Store
 listed (Err walk.Stopped) write_failed = if write_failed then Err fault.Write else Err fault.Memory
 
--- a list that ended so was answered: it was written in full, or its room isn't there
-abbrev pub is_answer : Result (Unit {0}) ListFault → Bool
-is_answer (Ok done) = true
-is_answer (Err fault.NoRoom) = true
-is_answer (Err _) = false
+-- What the calls of a list told that failed for this cause: the last one this. Memory of the list's own may have been
+-- wanting, which no call told.
+abbrev pub ListFailed : LookFault → Told → Type 0
+ListFailed look.Memory told = (all_answer told ≡ true) ⊎ LastCallFailed look.Memory told
+ListFailed look.Store told = LastCallFailed look.Store told
 
--- A list left of the books what a look-up may leave; where it was answered, they were asked, and are clean where they
--- are honest; the store fails only where a failure of the store was counted.
-pub record LooksAt {B : Type 0} (I : IssuedOf B) (old new : B) (result : Result (Unit {0}) ListFault) : Type 0 where
-  pub kept : I.is_clean new → I.is_kept old new
-  pub since : Since I.is_clean I.is_honest I.failures old new
-  pub vouched : I.is_honest new → is_answer result ≡ true → I.is_clean new
-  pub called : is_answer result ≡ true → WasCalled I old new
-  pub store : result ≡ Err fault.Store → HasRisen (I.failures old look.Store) (I.failures new look.Store)
+-- What the calls of a list told that ended so. One that was written in full, or whose room isn't there, made a call or
+-- more.
+abbrev pub ListTold : Result (Unit {0}) ListFault → Told → Type 0
+ListTold (Ok done) told = NoCallFailed told
+ListTold (Err fault.NoRoom) told = NoCallFailed told
+ListTold (Err fault.Memory) told = ListFailed look.Memory told
+ListTold (Err fault.Store) told = ListFailed look.Store told
+ListTold (Err fault.Write) told = all_answer told ≡ true
+
+-- A list made these calls of the books, which told what its end says, and left what was there.
+pub record LooksAt {B : Type 0} (K : KeptOf B) (old new : B) (result : Result (Unit {0}) ListFault) : Type 0 where
+  pub kept : K.is_clean new → K.is_kept old new
+  pub told : Told
+  pub calls : Passes (Leaves K) old told new
+  pub tells : ListTold result told
 
 -- no row and no header can have been written
 abbrev pub is_early : Result (Unit {0}) ListFault → Bool

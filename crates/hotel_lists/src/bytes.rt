@@ -2,6 +2,7 @@
 
 ghost use Rattle.std.specs.Prelude.{◌≡◌, IfSome, IsErrOf, ◌<◌, ◌≤◌, length, IfOk, OnOk, OnErr};
 ghost use Rattle.std.specs.Io.KnownBytes.{IsAtEnd};
+ghost use Rattle.hotel_lists.specs.Reads.{ReadsWhile};
 ghost use Rattle.hotel_lists.specs.Calls.{CountsReads, OnErrOf};
 ghost use Rattle.hotel_lists.specs.Bytes.{Writes, joined, ReadsOnto, ConsumesAtMost, whole_fault};
 ghost use Rattle.hotel_lists.specs.declared.bytes.ReadFault.TheVariants.{Read, Memory};
@@ -124,6 +125,7 @@ pub fn read_whole<R: Read>(
     ensures end { OnOk result (IsAtEnd (R.remaining reader.new)) }
     ensures large { IsErrOf result WholeFault.TooLarge → IfSome (R.remaining reader.old)
         (λ input. limit < length input) }
+    ensures wanted { ReadsWhile (λ came. length came ≤ limit) (R.remaining reader.old) (R.remaining reader.new) }
     ensures calls { CountsReads calls.old calls.new (OnErrOf result WholeFault.Read) }
 {
     let mut bytes = Vec::new(alloc);

@@ -63,18 +63,15 @@ impl<'a, W: Write> Lines<'a, W> {
         Ok(())
     }
 
-    /// Writes what is still gathered after a walk that ended so, where the sink itself didn't stop. It
-    /// answers how the list ended.
+    /// Writes what is still gathered after a walk that ended so, where it handed over all rows. After another end
+    /// nothing more is written, so that the list tells what its walk told. It answers how the list ended.
     pub(crate) fn finish(&mut self, end: Result<(), WalkFault>) -> Result<(), WalkFault>
         ensures same { SameEnds self.old self.new }
         ensures ends { Finishes W.contents self.old self.new end result }
     {
-        match end {
-            Ok(()) => self.write_gathered()?,
-            Err(WalkFault::Memory | WalkFault::Store) => self.write_gathered()?,
-            Err(WalkFault::Stopped) => {}
-        }
-        end
+        end?;
+        self.write_gathered()?;
+        Ok(())
     }
 }
 

@@ -22,7 +22,7 @@ pub(crate) trait Listing<B: Walks> {
 
     /// Walks over its rows.
     fn walk<S: Sink<Self::Row>>(&self, books: &mut B, sink: &mut S) -> Result<(), WalkFault>
-        ensures { WalksOver B.Issued takes_memory S.after S.after_stop
+        ensures { WalksOver B.Kept takes_memory S.after S.after_stop
             (rows self.now (B.rows books.old)) books.old books.new sink.old sink.new result };
 }
 

@@ -25,7 +25,7 @@ pub fn arrivals<B: Walks, W: Write>(
     ensures text { B.is_honest books.new → ListEnds [] (arrivals_listing (B.rows books.old) day) (W.contents writer.old)
         (W.contents writer.new) result }
     ensures no_room { result ≡ Err NoRoom → ⊥ }
-    ensures books { LooksAt B.Issued books.old books.new result }
+    ensures books { LooksAt B.Kept books.old books.new result }
 {
     write_arrivals(alloc, books, day, writer, &mut IoCalls::none())
 }
@@ -39,7 +39,7 @@ pub fn in_house<B: Walks, W: Write>(
     ensures text { B.is_honest books.new → ListEnds [] (in_house_listing (B.rows books.old)) (W.contents writer.old)
         (W.contents writer.new) result }
     ensures no_room { result ≡ Err NoRoom → ⊥ }
-    ensures books { LooksAt B.Issued books.old books.new result }
+    ensures books { LooksAt B.Kept books.old books.new result }
 {
     write_in_house(alloc, books, writer, &mut IoCalls::none())
 }
@@ -53,7 +53,7 @@ pub fn chain_of<B: Walks, W: Write>(
 ) -> Result<(), ListFault>
     ensures text { B.is_honest books.new → ListEnds [] (chain_listing (B.rows books.old) room) (W.contents writer.old)
         (W.contents writer.new) result }
-    ensures books { LooksAt B.Issued books.old books.new result }
+    ensures books { LooksAt B.Kept books.old books.new result }
 {
     write_chain_of(alloc, books, room, writer, &mut IoCalls::none())
 }
@@ -67,7 +67,7 @@ pub fn left_behind<B: Walks, W: Write>(
     ensures text { B.is_honest books.new → ListEnds [] (left_behind_listing (B.rows books.old)) (W.contents writer.old)
         (W.contents writer.new) result }
     ensures no_room { result ≡ Err NoRoom → ⊥ }
-    ensures books { LooksAt B.Issued books.old books.new result }
+    ensures books { LooksAt B.Kept books.old books.new result }
 {
     write_left_behind(alloc, books, writer, &mut IoCalls::none())
 }
@@ -81,7 +81,7 @@ pub fn audit_of<B: Walks, W: Write>(
 ) -> Result<(), ListFault>
     ensures text { B.is_honest books.new → ListEnds [] (audit_listing (B.rows books.old) room) (W.contents writer.old)
         (W.contents writer.new) result }
-    ensures books { LooksAt B.Issued books.old books.new result }
+    ensures books { LooksAt B.Kept books.old books.new result }
 {
     write_audit_of(alloc, books, room, writer, &mut IoCalls::none())
 }

@@ -34,7 +34,7 @@ const AUDIT: &[u8] = b"room,fit,count,kind,card,old,new,at\n";
 fn find_room<B: Walks>(books: &mut B, room: RoomNo) -> Result<(), ListFault>
     ensures room { B.is_honest books.new → FindsRoom (room_at (B.rows books.old) room) result }
     ensures unwritten { result ≡ Err Write → ⊥ }
-    ensures books { LooksAt B.Issued books.old books.new result }
+    ensures books { LooksAt B.Kept books.old books.new result }
 {
     match books.room(room) {
         Ok(Some(_)) => Ok(()),
@@ -57,7 +57,7 @@ fn write_rows<B: Walks, L: Listing<B>, W: Write>(
         (listing header.now L.Row.line (L.rows list.now (B.rows books.old)))) (W.contents writer.old)
         (W.contents writer.new) result }
     ensures no_room { result ≡ Err NoRoom → ⊥ }
-    ensures books { LooksAt B.Issued books.old books.new result }
+    ensures books { LooksAt B.Kept books.old books.new result }
     ensures calls { CountsWrites calls.old calls.new (OnErrOf result Write) }
 {
     write_bytes(writer, header, calls)?;
@@ -81,7 +81,7 @@ fn write_room_rows<B: Walks, L: Listing<B>, W: Write>(
     ensures text { B.is_honest books.new → ListEnds [] (of_room (is_some (room_at (B.rows books.old) room))
         (listing header.now L.Row.line (L.rows list.now (B.rows books.old)))) (W.contents writer.old)
         (W.contents writer.new) result }
-    ensures books { LooksAt B.Issued books.old books.new result }
+    ensures books { LooksAt B.Kept books.old books.new result }
     ensures calls { CountsWrites calls.old calls.new (OnErrOf result Write) }
 {
     find_room(books, room)?;
@@ -99,7 +99,7 @@ pub fn write_arrivals<B: Walks, W: Write>(
     ensures text { B.is_honest books.new → ListEnds [] (arrivals_listing (B.rows books.old) day) (W.contents writer.old)
         (W.contents writer.new) result }
     ensures no_room { result ≡ Err NoRoom → ⊥ }
-    ensures books { LooksAt B.Issued books.old books.new result }
+    ensures books { LooksAt B.Kept books.old books.new result }
     ensures calls { CountsWrites calls.old calls.new (OnErrOf result Write) }
 {
     write_rows(alloc, books, &Arrivals(day), ARRIVALS, writer, calls)
@@ -115,7 +115,7 @@ pub fn write_in_house<B: Walks, W: Write>(
     ensures text { B.is_honest books.new → ListEnds [] (in_house_listing (B.rows books.old)) (W.contents writer.old)
         (W.contents writer.new) result }
     ensures no_room { result ≡ Err NoRoom → ⊥ }
-    ensures books { LooksAt B.Issued books.old books.new result }
+    ensures books { LooksAt B.Kept books.old books.new result }
     ensures calls { CountsWrites calls.old calls.new (OnErrOf result Write) }
 {
     write_rows(alloc, books, &InHouse, HOUSE, writer, calls)
@@ -131,7 +131,7 @@ pub fn write_chain_of<B: Walks, W: Write>(
 ) -> Result<(), ListFault>
     ensures text { B.is_honest books.new → ListEnds [] (chain_listing (B.rows books.old) room) (W.contents writer.old)
         (W.contents writer.new) result }
-    ensures books { LooksAt B.Issued books.old books.new result }
+    ensures books { LooksAt B.Kept books.old books.new result }
     ensures calls { CountsWrites calls.old calls.new (OnErrOf result Write) }
 {
     write_room_rows(alloc, books, room, &ChainOf(room), CHAIN, writer, calls)
@@ -147,7 +147,7 @@ pub fn write_left_behind<B: Walks, W: Write>(
     ensures text { B.is_honest books.new → ListEnds [] (left_behind_listing (B.rows books.old)) (W.contents writer.old)
         (W.contents writer.new) result }
     ensures no_room { result ≡ Err NoRoom → ⊥ }
-    ensures books { LooksAt B.Issued books.old books.new result }
+    ensures books { LooksAt B.Kept books.old books.new result }
     ensures calls { CountsWrites calls.old calls.new (OnErrOf result Write) }
 {
     write_rows(alloc, books, &LeftBehind, BEHIND, writer, calls)
@@ -163,7 +163,7 @@ pub fn write_audit_of<B: Walks, W: Write>(
 ) -> Result<(), ListFault>
     ensures text { B.is_honest books.new → ListEnds [] (audit_listing (B.rows books.old) room) (W.contents writer.old)
         (W.contents writer.new) result }
-    ensures books { LooksAt B.Issued books.old books.new result }
+    ensures books { LooksAt B.Kept books.old books.new result }
     ensures calls { CountsWrites calls.old calls.new (OnErrOf result Write) }
 {
     write_room_rows(alloc, books, room, &AuditOf(room), AUDIT, writer, calls)

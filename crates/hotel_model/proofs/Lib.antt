@@ -7,3 +7,4 @@ pub mod Starts
 pub mod SoundRows
 pub mod Lifted
 pub mod LeadsOn
+pub mod Reissued

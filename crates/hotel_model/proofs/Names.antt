@@ -34,8 +34,8 @@ pub use Rattle.hotel_model.specs.Rows.{fit_at, fits_at}
 pub use Rattle.hotel_model.specs.Rows.{has_kind, last_fit, last_link_of, link_of_last_card, lock_place_of}
 pub use Rattle.hotel_model.specs.Rows.{newest_link_at, notes_at, or_else, room_is, rooms_of_kind}
 pub use Rattle.hotel_model.specs.RowsOf.{room_row, rows_of}
-pub use Rattle.hotel_model.specs.Run.{Ran, Reached, Runs, StandsFor, Steps, StepsIf, answered, any_answered, is_failed}
-pub use Rattle.hotel_model.specs.Run.{last_answered, run_on}
+pub use Rattle.hotel_model.specs.Run.{Ran, Reached, Runs, StandsFor, Steps, StepsIf, answered, is_failed}
+pub use Rattle.hotel_model.specs.Run.{run_on}
 pub use Rattle.hotel_model.specs.Sound.{IsSound, keys_in_order, passes_rules}
 pub use Rattle.hotel_model.specs.SoundCards.{are_neighbours, card_numbers, card_parties_there, code_is}
 pub use Rattle.hotel_model.specs.SoundCards.{code_rooms_there, codes_in_range, codes_listed, each_card}

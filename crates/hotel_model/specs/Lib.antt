@@ -63,6 +63,8 @@ pub mod Headline
 pub mod Leads
 -- What is proved of the definitions: they are what they say.
 pub mod Laws
+-- What is proved beside: what a reissue leaves, where an issued code is listed, and the limits.
+pub mod FurtherLaws
 -- The code's own terms, between the rows and the model.
 pub mod Refinement
 -- The worked scenarios, as they are computed.

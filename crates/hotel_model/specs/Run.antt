@@ -1,6 +1,5 @@
 -- Runs: commands one after the other, with their replies and the history that they make.
-use Rattle.std.specs.Prelude.{ℕ, ◌≡◌, Bool, true, false, not, List, [], ◌∷◌, Some, take, drop}
-use Rattle.std.specs.List.{list_any}
+use Rattle.std.specs.Prelude.{ℕ, ◌≡◌, Bool, true, false, List, [], ◌∷◌, Some, take, drop}
 use Rattle.rand_core.specs.Stream.{Stream}
 use Rattle.hotel_model.specs.declared.command.Command.{Command}
 use Rattle.hotel_model.specs.declared.reply.Reply.{Reply}
@@ -37,16 +36,6 @@ abbrev pub is_failed : Reply → Bool
 is_failed (reply.Refused Memory) = true
 is_failed (reply.Refused Store) = true
 is_failed _ = false
-
--- a reply stands here that isn't a failure
-abbrev pub any_answered : List Reply → Bool
-any_answered replies = list_any (λ reply. not (is_failed reply)) replies
-
--- the last of these replies isn't a failure
-abbrev pub last_answered : List Reply → Bool
-last_answered [] = false
-last_answered (reply ∷ []) = not (is_failed reply)
-last_answered (first ∷ reply ∷ replies) = last_answered (reply ∷ replies)
 
 -- A failed command: nothing happened, and the source moved by at most the words of its draw. Any other: the answer, its
 -- event, and the words that it examined.

@@ -1,5 +1,6 @@
 //! Laws of the model, which make no call: what a caller may rest on beside the contracts of the calls.
 ghost use Rattle.hotel_model.specs.{Headline.Assured, History.History};
+ghost use Rattle.hotel_model.specs.FurtherLaws.{CodesAreListed, LimitsAre, ReissuesKeep};
 ghost use Rattle.hotel_model.specs.{Laws.RunsAgree, Laws.RunsCompute, Laws.RunsJoin, Laws.RunsReach, Laws.StartsStand};
 ghost use Rattle.hotel_model.specs.{Run.Reached};
 ghost use Rattle.hotel_model.specs.{Sound.RulesAreTested, Refinement.Lift.AnswersLift, Refinement.Lift.ChangesFit};
@@ -43,4 +44,20 @@ pub fn rules_are_tested()
 /// Sound rows stand for a history.
 pub fn starts_stand()
     ensures { StartsStand }
+{}
+
+/// An accepted reissue leaves who is registered, and the stays.
+pub fn reissues_keep()
+    ensures { ReissuesKeep }
+{}
+
+/// The list of all issued codes has each code of each room, at its place, and no other: what fresh means is read off one
+/// list.
+pub fn codes_are_listed()
+    ensures { CodesAreListed }
+{}
+
+/// Rooms, numbers, kinds and guests have the limits that they should have.
+pub fn limits_are()
+    ensures { LimitsAre }
 {}

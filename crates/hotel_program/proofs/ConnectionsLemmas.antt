@@ -1,120 +1,128 @@
 -- Connections, one more at a time.
-use Rattle.std.proofs.Common.{◌≡◌, ◌∙◌, ℕ, Bool, List, [], ◌∷◌, ◌++◌, refl, sym, ap, subst, append_assoc, append-nil}
+use Rattle.std.proofs.Common.{◌≡◌, ◌∙◌, ℕ, Bool, List, [], ◌∷◌, ◌++◌, refl, sym, ap, subst}
 use Rattle.std.proofs.Common.{Option, Some, Result, Ok, Err, inl, inr}
 use Rattle.std.proofs.lemmas.Grind.{flat_map-append}
 use Rattle.rand_core.specs.Stream.{Stream}
-use Rattle.keycard_rules.specs.declared.issued.Issued.{Ghosts as IssuedOf}
-use Rattle.hotel_core.proofs.OfCode.Happens.{happens_as, happens_idle, happens_then}
-use Rattle.hotel_core.specs.Books.Happens.{Call, Happens, Told}
+use Rattle.keycard_rules.specs.{declared.kept.Kept.Ghosts as KeptOf, Leaves.Leaves, Calls.Passes}
+use Rattle.keycard_rules.proofs.CallsTogether.{passes_join, together}
+use Rattle.hotel_model.proofs.{Invariants.Assurance.assured, LeadsOn.leads_as}
 use Rattle.hotel_model.specs.History.{History}
+use Rattle.hotel_core.specs.Books.Happens.{Happens}
 use Rattle.hotel_model.specs.Rows.{Rows}
-use Rattle.hotel_model.specs.declared.reply.Refusal.{Refusal}
+use Rattle.hotel_core.specs.Books.Happens.{HappensBy}
 use Rattle.hotel_http.specs.Serve.{Answered, Comes, Serves}
 use Rattle.hotel_http.specs.declared.serve.Served.{Served}
 use Rattle.hotel_http.specs.declared.serve.ServeFault.{ServeFault}
 use Rattle.hotel_http.specs.declared.serve.ServeFault.TheVariants.{Closed, Read, Memory, Write}
+use Rattle.hotel_lists.specs.Calls.{Calls, CountsCalls, OnErrOf}
+use Rattle.hotel_http.specs.{Body.interim_where, Serve.IfUnwritten, Serve.ServesOver}
 use Rattle.hotel_program.specs.Faults.{TellsAll}
-use Rattle.hotel_program.specs.Connections.{AllCame, ConnectionCame, ConnectionEnd, ServesAll, connection_end, fault_in}
-use Rattle.hotel_program.specs.Connections.{faults_of}
+use Rattle.hotel_program.specs.Connections.{AllCame, ConnectionCame, ConnectionEnd, ConnectionHappens, ServersFollow}
+use Rattle.hotel_program.specs.Connections.{connection_end, fault_in, faults_of, serve_end}
 use Rattle.hotel_program.specs.declared.faults.Fault.{Fault}
+use Rattle.hotel_program.specs.declared.faults.Fault.TheVariants as fault
 
--- No connection was served.
-pub none_served : {S : Type 0} (I : IssuedOf S) (rows : S → Rows) (a : S) (s : Stream)
-    → Happens I rows a (ServesAll [] s s) a
-none_served I rows a s =
-    happens_idle I rows a (ServesAll [] s s) (λ told h none. ([], [], (refl, refl, refl, refl), none))
+module _ {S R : Type 0} (K : KeptOf S) (rows : S → Rows) (stream : R → Stream) where
+  -- Nothing was begun of a connection of which this is a way to end.
+  pub idle_served : (end : ConnectionEnd) (old new : S × R)
+      → ((h : History) (s : Stream) → ConnectionCame end h s [] h s) → new.0 ≡ old.0 → new.1 ≡ old.1
+      → ConnectionHappens K rows stream old end new
+  idle_served end old new came e f = record {
+    told = [];
+    happened = subst (λ (b : S). Happens K rows old.0 (λ h h'. ConnectionCame end h (stream old.1) [] h'
+        (stream new.1)) b) (sym e) (λ honest h reached stands. (
+          h,
+          reached,
+          stands,
+          subst (λ (r : R). ConnectionCame end h (stream old.1) [] h (stream r)) (sym f)
+              (came h (stream old.1)),
+          assured h reached,
+        ));
+    calls = e;
+  }
 
--- Of one connection this came.
-one_came : (end : ConnectionEnd) (s s' : Stream) (told : Told) (h h' : History)
-    (failed : List Refusal) (answered : List Call)
-    → ConnectionCame end h s failed answered h' s' → told failed answered → ServesAll (end ∷ []) s s' told h h'
-one_came end s s' told h h' failed answered came t = (
-  failed,
-  answered,
-  (
-    h',
-    s',
-    failed,
-    [],
-    answered,
-    [],
-    came,
-    (refl, refl, refl, refl),
-    sym (append-nil failed),
-    sym (append-nil answered),
-  ),
-  t,
-)
+  -- A request was served: where it wasn't begun, books and source are as they were.
+  pub request_served : (old new : S × R) (before : Bool → List ℕ) (known text text' : Option (List ℕ))
+      (result : Result Served ServeFault)
+      → Serves known text text' ((new.0 ≡ old.0) × (new.1 ≡ old.1))
+      (λ wanted awaited end. HappensBy K rows old.0
+      (Answered (Comes wanted) (stream old.1) (stream new.1) (before awaited) text text' end) new.0) result
+      → ConnectionHappens K rows stream old (Some result) new
+  request_served old new before known text text' (Ok served) went = record {
+    told = went.3.told;
+    happened = λ honest. leads_as (λ h h' a. (went.0, a.0, a.1, (a.2.0, a.2.1))) (went.3.happened honest);
+    calls = went.3.calls;
+  }
+  request_served old new before known text text' (Err (Write acted)) (inl went) = record {
+    told = went.3.told;
+    happened = λ honest. leads_as (λ h h' a. inl (went.0, a.0, a.1, a.2.0)) (went.3.happened honest);
+    calls = went.3.calls;
+  }
+  request_served old new before known text text' (Err (Write acted)) (inr went) =
+      idle_served (Some (Err (Write acted))) old new (λ h s. inr (went.1, (refl, refl, refl))) went.0.0 went.0.1
+  request_served old new before known text text' (Err Closed) went =
+      idle_served (Some (Err Closed)) old new (λ h s. (refl, refl, refl)) went.0.0 went.0.1
+  request_served old new before known text text' (Err Read) went =
+      idle_served (Some (Err Read)) old new (λ h s. (refl, refl, refl)) went.0.0 went.0.1
+  request_served old new before known text text' (Err Memory) went =
+      idle_served (Some (Err Memory)) old new (λ h s. (refl, refl, refl)) went.0.0 went.0.1
 
--- Nothing was begun of a connection of which this is a way to end.
-pub idle_served : {S R : Type 0} (I : IssuedOf S) (rows : S → Rows) (stream : R → Stream) (end : ConnectionEnd)
-    (old new : S) (source later : R)
-    → ((h : History) (s : Stream) → ConnectionCame end h s [] [] h s) → new ≡ old → later ≡ source
-    → Happens I rows old (ServesAll (end ∷ []) (stream source) (stream later)) new
-idle_served {S} {R} I rows stream end old new source later came e f =
-    subst (λ (b : S). Happens I rows old (ServesAll (end ∷ []) (stream source) (stream later)) b) (sym e)
-    (subst (λ (r : R). Happens I rows old (ServesAll (end ∷ []) (stream source) (stream r)) old) (sym f)
-    (happens_idle I rows old (ServesAll (end ∷ []) (stream source) (stream source))
-    (λ told h none. one_came end (stream source) (stream source) told h h [] [] (came h (stream source)) none)))
+  pub stream_served : (old new : S × R) (known text text' : Option (List ℕ)) (end : Result Served ServeFault)
+      → ServesOver K rows stream known text text' old new end → ConnectionHappens K rows stream old (Some end) new
+  stream_served old new known text text' end served =
+      request_served old new interim_where known text text' end served
 
--- A request was served: where it wasn't begun, books and source are as they were.
-pub request_served : {S R : Type 0} (I : IssuedOf S) (rows : S → Rows) (stream : R → Stream) (old new : S)
-    (source later : R) (before : Bool → List ℕ) (known text text' : Option (List ℕ)) (result : Result Served ServeFault)
-    → Serves known text text' ((new ≡ old) × (later ≡ source))
-    (λ wanted awaited end. Happens I rows old
-    (Answered (Comes wanted) (stream source) (stream later) (before awaited) text text' end) new) result
-    → Happens I rows old (ServesAll (Some result ∷ []) (stream source) (stream later)) new
-request_served I rows stream old new source later before known text text' (Ok served) went =
-    happens_as (λ told h h' a. one_came (Some (Ok served)) _ _ told h h' a.1 a.0.calls
-    (went.0, a.0, a.2, (a.3.0, a.3.1), refl) a.4) went.3
-request_served I rows stream old new source later before known text text' (Err (Write acted)) (inl went) =
-    happens_as (λ told h h' a. one_came (Some (Err (Write acted))) _ _ told h h' a.1 a.0.calls
-    (inl (went.0, a.0, a.2, a.3.0, refl)) a.4) went.3
-request_served I rows stream old new source later before known text text' (Err (Write acted)) (inr went) =
-    idle_served I rows stream (Some (Err (Write acted))) old new source later
-    (λ h s. inr (went.1, (refl, refl, refl, refl))) went.0.0 went.0.1
-request_served I rows stream old new source later before known text text' (Err Closed) went = idle_served I rows stream
-    (Some (Err Closed)) old new source later (λ h s. (refl, refl, refl, refl)) went.0.0 went.0.1
-request_served I rows stream old new source later before known text text' (Err Read) went =
-    idle_served I rows stream (Some (Err Read)) old new source later (λ h s. (refl, refl, refl, refl)) went.0.0 went.0.1
-request_served I rows stream old new source later before known text text' (Err Memory) went = idle_served I rows stream
-    (Some (Err Memory)) old new source later (λ h s. (refl, refl, refl, refl)) went.0.0 went.0.1
+  -- connections that were served one after the other
+  all_went : (old new : S × R) (ends : List ConnectionEnd) → Passes (ConnectionHappens K rows stream) old ends new
+      → HappensBy K rows old.0 (λ told h h'. AllCame ends h (stream old.1) told h' (stream new.1)) new.0
+  all_went old new [] p = record {
+    told = [];
+    happened = subst (λ (x : S × R). Happens K rows old.0 (λ h h'. AllCame [] h (stream old.1) [] h' (stream x.1)) x.0)
+        (sym p) (λ honest h reached stands.
+        (h, reached, stands, (refl, refl, refl), assured h reached));
+    calls = ap (λ (x : S × R). x.0) p;
+  }
+  all_went old new (end ∷ ends) p =
+      let rest = all_went p.0 new ends p.2 in
+      record {
+        told = p.1.told ++ rest.told;
+        happened = λ honest h reached stands.
+            let before = (together K p.0.0 new.0 rest.told rest.calls).since.was_honest honest in
+            let k = p.1.happened before h reached stands in
+            let l = rest.happened honest k.0 k.1 k.2 in
+            (l.0, l.1, l.2, (k.0, stream p.0.1, p.1.told, rest.told, k.3, l.3, refl), l.4);
+        calls = passes_join (Leaves K) old.0 p.0.0 new.0 p.1.told rest.told p.1.calls rest.calls;
+      }
 
--- connections and then others
-all_came : (first more : List ConnectionEnd) (h mid h' : History) (s t s' : Stream)
-    (failed others : List Refusal) (answered later : List Call)
-    → AllCame first h s failed answered mid t → AllCame more mid t others later h' s'
-    → AllCame (first ++ more) h s (failed ++ others) (answered ++ later) h' s'
-all_came [] more h mid h' s t s' failed others answered later came next =
-    let next = subst (λ (x : History). AllCame more x t others later h' s') came.2 next in
-    let next = subst (λ (x : Stream). AllCame more h x others later h' s') came.3 next in
-    let next = subst (λ (l : List Refusal). AllCame more h s (l ++ others) later h' s') (sym came.0) next in
-    subst (λ (l : List Call). AllCame more h s (failed ++ others) (l ++ later) h' s') (sym came.1) next
-all_came (end ∷ first) more h mid h' s t s' failed others answered later came next = (
-  came.0,
-  came.1,
-  came.2,
-  came.3 ++ others,
-  came.4,
-  came.5 ++ later,
-  came.6,
-  all_came first more came.0 mid h' came.1 t s' came.3 others came.5 later came.7 next,
-  ap (λ (l : List Refusal). l ++ others) came.8 ∙ append_assoc came.2 came.3 others,
-  ap (λ (l : List Call). l ++ later) came.9 ∙ append_assoc came.4 came.5 later,
-)
+  pub servers_follow : ServersFollow K rows stream
+  servers_follow old new ends p =
+      let went = all_went old new ends p in
+      record { went = went; leaves = together K old.0 new.0 went.told went.calls }
 
--- Connections and then others.
-pub then_served : {S : Type 0} {I : IssuedOf S} {rows : S → Rows} {a b c : S}
-    (first more : List ConnectionEnd) (s t s' : Stream)
-    → Happens I rows a (ServesAll first s t) b → Happens I rows b (ServesAll more t s') c
-    → Happens I rows a (ServesAll (first ++ more) s s') c
-then_served {I = I} {rows = rows} {a = a} {b = b} {c = c} first more s t s' =
-    happens_then (λ told one two h k h' join x y. (
-      x.0 ++ y.0,
-      x.1 ++ y.1,
-      all_came first more h k h' s t s' x.0 y.0 x.1 y.1 x.2 y.2,
-      join x.0 y.0 x.1 y.1 x.3 y.3,
-    ))
+-- a read that failed is told as that
+read_end : (end : Result Served ServeFault) → serve_end end ≡ Err fault.Read → end ≡ Err Read
+read_end (Ok served) e = absurd (cc)
+read_end (Err Closed) e = absurd (cc)
+read_end (Err Read) e = refl
+read_end (Err Memory) e = absurd (cc)
+read_end (Err (Write acted)) e = absurd (cc)
+
+-- so a write
+write_end : {P : Type 0} (end : Result Served ServeFault) → IfUnwritten end P → serve_end end ≡ Err fault.Write → P
+write_end (Ok served) p e = absurd (cc)
+write_end (Err Closed) p e = absurd (cc)
+write_end (Err Read) p e = absurd (cc)
+write_end (Err Memory) p e = absurd (cc)
+write_end (Err (Write acted)) p e = p
+
+pub calls_of : (before after : Calls) (end : Result Served ServeFault) (told : Result (Unit {0}) Fault)
+    → told ≡ serve_end end → CountsCalls before after (OnErrOf end Read) (IfUnwritten end)
+    → CountsCalls before after (OnErrOf told fault.Read) (OnErrOf told fault.Write)
+calls_of before after end told is counted = record {
+  read = λ e. counted.read (read_end end (sym is ∙ e));
+  write = λ e. write_end end counted.write (sym is ∙ e);
+  none_forgotten = counted.none_forgotten;
+}
 
 -- faults and then others
 told_both : {F : Type 0} (told : F → Fault → F → Type 0) (first more : List Fault) (old mid new : F)

@@ -3,6 +3,8 @@ pub mod ListRunLemmas
 pub mod AuditRunLemmas
 pub mod ProgramLemmas
 pub mod CommandLineLemmas
+pub mod CommandLineScenes
+pub mod WordsLemmas
 pub mod PlanLemmas
 pub mod ConnectionsLemmas
 pub mod ShutLemmas

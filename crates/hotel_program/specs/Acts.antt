@@ -1,38 +1,33 @@
 -- What the program's acts come to over books.
-use Rattle.std.specs.Prelude.{◌≡◌, ◌≤◌, ◌<◌, ℕ, Bool, true, false, List, ◌++◌, codes, length, take, Option, IfSome}
-use Rattle.std.specs.Prelude.{IfOk, IsErrOf, Result, Ok, Err}
+use Rattle.std.specs.Prelude.{◌≡◌, ℕ, Bool, true, false, List, ◌++◌, codes, length, Option, Result, Ok, Err}
 use Rattle.std.specs.Fmt.{decimal}
 use Rattle.std.specs.Io.KnownBytes.{Appends}
 use Rattle.rand_core.specs.Stream.{Stream}
-use Rattle.keycard_rules.specs.declared.issued.Issued.{Ghosts as IssuedOf}
-use Rattle.hotel_core.specs.Books.Happens.{Happens, IsOneCall}
-use Rattle.hotel_core.specs.Books.Passes.{Passes}
+use Rattle.keycard_rules.specs.{declared.kept.Kept.Ghosts as KeptOf, Calls.Passes}
+use Rattle.hotel_core.specs.Books.Stepped.{Stepped}
 use Rattle.hotel_model.specs.Rows.{Rows}
 use Rattle.hotel_model.specs.declared.command.Command.{Command}
 use Rattle.hotel_model.specs.declared.reply.Reply.{Reply}
 use Rattle.hotel_lists.specs.Bytes.{AppendsFront}
-use Rattle.hotel_lists.specs.Lines.{LooksAt, is_answer}
+use Rattle.hotel_lists.specs.Lines.{LooksAt}
 use Rattle.hotel_lists.specs.declared.fault.ListFault.{ListFault}
-use Rattle.hotel_core.specs.declared.asks.Ask.TheVariants as ask
 use Rattle.hotel_core.specs.declared.asks.ListAsk.{ListAsk}
 use Rattle.hotel_audit.specs.declared.answer.LineAnswer.{LineAnswer}
 use Rattle.hotel_audit.specs.declared.imports.ImportFault.{ImportFault}
-use Rattle.hotel_program.specs.Alone.AuditRuns.{audit_end, WritesAnswers, ImportEnds}
-use Rattle.hotel_program.specs.Alone.CommandRuns.{command_end, CommandEnds, WritesReply}
+use Rattle.hotel_audit.specs.{AuditFile.audit_lines, Import.Imports}
+use Rattle.hotel_program.specs.Alone.AuditRuns.{audit_end, WritesAnswers}
+use Rattle.hotel_program.specs.Alone.CommandRuns.{command_end, WritesReply}
 use Rattle.hotel_program.specs.Faults.{end_status, Tells, TellsAll}
-use Rattle.hotel_program.specs.Script.Lines.{answered_lines}
 use Rattle.hotel_program.specs.Alone.ListRuns.{AnswerEndsFor, list_end}
 use Rattle.hotel_program.specs.Program.{script_end}
-use Rattle.hotel_program.specs.Script.WholeScript.{LinesAnswered, LinesCut, IsInput, IfCut, IfUnbegun, NothingBegun}
-use Rattle.hotel_program.specs.Connections.{ConnectionEnd, ConnectionHappens, ServesAll, faults_of}
+use Rattle.hotel_program.specs.Script.WholeScript.{ScriptRan}
+use Rattle.hotel_program.specs.Connections.{ConnectionEnd, ConnectionHappens, faults_of}
 use Rattle.hotel_program.specs.declared.command_line.plan.DeskAct.{DeskAct}
 use Rattle.hotel_program.specs.declared.command_line.plan.DeskAct.TheVariants.{One, List as AList, Audit, Script, Serve}
 use Rattle.hotel_program.specs.declared.faults.Fault.{Fault}
 use Rattle.hotel_program.specs.declared.faults.Fault.TheVariants as fault
-use Rattle.hotel_program.specs.declared.script.TheConstants.{SCRIPT_LIMIT}
 use Rattle.hotel_program.specs.declared.script.ScriptEnd.{ScriptEnd}
 use Rattle.hotel_program.specs.declared.script.ScriptFault.{ScriptFault}
-use Rattle.hotel_program.specs.declared.script.ScriptFault.TheVariants.{TooLarge}
 
 -- What an act has to do with: books, a source, a writer, a taker of faults, and what is around the program.
 pub record Desk (S R W F E : Type 0) : Type 0 where
@@ -44,7 +39,7 @@ pub record Desk (S R W F E : Type 0) : Type 0 where
 
 -- What contracts see of these.
 pub record Views (S R W F E : Type 0) : Type 1 where
-  pub issued : IssuedOf S
+  pub kept : KeptOf S
   pub rows : S → Rows
   pub stream : R → Stream
   pub contents : W → Option (List ℕ)
@@ -55,10 +50,10 @@ abbrev pub desk : {S R W F E : Type 0} → S → R → W → F → E → Desk S 
 desk books source writer faults around =
     record { books = books; source = source; writer = writer; faults = faults; around = around }
 
-abbrev pub views : {S R W F E : Type 0} → IssuedOf S → (S → Rows) → (R → Stream) → (W → Option (List ℕ))
+abbrev pub views : {S R W F E : Type 0} → KeptOf S → (S → Rows) → (R → Stream) → (W → Option (List ℕ))
     → (F → Fault → F → Type 0) → (E → ℕ → Result (Unit {0}) Fault → E → Type 0) → Views S R W F E
-views issued rows stream contents told bound = record {
-  issued = issued;
+views kept rows stream contents told bound = record {
+  kept = kept;
   rows = rows;
   stream = stream;
   contents = contents;
@@ -76,16 +71,15 @@ abbrev pub OneEnds : {S R W F E : Type 0} → Views S R W F E → Command → �
 OneEnds v command status old new =
     (reply : Reply) × (write_failed : Bool) × EndsBy v (command_end reply write_failed) status old new
     × WritesReply (v.contents old.writer) (v.contents new.writer) reply write_failed
-    × CommandEnds v.issued v.rows command reply old.books new.books (v.stream old.source) (v.stream new.source)
+    × Stepped v.kept v.rows (old.books, v.stream old.source) (command, reply) (new.books, v.stream new.source)
     × (new.around ≡ old.around)
 
 -- A list: its text over the history.
 abbrev pub AListEnds : {S R W F E : Type 0} → Views S R W F E → ListAsk → ℕ → Desk S R W F E → Desk S R W F E → Type 0
 AListEnds v its_list status old new = (end : Result (Unit {0}) ListFault) × EndsBy v (list_end end) status old new
-    × (v.issued.is_honest new.books → AnswerEndsFor (v.rows old.books) its_list (v.contents old.writer)
+    × (v.kept.is_honest new.books → AnswerEndsFor (v.rows old.books) its_list (v.contents old.writer)
     (v.contents new.writer) end)
-    × LooksAt v.issued old.books new.books end
-    × IsOneCall v.issued old.books (ask.List its_list, is_answer end) new.books
+    × LooksAt v.kept old.books new.books end
     × (new.source ≡ old.source) × (new.around ≡ old.around)
 
 -- An audit file of these bytes: its lines one after the other, and their answers.
@@ -93,28 +87,15 @@ abbrev pub AuditEnds : {S R W F E : Type 0} → Views S R W F E → List ℕ →
 AuditEnds v bytes status old new = (outcome : Result (List LineAnswer) ImportFault) × (write_failed : Bool)
     × EndsBy v (audit_end outcome write_failed) status old new
     × WritesAnswers v.contents old.writer new.writer outcome write_failed
-    × ImportEnds v.issued v.rows bytes old.books new.books outcome
+    × Imports v.kept v.rows (audit_lines bytes) old.books new.books outcome
     × (new.source ≡ old.source) × (new.around ≡ old.around)
-
--- What came of a script that ended so, of which these bytes are known.
-pub record ScriptCame {S R W F E : Type 0} (v : Views S R W F E) (known : Option (List ℕ))
-    (end : Result ScriptEnd ScriptFault) (old new : Desk S R W F E) : Type 0 where
-  pub answered : IfOk end (λ script_end. (script : List ℕ) × IsInput known script
-      × (script_end.lines ≡ length (answered_lines script))
-      × LinesAnswered v.issued v.rows v.stream v.contents (old.books, old.source, old.writer) (answered_lines script)
-      (new.books, new.source, new.writer))
-  pub cut : IfCut end (λ done. (script : List ℕ) × IsInput known script × (1 ≤ done)
-      × (done ≤ length (answered_lines script))
-      × LinesCut v.issued v.rows v.stream v.contents (old.books, old.source, old.writer)
-      (take done (answered_lines script)) (new.books, new.source, new.writer))
-  pub unbegun : IfUnbegun end (NothingBegun old.books new.books old.source new.source old.writer new.writer)
-  pub large : IsErrOf end TooLarge → IfSome known (λ input. SCRIPT_LIMIT < length input)
 
 -- A script: its lines one after the other, each answered before the next.
 abbrev pub ScriptEnds : {S R W F E : Type 0} → Views S R W F E → Option (List ℕ) → ℕ → Desk S R W F E → Desk S R W F E
     → Type 0
 ScriptEnds v known status old new = (end : Result ScriptEnd ScriptFault) × EndsBy v (script_end end) status old new
-    × ScriptCame v known end old new × (new.around ≡ old.around)
+    × ScriptRan v.kept v.rows v.stream v.contents known (old.books, old.source, old.writer) end
+    (new.books, new.source, new.writer) × (new.around ≡ old.around)
 
 -- The line that says where connections are taken.
 abbrev pub listening_text : ℕ → List ℕ
@@ -124,8 +105,7 @@ listening_text port = codes "listening on 127.0.0.1:" ++ decimal port ++ codes "
 abbrev pub Serves : {S R W F E : Type 0} → Views S R W F E → ℕ → Desk S R W F E → Desk S R W F E → Type 0
 Serves v count old new =
     (ends : List ConnectionEnd) × (length ends ≡ count) × TellsAll v.told old.faults (faults_of ends) new.faults
-    × Happens v.issued v.rows old.books (ServesAll ends (v.stream old.source) (v.stream new.source)) new.books
-    × Passes (ConnectionHappens v.issued v.rows v.stream) (old.books, old.source) ends (new.books, new.source)
+    × Passes (ConnectionHappens v.kept v.rows v.stream) (old.books, old.source) ends (new.books, new.source)
 
 -- Books and source are as they were.
 abbrev pub Untouched : {S R W F E : Type 0} → Desk S R W F E → Desk S R W F E → Type 0

@@ -21,14 +21,15 @@ verb_leaf row = leaf row.0 (names_of row.1)
 
 -- An option that names a file, before the subcommand.
 abbrev pub option_rule : Text → Rule
-option_rule name = record (new_rule name) { long = Some name }
+option_rule name = record (new_rule name) { long = Some name; value_names = 1 }
 
--- The words before the subcommand, and that there must be one.
+-- The words before the subcommand, the version among them, and that there must be a subcommand.
 abbrev pub options : App
 options = record {
   top = record (new_shape (codes "hotel_desk")) {
     rules = option_rule (codes "db") ∷ option_rule (codes "seed-file") ∷ [];
     no_binary_name = true;
+    has_version = true;
     subcommand_required = true;
   };
   subs = [];

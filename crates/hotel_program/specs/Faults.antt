@@ -2,6 +2,7 @@
 use Rattle.std.specs.Prelude.{ℕ, ◌≡◌, ◌≢◌, List, [], ◌∷◌, ◌++◌, codes, Result, Ok, Err}
 use Rattle.hotel_asks.specs.Names.{name_text}
 use Rattle.hotel_audit.specs.Answers.{stopped_text}
+use Rattle.hotel_lists.specs.Calls.{Calls}
 use Rattle.hotel_rows.specs.declared.stored.TableName.{TableName}
 use Rattle.hotel_rows.specs.declared.stored.TableName.TheVariants as table
 use Rattle.hotel_program.specs.declared.faults.Fault.{Fault}
@@ -81,6 +82,11 @@ end_status (Err fault) = fault_status fault
 abbrev pub Tells : {F : Type 0} → (F → Fault → F → Type 0) → F → Result ℕ Fault → F → Type 0
 Tells told old (Ok status) new = new ≡ old
 Tells told old (Err fault) new = told old fault new
+
+-- The line of a fault was heard, where the reads and writes of the call that came to it went so.
+abbrev pub IsHeard : {F : Type 0} → (F → List ℕ → Calls → F → Type 0) → F → Result ℕ Fault → Calls → F → Type 0
+IsHeard heard old (Ok status) calls new = Unit {0}
+IsHeard heard old (Err fault) calls new = heard old (fault_text fault) calls new
 
 -- Faults were told, one after the other.
 abbrev pub TellsAll : {F : Type 0} → (F → Fault → F → Type 0) → F → List Fault → F → Type 0

@@ -1,18 +1,20 @@
 -- What the program does by its words.
-use Rattle.std.specs.Prelude.{◌≡◌, ◌↔◌, ℕ, Bool, true, false, List, [], Option, Some, None, Result, Ok, Err, IfOk}
+use Rattle.std.specs.Prelude.{◌≡◌, ◌⊎◌, ℕ, Bool, true, false, List, [], Option, Some, None, Result, Ok, Err, IfOk}
 use Rattle.std.specs.Prelude.{IfErr, codes, string_bytes}
 use Rattle.std.specs.Io.KnownBytes.{Appends}
-use Rattle.clap.specs.Words.{Text, first_of, matches_of, subcommand_of, takes}
+use Rattle.clap.specs.Words.{Text, fault_of, first_of, matches_of, subcommand_of}
 use Rattle.rand_core.specs.Steps.{steps_u32, stream_of}
 use Rattle.rand_chacha.specs.ChaCha.{ChaCha, of_seed, next_word}
-use Rattle.keycard_rules.specs.declared.issued.Issued.{Ghosts as IssuedOf}
+use Rattle.keycard_rules.specs.declared.kept.Kept.{Ghosts as KeptOf}
 use Rattle.hotel_core.specs.Memory.{Listed}
 use Rattle.hotel_model.specs.Rows.{Rows, no_rows}
 use Rattle.hotel_lists.specs.Bytes.{AppendsFront}
 use Rattle.hotel_program.specs.Acts.{ActEnds, Desk, Views}
 use Rattle.hotel_program.specs.CommandLine.{desk}
 use Rattle.hotel_program.specs.Faults.{fault_status}
-use Rattle.hotel_program.specs.Plans.{IsRefusalOf, IsValueOrMemory, act_in}
+use Rattle.hotel_program.specs.Plans.{HasOne, IsRefusalOf, IsShown, IsToldBy, IsWrong, act_in}
+use Rattle.hotel_asks.specs.declared.values.ValueFault.TheVariants as value
+use Rattle.hotel_asks.specs.declared.values.ValueName.{ValueName}
 use Rattle.hotel_program.specs.declared.command_line.plan.DeskAct.{DeskAct}
 use Rattle.hotel_program.specs.declared.command_line.plan.DeskAct.TheVariants.{Audit, Script}
 use Rattle.hotel_program.specs.declared.command_line.plan.Plan.{Plan}
@@ -36,14 +38,14 @@ pub record OuterViews (D W F E : Type 0) : Type 1 where
   pub file_read : E → List ℕ → Result (List ℕ) Fault → E → Type 0
   pub books_opened : E → List ℕ → Result D Fault → E → Type 0
   pub bound : E → ℕ → Result (Unit {0}) Fault → E → Type 0
-  pub in_memory : IssuedOf Listed
-  pub of_database : IssuedOf D
+  pub in_memory : KeptOf Listed
+  pub of_database : KeptOf D
   pub rows : D → Rows
 
 abbrev pub outer_views : {D W F E : Type 0} → (W → Option (List ℕ)) → (F → Fault → F → Type 0)
     → (F → List ℕ → F → Type 0) → (E → Option (List ℕ) → Result (List ℕ) Fault → E → Type 0)
     → (E → List ℕ → Result (List ℕ) Fault → E → Type 0) → (E → List ℕ → Result D Fault → E → Type 0)
-    → (E → ℕ → Result (Unit {0}) Fault → E → Type 0) → IssuedOf Listed → IssuedOf D → (D → Rows)
+    → (E → ℕ → Result (Unit {0}) Fault → E → Type 0) → KeptOf Listed → KeptOf D → (D → Rows)
     → OuterViews D W F E
 outer_views contents told shown seed_read file_read books_opened bound in_memory of_database rows = record {
   contents = contents;
@@ -60,7 +62,7 @@ outer_views contents told shown seed_read file_read books_opened bound in_memory
 
 abbrev pub memory_views : {D W F E : Type 0} → OuterViews D W F E → Views Listed ChaCha W F E
 memory_views v = record {
-  issued = v.in_memory;
+  kept = v.in_memory;
   rows = λ books. books.rows;
   stream = stream_of
       (steps_u32 (next_word 10));
@@ -71,7 +73,7 @@ memory_views v = record {
 
 abbrev pub database_views : {D W F E : Type 0} → OuterViews D W F E → Views D ChaCha W F E
 database_views v = record {
-  issued = v.of_database;
+  kept = v.of_database;
   rows = v.rows;
   stream = stream_of
       (steps_u32 (next_word 10));
@@ -144,11 +146,12 @@ PlanEnds {D} {W} {F} {E} v known plan status old new =
 
 -- The words give this plan, or this fault.
 pub record ParseTo (words : List Text) (parsed : Result Plan UsageFault) : Type 0 where
+  pub clean : IfOk parsed (λ p. fault_of desk words ≡ [])
   pub act : IfOk parsed (λ p. act_in (subcommand_of desk words) ≡ Some (Ok p.act))
   pub db : IfOk parsed (λ p. p.db ≡ first_of (codes "db") (matches_of desk words))
   pub seed : IfOk parsed (λ p. p.seed_file ≡ first_of (codes "seed-file") (matches_of desk words))
   pub value : IfErr parsed (IsRefusalOf (act_in (subcommand_of desk words)))
-  pub takes : takes desk words ≡ true → IfErr parsed IsValueOrMemory
+  pub told : IfErr parsed (IsToldBy (fault_of desk words))
 
 -- The words ask for a script, which alone reads what the reader has.
 abbrev pub AskForScript : List Text → Type 0
@@ -182,14 +185,28 @@ ParsedEnds v known
     status old new = UsageSaid v.contents v.told v.shown why status old.writer new.writer old.faults new.faults
     × (new.around ≡ old.around)
 
--- The words are faulty: they aren't those of the command line, or a value is refused.
-abbrev pub IsUsage : Result Plan UsageFault → Type 0
-IsUsage (Err (Usage text)) = Unit {0}
-IsUsage (Err (Value name)) = Unit {0}
-IsUsage _ = ⊥
+-- A value of words that have no other fault is refused.
+abbrev pub RefuseValue : List Text → Type 0
+RefuseValue words = (fault_of desk words ≡ [])
+    × (name : ValueName) × (act_in (subcommand_of desk words) ≡ Some (Err (value.Value name)))
 
--- The words were read, and what they ask for was carried out; the status is 2 exactly where they are faulty.
+-- The words are faulty: by the definition of `clap` they have a fault that isn't help or the version, or a value of
+-- theirs is refused.
+abbrev pub AreFaulty : List Text → Type 0
+AreFaulty words = HasOne IsWrong (fault_of desk words) ⊎ RefuseValue words
+
+-- Help or the version may be what the words ask for.
+abbrev pub AskForHelp : List Text → Type 0
+AskForHelp words = HasOne IsShown (fault_of desk words)
+
+-- What a status says of the words: 2 that they are faulty. Of faulty ones it is that, or 4 where memory was wanting;
+-- another only where help may be what they ask for.
+pub record StatusSays (words : List Text) (status : ℕ) : Type 0 where
+  pub faulty : status ≡ 2 → AreFaulty words
+  pub told : AreFaulty words → (status ≡ 2) ⊎ (status ≡ 4) ⊎ AskForHelp words
+
+-- The words were read, and what they ask for was carried out; status 2 says that they are faulty.
 abbrev pub WordsEnd : {D W F E : Type 0} → OuterViews D W F E → Option (List ℕ) → List Text → ℕ → Outer W F E
     → Outer W F E → Type 0
 WordsEnd v known words status old new = (parsed : Result Plan UsageFault) × ParseTo words parsed
-    × ParsedEnds v known parsed status old new × (status ≡ 2 ↔ IsUsage parsed)
+    × ParsedEnds v known parsed status old new × StatusSays words status

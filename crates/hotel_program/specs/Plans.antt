@@ -1,9 +1,12 @@
 -- What the words of a call ask for.
-use Rattle.std.specs.Prelude.{◌≡◌, ℕ, List, [], ◌∷◌, Option, Some, None, Result, Ok, Err, codes, if◌then◌else◌}
+use Rattle.std.specs.Prelude.{◌≡◌, ◌⊎◌, ℕ, List, [], ◌∷◌, Option, Some, None, Result, Ok, Err, codes, if◌then◌else◌}
 use Rattle.std.specs.Prelude.{option_map}
 use Rattle.std.specs.Option.{ok_or}
 use Rattle.std.specs.Str.{bytes_eq}
 use Rattle.clap.specs.Words.{Row, Text, first_of}
+use Rattle.clap.specs.Kinds.{IsAmong, Kinds}
+use Rattle.clap.specs.declared.error.kind.ErrorKind.{ErrorKind}
+use Rattle.clap.specs.declared.error.kind.ErrorKind.TheVariants as kind
 use Rattle.keycard_rules.specs.Numerals.{number_up_to}
 use Rattle.hotel_asks.specs.Asks.{ask_of}
 use Rattle.hotel_asks.specs.Names.{name_text, names_of}
@@ -105,3 +108,30 @@ IsValueOrMemory (Value name) = Unit {0}
 IsValueOrMemory Memory = Unit {0}
 IsValueOrMemory (Shown text) = ⊥
 IsValueOrMemory (Usage text) = ⊥
+
+-- What is asked for and shown: help, or the version.
+abbrev pub IsShown : ErrorKind → Type 0
+IsShown why = (why ≡ kind.DisplayHelp) ⊎ (why ≡ kind.DisplayVersion)
+
+-- Words of this kind aren't those of the command line.
+abbrev pub IsWrong : ErrorKind → Type 0
+IsWrong why = (IsShown why → ⊥) × (why ≡ kind.OutOfMemory → ⊥)
+
+-- The fault that an error of a kind is, where there is memory for its text.
+abbrev pub IsOf : ErrorKind → UsageFault → Type 0
+IsOf why (Shown text) = IsShown why
+IsOf why (Usage text) = IsWrong why
+IsOf why (Value name) = ⊥
+IsOf why Memory = Unit {0}
+
+-- Among the kinds of faults there is one that is so.
+abbrev pub HasOne : (ErrorKind → Type 0) → Kinds → Type 0
+HasOne is_so kinds = (why : ErrorKind) × IsAmong why kinds × is_so why
+
+-- These are the kinds of faults that the words have by the definition of `clap`, and the fault is of one of them; a
+-- value is refused of words that have none, and want of memory comes of any.
+abbrev pub IsToldBy : Kinds → UsageFault → Type 0
+IsToldBy kinds (Shown text) = HasOne IsShown kinds
+IsToldBy kinds (Usage text) = HasOne IsWrong kinds
+IsToldBy kinds (Value name) = kinds ≡ []
+IsToldBy kinds Memory = Unit {0}

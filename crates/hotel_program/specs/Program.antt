@@ -8,9 +8,9 @@ use Rattle.std.specs.declared.io.ErrorKind.TheVariants.{OutOfMemory}
 use Rattle.rand_core.specs.Stream.{Stream}
 use Rattle.rand_core.specs.Steps.{steps_u32, stream_of}
 use Rattle.rand_chacha.specs.ChaCha.{of_seed, next_word}
-use Rattle.hotel_model.specs.declared.reply.Refusal.{Refusal}
-use Rattle.hotel_core.specs.{Books.Failures.AreCounted, Books.Happens.Told}
-use Rattle.keycard_rules.specs.Rise.{of_memory}
+use Rattle.keycard_rules.specs.Calls.{Told}
+use Rattle.keycard_rules.specs.Rise.{times}
+use Rattle.keycard_rules.specs.declared.issued.LookFault.TheVariants as look
 use Rattle.hotel_model.specs.Rows.{no_rows}
 use Rattle.hotel_model.specs.History.{History, start}
 use Rattle.hotel_model.specs.Headline.{Assured}
@@ -48,13 +48,12 @@ IsNoText (Err why) = error_kind why ≢ OutOfMemory
 abbrev pub zero_seeded : Stream
 zero_seeded = stream_of (steps_u32 (next_word 10)) (of_seed (replicate SEED_BYTES 0))
 
--- This went over a new desk in memory: from no rows, a source of zeros and no failure, to a history of which what is
--- assured holds, while so many calls found no memory.
+-- This went over a new desk in memory: from no rows and a source of zeros to a history of which what is assured holds,
+-- by calls none of which told that the store failed.
 abbrev pub OverNewDesk : (Stream → Stream → Type 0 → Told → History → History → Type 0)
     → Type 0
-OverNewDesk went = (h : History) × (s : Stream) × (n : ℕ)
-    × went zero_seeded s ⊤ (λ failed answered. AreCounted (of_memory 0) (of_memory n) failed) (start no_rows) h
-    × Assured h
+OverNewDesk went = (h : History) × (s : Stream) × (told : Told) × went zero_seeded s ⊤ told (start no_rows) h
+    × (times look.Store told ≡ 0) × Assured h
 
 -- A script over a new desk ended so: all its lines were answered; after a failed write, its lines were cut short at
 -- one; after another fault the writer took nothing.

@@ -13,7 +13,7 @@ use crate::script::{ScriptEnd, ScriptFault, run_script};
 use crate::server::run_serve;
 use crate::statuses::DONE;
 use crate::surroundings::Surroundings;
-use hotel_asks::ListDesk;
+use hotel_core::Walks;
 use hotel_lists::IoCalls;
 use rand_core::Rng;
 use std::alloc::Global;
@@ -36,7 +36,7 @@ pub fn end_of_script(end: Result<ScriptEnd, ScriptFault>) -> Result<u8, Fault>
 /// Carries out an act over books, and tells the fault that came instead. `file` has the bytes of an audit file where
 /// that is what is asked
 /// for. It answers the exit status.
-pub fn run_act<B: ListDesk, R: Rng, I: Read, W: Write, F: FaultSink, E: Surroundings>(
+pub fn run_act<B: Walks, R: Rng, I: Read, W: Write, F: FaultSink, E: Surroundings>(
     alloc: Global,
     act: &DeskAct,
     file: &[u8],
@@ -47,7 +47,7 @@ pub fn run_act<B: ListDesk, R: Rng, I: Read, W: Write, F: FaultSink, E: Surround
     faults: &mut F,
     around: &mut E,
 ) -> u8
-    ensures ends { ActEnds (views B.Issued B.rows R.stream W.contents F.told E.port_bound)
+    ensures ends { ActEnds (views B.Kept B.rows R.stream W.contents F.told E.port_bound)
         (I.remaining reader.old) file.now act.now result
         (desk books.old source.old writer.old faults.old around.old)
         (desk books.new source.new writer.new faults.new around.new) }
@@ -59,8 +59,9 @@ pub fn run_act<B: ListDesk, R: Rng, I: Read, W: Write, F: FaultSink, E: Surround
         DeskAct::List(list) => run_list(alloc, list, books, writer, faults),
         DeskAct::Audit(_) => run_audit(alloc, file, books, writer, faults),
         DeskAct::Script => {
-            let end = run_script(alloc, reader, writer, books, source);
-            finish(end_of_script(end), faults, &mut IoCalls::none())
+            let mut calls = IoCalls::none();
+            let end = run_script(alloc, reader, writer, books, source, &mut calls);
+            finish(end_of_script(end), faults, &mut calls)
         }
         DeskAct::Serve { port, count } => {
             run_serve(alloc, *port, *count, books, source, writer, faults, around)

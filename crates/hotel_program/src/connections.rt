@@ -1,20 +1,22 @@
 //! Connections that are answered one after the other.
 
 ghost use Rattle.std.specs.Prelude.{◌≡◌, ◌∷◌, [], List, Result, Some, length};
-ghost use Rattle.hotel_core.specs.Books.Happens.{Happens};
-ghost use Rattle.hotel_core.specs.Books.Passes.{Passes};
-ghost use Rattle.hotel_lists.specs.Calls.{NoneForgotten};
+ghost use Rattle.keycard_rules.specs.Calls.{Passes};
+ghost use Rattle.hotel_lists.specs.Calls.{CountsCalls, NoneForgotten, OnErrOf};
+ghost use Rattle.hotel_lists.specs.Reads.{ReadsWhile};
+ghost use Rattle.hotel_http.specs.{Request.WantsMore, Serve.ServesOver};
 ghost use Rattle.hotel_http.specs.declared.serve.Served.{Served};
 ghost use Rattle.hotel_http.specs.declared.serve.ServeFault.{ServeFault};
 ghost use Rattle.hotel_program.specs.Faults.{TellsAll};
-ghost use Rattle.hotel_program.specs.Connections.{ConnectionEnd, ConnectionHappens, ServesAll, connection_end};
+ghost use Rattle.hotel_program.specs.declared.faults.Fault.TheVariants.{Read, Write};
+ghost use Rattle.hotel_program.specs.Connections.{ConnectionEnd, ConnectionHappens, connection_end};
 ghost use Rattle.hotel_program.specs.Connections.{faults_of, serve_end};
 
 use crate::faults::{Fault, FaultSink};
 use crate::statuses::DONE;
 use crate::timed::{TimedReader, TimedWriter, has_limits};
-use hotel_asks::ListDesk;
-use hotel_http::{Routes, ServeFault, Served, make_routes, serve_by, serve_one};
+use hotel_core::Walks;
+use hotel_http::{Routes, ServeFault, Served, make_routes, serve_by};
 use hotel_lists::IoCalls;
 use rand_core::Rng;
 use std::alloc::Global;
@@ -36,45 +38,50 @@ fn serve_end(end: Result<Served, ServeFault>) -> Result<(), Fault>
 }
 
 /// Answers the request of a connection, by the table of routes that was made for all connections. Where it wasn't made,
-/// the request
-/// makes its own.
-fn serve_stream<I: Read, W: Write, B: ListDesk, R: Rng>(
+/// the request makes its own. The reads and writes are added to the connection's.
+fn serve_stream<I: Read, W: Write, B: Walks, R: Rng>(
     alloc: Global,
     routes: Option<&Routes>,
     reader: &mut I,
     writer: &mut W,
     books: &mut B,
     source: &mut R,
+    calls: &mut IoCalls,
 ) -> Result<(), Fault>
-    ensures ends { (end : Result Served ServeFault) × (result ≡ serve_end end)
-        × Happens B.Issued B.rows books.old (ServesAll (Some end ∷ []) (R.stream source.old) (R.stream source.new))
-        books.new }
+    ensures serves { (end : Result Served ServeFault) × (result ≡ serve_end end)
+        × ServesOver B.Kept B.rows R.stream (I.remaining reader.old) (W.contents writer.old) (W.contents writer.new)
+        (books.old, source.old) (books.new, source.new) end }
+    ensures wanted { ReadsWhile WantsMore (I.remaining reader.old) (I.remaining reader.new) }
+    ensures calls { CountsCalls calls.old calls.new (OnErrOf result Read) (OnErrOf result Write) }
 {
     match routes {
         Some(routes) => {
-            let mut calls = IoCalls::none();
-            let end = serve_by(alloc, routes, reader, writer, books, source, &mut calls);
+            let end = serve_by(alloc, routes, reader, writer, books, source, calls);
             serve_end(end)
         }
-        None => {
-            let end = serve_one(alloc, reader, writer, books, source);
-            serve_end(end)
-        }
+        None => match make_routes(alloc) {
+            Ok(routes) => {
+                let end = serve_by(alloc, &routes, reader, writer, books, source, calls);
+                serve_end(end)
+            }
+            Err(_) => Err(Fault::Memory),
+        },
     }
 }
 
-/// Takes a connection and answers its request.
-fn serve_connection<B: ListDesk, R: Rng, C: Clock>(
+/// Takes a connection and answers its request. Its reads and writes are added to the calls.
+fn serve_connection<B: Walks, R: Rng, C: Clock>(
     alloc: Global,
     routes: Option<&Routes>,
     listener: &TcpListener,
     clock: &C,
     books: &mut B,
     source: &mut R,
+    calls: &mut IoCalls,
 ) -> Result<(), Fault>
     ensures ends { (end : ConnectionEnd) × (result ≡ connection_end end)
-        × Happens B.Issued B.rows books.old (ServesAll (end ∷ []) (R.stream source.old) (R.stream source.new))
-        books.new }
+        × ConnectionHappens B.Kept B.rows R.stream (books.old, source.old) end (books.new, source.new) }
+    ensures calls { CountsCalls calls.old calls.new (OnErrOf result Read) (OnErrOf result Write) }
 {
     let Ok((stream, _)) = listener.accept() else {
         return Err(Fault::Closed);
@@ -84,11 +91,19 @@ fn serve_connection<B: ListDesk, R: Rng, C: Clock>(
     }
     let mut reader = TimedReader::new(&stream, clock);
     let mut writer = TimedWriter::new(&stream, clock);
-    serve_stream(alloc, routes, &mut reader, &mut writer, books, source)
+    serve_stream(
+        alloc,
+        routes,
+        &mut reader,
+        &mut writer,
+        books,
+        source,
+        calls,
+    )
 }
 
 /// Takes a connection, answers its request, and tells the fault that came instead.
-fn serve_and_tell<B: ListDesk, R: Rng, F: FaultSink, C: Clock>(
+fn serve_and_tell<B: Walks, R: Rng, F: FaultSink, C: Clock>(
     alloc: Global,
     routes: Option<&Routes>,
     listener: &TcpListener,
@@ -99,11 +114,20 @@ fn serve_and_tell<B: ListDesk, R: Rng, F: FaultSink, C: Clock>(
     calls: &mut IoCalls,
 )
     ensures ends { (end : ConnectionEnd) × TellsAll F.told faults.old (faults_of (end ∷ [])) faults.new
-        × Happens B.Issued B.rows books.old (ServesAll (end ∷ []) (R.stream source.old) (R.stream source.new))
-        books.new }
+        × ConnectionHappens B.Kept B.rows R.stream (books.old, source.old) end (books.new, source.new) }
     ensures calls { NoneForgotten calls.old calls.new }
 {
-    if let Err(fault) = serve_connection(alloc, routes, listener, clock, books, source) {
+    let mut its_calls = IoCalls::none();
+    let served = serve_connection(
+        alloc,
+        routes,
+        listener,
+        clock,
+        books,
+        source,
+        &mut its_calls,
+    );
+    if let Err(fault) = served {
         faults.tell(&fault, calls);
     }
 }
@@ -113,7 +137,7 @@ fn serve_and_tell<B: ListDesk, R: Rng, F: FaultSink, C: Clock>(
 /// request's bytes and ten for its answer's, whatever pieces come in; then its peer is given up. The
 /// table of routes is made once, before the first connection; where memory for it was wanting, each
 /// request makes its own. It answers 0.
-pub fn serve_connections<B: ListDesk, R: Rng, F: FaultSink, C: Clock>(
+pub fn serve_connections<B: Walks, R: Rng, F: FaultSink, C: Clock>(
     alloc: Global,
     listener: &TcpListener,
     clock: &C,
@@ -125,8 +149,7 @@ pub fn serve_connections<B: ListDesk, R: Rng, F: FaultSink, C: Clock>(
     ensures status { result ≡ 0 }
     ensures ends { (ends : List ConnectionEnd) × (length ends ≡ count)
         × TellsAll F.told faults.old (faults_of ends) faults.new
-        × Happens B.Issued B.rows books.old (ServesAll ends (R.stream source.old) (R.stream source.new)) books.new
-        × Passes (ConnectionHappens B.Issued B.rows R.stream) (books.old, source.old) ends (books.new, source.new) }
+        × Passes (ConnectionHappens B.Kept B.rows R.stream) (books.old, source.old) ends (books.new, source.new) }
 {
     let made = make_routes(alloc).ok();
     let routes = made.as_ref();

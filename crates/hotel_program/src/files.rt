@@ -2,10 +2,11 @@
 
 ghost use Rattle.std.specs.Prelude.{◌≡◌, ◌<◌, ◌≤◌, ◌+◌, ◌-◌, length, take, Err, IfOk, IfErr, IfSome};
 ghost use Rattle.hotel_lists.specs.declared.bytes.TheConstants.{READ_BYTES};
-ghost use Rattle.hotel_http.specs.Reads.{ReadsWhile};
+ghost use Rattle.hotel_lists.specs.Calls.{CountsReads, OnErrOf};
+ghost use Rattle.hotel_lists.specs.Reads.{ReadsWhile};
 ghost use Rattle.hotel_program.specs.Faults.{IsOfFiles, IsOfReading, IsOfSeed};
 ghost use Rattle.hotel_program.specs.Files.{IsFront, read_fault};
-ghost use Rattle.hotel_program.specs.declared.faults.Fault.TheVariants.{Seed};
+ghost use Rattle.hotel_program.specs.declared.faults.Fault.TheVariants.{File, Seed};
 
 use crate::faults::Fault;
 use hotel_audit::AUDIT_BYTES;
@@ -16,16 +17,22 @@ use std::io::Read;
 /// How many bytes a seed has.
 pub const SEED_BYTES: usize = 32;
 
-/// Reads all the bytes that the reader has; or, where it has more than `most`, more than `most` of them.
-fn read_front<R: Read>(alloc: Global, reader: &mut R, most: usize) -> Result<Vec<u8>, ReadFault>
+/// Reads all the bytes that the reader has; or, where it has more than `most`, more than `most` of them. The reads are
+/// added to the calls.
+fn read_front<R: Read>(
+    alloc: Global,
+    reader: &mut R,
+    most: usize,
+    calls: &mut IoCalls,
+) -> Result<Vec<u8>, ReadFault>
     ensures front { IfOk result (λ bytes. IfSome (R.remaining reader.old) (IsFront most bytes.items)) }
     ensures few { IfOk result (λ bytes. length bytes.items ≤ most + READ_BYTES) }
     ensures wanted { ReadsWhile (λ came. length came ≤ most) (R.remaining reader.old) (R.remaining reader.new) }
+    ensures counted { CountsReads calls.old calls.new (OnErrOf result ReadFault.Read) }
 {
-    let mut calls = IoCalls::none();
     let mut bytes = Vec::new(alloc);
     while bytes.len() <= most {
-        let got = read_more(reader, &mut bytes, &mut calls)?;
+        let got = read_more(reader, &mut bytes, calls)?;
         if got == 0 {
             return Ok(bytes);
         }
@@ -44,15 +51,20 @@ fn read_fault(fault: ReadFault) -> Fault
 }
 
 /// The first `SEED_BYTES` that the reader has. Where it has fewer, that is the fault.
-pub fn seed_in<R: Read>(alloc: Global, reader: &mut R) -> Result<[u8; SEED_BYTES], Fault>
+pub fn seed_in<R: Read>(
+    alloc: Global,
+    reader: &mut R,
+    calls: &mut IoCalls,
+) -> Result<[u8; SEED_BYTES], Fault>
     ensures seed { IfOk result (λ seed. IfSome (R.remaining reader.old) (λ input. seed ≡ take SEED_BYTES input)) }
     ensures short { result ≡ Err Seed → IfSome (R.remaining reader.old) (λ input. length input < SEED_BYTES) }
     ensures wanted { ReadsWhile (λ came. length came ≤ SEED_BYTES - 1) (R.remaining reader.old)
         (R.remaining reader.new) }
     ensures fault { IfErr result IsOfFiles }
     ensures which { IfErr result IsOfSeed }
+    ensures counted { CountsReads calls.old calls.new (OnErrOf result File) }
 {
-    match read_front(alloc, reader, SEED_BYTES - 1) {
+    match read_front(alloc, reader, SEED_BYTES - 1, calls) {
         Ok(bytes) => match bytes.as_slice().first_chunk::<SEED_BYTES>() {
             Some(seed) => Ok(*seed),
             None => Err(Fault::Seed),
@@ -63,14 +75,19 @@ pub fn seed_in<R: Read>(alloc: Global, reader: &mut R) -> Result<[u8; SEED_BYTES
 
 /// The bytes of an audit file: all that the reader has; or, where it has more than such a file may have, more than
 /// that, so that it is known to have too many.
-pub fn audit_file_in<R: Read>(alloc: Global, reader: &mut R) -> Result<Vec<u8>, Fault>
+pub fn audit_file_in<R: Read>(
+    alloc: Global,
+    reader: &mut R,
+    calls: &mut IoCalls,
+) -> Result<Vec<u8>, Fault>
     ensures bytes { IfOk result (λ bytes. IfSome (R.remaining reader.old) (IsFront AUDIT_BYTES bytes.items)) }
     ensures few { IfOk result (λ bytes. length bytes.items ≤ AUDIT_BYTES + READ_BYTES) }
     ensures wanted { ReadsWhile (λ came. length came ≤ AUDIT_BYTES) (R.remaining reader.old) (R.remaining reader.new) }
     ensures fault { IfErr result IsOfFiles }
     ensures which { IfErr result IsOfReading }
+    ensures counted { CountsReads calls.old calls.new (OnErrOf result File) }
 {
-    match read_front(alloc, reader, AUDIT_BYTES) {
+    match read_front(alloc, reader, AUDIT_BYTES, calls) {
         Ok(bytes) => Ok(bytes),
         Err(why) => Err(read_fault(why)),
     }

@@ -20,7 +20,9 @@ pub use command_line::{DeskAct, FileName, Plan, UsageFault, parse_words};
 pub use connections::serve_connections;
 pub use faults::{Fault, FaultSink};
 pub use files::{SEED_BYTES, audit_file_in, seed_in};
-pub use laws::{shut_script_answers_nothing, shut_server_answers_nothing};
+pub use laws::{
+    scripts_happen, servers_follow, shut_script_answers_nothing, shut_server_answers_nothing,
+};
 pub use program::run_program;
 pub use script::{ScriptEnd, ScriptFault, run_script};
 pub use statuses::status_of;

@@ -3,7 +3,8 @@
 ghost use Rattle.std.specs.Prelude.{◌≡◌, ◌≢◌, Some, IfErr, Result, map, string_bytes};
 ghost use Rattle.std.specs.IoError.{error_kind};
 ghost use Rattle.std.specs.Result.{result_map_both};
-ghost use Rattle.hotel_program.specs.declared.faults.Fault.TheVariants.{Usage, Memory};
+ghost use Rattle.hotel_lists.specs.Calls.{CountsCalls, OnErrOf};
+ghost use Rattle.hotel_program.specs.declared.faults.Fault.TheVariants.{Usage, Memory, Read, Write};
 ghost use Rattle.hotel_program.specs.declared.command_line.plan.DeskAct.TheVariants.{Script};
 ghost use Rattle.hotel_program.specs.declared.script.ScriptEnd.{ScriptEnd};
 ghost use Rattle.hotel_program.specs.declared.script.ScriptFault.{ScriptFault};
@@ -19,10 +20,9 @@ use crate::files::SEED_BYTES;
 use crate::script::run_script;
 use crate::statuses::{DONE, USAGE};
 use crate::surroundings::{Databases, Surroundings};
-use hotel_asks::ListDesk;
-use hotel_core::{Books, ListBooks};
+use hotel_core::{Books, ListBooks, Walks};
 use hotel_lists::{IoCalls, WriteFailed, write_bytes};
-use keycard_rules::Issued;
+use keycard_rules::Kept;
 use rand_chacha::ChaCha20Rng;
 use rand_core::SeedableRng;
 use std::alloc::Global;
@@ -33,19 +33,21 @@ fn answer_script<I: Read, W: Write>(
     alloc: Global,
     reader: &mut I,
     writer: &mut W,
+    calls: &mut IoCalls,
 ) -> Result<u8, Fault>
-    ensures { (end : Result ScriptEnd ScriptFault) × (result ≡ script_end end)
+    ensures ends { (end : Result ScriptEnd ScriptFault) × (result ≡ script_end end)
         × EndsOverNewDesk W.contents (I.remaining reader.old) writer.old writer.new end }
+    ensures calls { CountsCalls calls.old calls.new (OnErrOf result Read) (OnErrOf result Write) }
 {
     let mut books = ListBooks::empty(alloc);
     books.known_sound();
     let mut source = ChaCha20Rng::from_seed([0; SEED_BYTES]);
-    let end = run_script(alloc, reader, writer, &mut books, &mut source);
+    let end = run_script(alloc, reader, writer, &mut books, &mut source, calls);
     end_of_script(end)
 }
 
 /// Carries out an act over empty books in memory.
-fn run_in_memory<I: Read, W: Write, F: FaultSink, B: ListDesk + Drop, E: Databases<B>>(
+fn run_in_memory<I: Read, W: Write, F: FaultSink, B: Walks + Drop, E: Databases<B>>(
     alloc: Global,
     act: &DeskAct,
     file: &[u8],
@@ -56,7 +58,7 @@ fn run_in_memory<I: Read, W: Write, F: FaultSink, B: ListDesk + Drop, E: Databas
     around: &mut E,
 ) -> u8
     ensures ends { InMemory (outer_views W.contents F.told F.shown E.seed_read E.file_read
-        E.books_opened E.port_bound ⟦<ListBooks as Issued>⟧ B.Issued B.rows)
+        E.books_opened E.port_bound ⟦<ListBooks as Kept>⟧ B.Kept B.rows)
         (I.remaining reader.old) act.now file.now source.old around.old result
         (record { writer = writer.old; faults = faults.old; around = around.old })
         (record { writer = writer.new; faults = faults.new; around = around.new }) }
@@ -70,7 +72,7 @@ fn run_in_memory<I: Read, W: Write, F: FaultSink, B: ListDesk + Drop, E: Databas
 }
 
 /// Carries out an act over the books of a database.
-fn run_on_database<I: Read, W: Write, F: FaultSink, B: ListDesk + Drop, E: Databases<B>>(
+fn run_on_database<I: Read, W: Write, F: FaultSink, B: Walks + Drop, E: Databases<B>>(
     alloc: Global,
     name: &FileName,
     act: &DeskAct,
@@ -82,7 +84,7 @@ fn run_on_database<I: Read, W: Write, F: FaultSink, B: ListDesk + Drop, E: Datab
     around: &mut E,
 ) -> u8
     ensures ends { OverBooks (outer_views W.contents F.told F.shown E.seed_read E.file_read
-        E.books_opened E.port_bound ⟦<ListBooks as Issued>⟧ B.Issued B.rows)
+        E.books_opened E.port_bound ⟦<ListBooks as Kept>⟧ B.Kept B.rows)
         (I.remaining reader.old) act.now file.now source.old (Some name.now) around.old result
         (record { writer = writer.old; faults = faults.old; around = around.old })
         (record { writer = writer.new; faults = faults.new; around = around.new }) }
@@ -101,7 +103,7 @@ fn run_on_database<I: Read, W: Write, F: FaultSink, B: ListDesk + Drop, E: Datab
 }
 
 /// Carries out an act over the books that are asked for: those of a database, or empty ones in memory.
-fn run_over_books<I: Read, W: Write, F: FaultSink, B: ListDesk + Drop, E: Databases<B>>(
+fn run_over_books<I: Read, W: Write, F: FaultSink, B: Walks + Drop, E: Databases<B>>(
     alloc: Global,
     plan: &Plan,
     file: &[u8],
@@ -112,7 +114,7 @@ fn run_over_books<I: Read, W: Write, F: FaultSink, B: ListDesk + Drop, E: Databa
     around: &mut E,
 ) -> u8
     ensures ends { OverBooks (outer_views W.contents F.told F.shown E.seed_read E.file_read
-        E.books_opened E.port_bound ⟦<ListBooks as Issued>⟧ B.Issued B.rows)
+        E.books_opened E.port_bound ⟦<ListBooks as Kept>⟧ B.Kept B.rows)
         (I.remaining reader.old) plan.now.act file.now source.old plan.now.db around.old result
         (record { writer = writer.old; faults = faults.old; around = around.old })
         (record { writer = writer.new; faults = faults.new; around = around.new }) }
@@ -149,7 +151,7 @@ fn audit_file<E: Surroundings>(
 /// Carries out a plan. The seed is read first, then an audit file, then the books are opened, and then a port is
 /// listened on; the first
 /// fault is told and ends it.
-fn run_plan<I: Read, W: Write, F: FaultSink, B: ListDesk + Drop, E: Databases<B>>(
+fn run_plan<I: Read, W: Write, F: FaultSink, B: Walks + Drop, E: Databases<B>>(
     alloc: Global,
     plan: &Plan,
     reader: &mut I,
@@ -158,7 +160,7 @@ fn run_plan<I: Read, W: Write, F: FaultSink, B: ListDesk + Drop, E: Databases<B>
     around: &mut E,
 ) -> u8
     ensures ends { PlanEnds (outer_views W.contents F.told F.shown E.seed_read E.file_read
-        E.books_opened E.port_bound ⟦<ListBooks as Issued>⟧ B.Issued B.rows)
+        E.books_opened E.port_bound ⟦<ListBooks as Kept>⟧ B.Kept B.rows)
         (I.remaining reader.old) plan.now result
         (record { writer = writer.old; faults = faults.old; around = around.old })
         (record { writer = writer.new; faults = faults.new; around = around.new }) }
@@ -206,7 +208,7 @@ fn say_usage<W: Write, F: FaultSink>(why: &UsageFault, writer: &mut W, faults: &
 }
 
 /// Carries out what the words ask for.
-fn run_words<I: Read, W: Write, F: FaultSink, B: ListDesk + Drop, E: Databases<B>>(
+fn run_words<I: Read, W: Write, F: FaultSink, B: Walks + Drop, E: Databases<B>>(
     alloc: Global,
     words: &[String],
     reader: &mut I,
@@ -215,7 +217,7 @@ fn run_words<I: Read, W: Write, F: FaultSink, B: ListDesk + Drop, E: Databases<B
     around: &mut E,
 ) -> u8
     ensures ends { WordsEnd (outer_views W.contents F.told F.shown E.seed_read E.file_read
-        E.books_opened E.port_bound ⟦<ListBooks as Issued>⟧ B.Issued B.rows)
+        E.books_opened E.port_bound ⟦<ListBooks as Kept>⟧ B.Kept B.rows)
         (I.remaining reader.old) (map string_bytes words.now) result
         (record { writer = writer.old; faults = faults.old; around = around.old })
         (record { writer = writer.new; faults = faults.new; around = around.new }) }
@@ -244,7 +246,7 @@ fn words_fault(why: &io::Error) -> Fault
 /// words it carries
 /// out what they ask for, over the surroundings `around`. A fault is told to `faults`; where that goes wrong, nobody
 /// hears of it.
-pub fn run_program<I: Read, W: Write, F: FaultSink, B: ListDesk + Drop, E: Databases<B>>(
+pub fn run_program<I: Read, W: Write, F: FaultSink, B: Walks + Drop, E: Databases<B>>(
     alloc: Global,
     words: io::Result<Vec<String>>,
     reader: &mut I,
@@ -260,7 +262,7 @@ pub fn run_program<I: Read, W: Write, F: FaultSink, B: ListDesk + Drop, E: Datab
         × Tells F.told faults.old (script_end end) faults.new
         × EndsOverNewDesk W.contents (I.remaining reader.old) writer.old writer.new end × (around.new ≡ around.old) }
     ensures words { IfWords words (λ texts. WordsEnd (outer_views W.contents F.told F.shown E.seed_read E.file_read
-        E.books_opened E.port_bound ⟦<ListBooks as Issued>⟧ B.Issued B.rows)
+        E.books_opened E.port_bound ⟦<ListBooks as Kept>⟧ B.Kept B.rows)
         (I.remaining reader.old) texts result
         (record { writer = writer.old; faults = faults.old; around = around.old })
         (record { writer = writer.new; faults = faults.new; around = around.new })) }
@@ -271,8 +273,9 @@ pub fn run_program<I: Read, W: Write, F: FaultSink, B: ListDesk + Drop, E: Datab
         Err(why) => return finish(Err(words_fault(&why)), faults, &mut IoCalls::none()),
     };
     if words.is_empty() {
-        let end = answer_script(alloc, reader, writer);
-        return finish(end, faults, &mut IoCalls::none());
+        let mut calls = IoCalls::none();
+        let end = answer_script(alloc, reader, writer, &mut calls);
+        return finish(end, faults, &mut calls);
     }
     run_words(alloc, &words, reader, writer, faults, around)
 }

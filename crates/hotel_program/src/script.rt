@@ -1,11 +1,10 @@
 //! Scripts: lines of commands and lists, each answered before the next.
 
-ghost use Rattle.std.specs.Prelude.{◌≡◌, ℕ, List, ◌≤◌, ◌<◌, length, take, IfSome, IfOk, IsErrOf, OnOk, OnErr};
-ghost use Rattle.hotel_lists.specs.Calls.{CountsWrites};
-ghost use Rattle.hotel_program.specs.declared.script.ScriptFault.TheVariants.{TooLarge};
+ghost use Rattle.std.specs.Prelude.{◌≡◌, ◌≤◌, length, take, IfOk, OnOk, OnErr};
+ghost use Rattle.hotel_lists.specs.{Calls.CountsCalls, Calls.CountsWrites, Calls.OnErrOf, Reads.ReadsWhile};
+ghost use Rattle.hotel_program.specs.declared.script.ScriptFault.TheVariants.{Read};
 ghost use Rattle.hotel_program.specs.Script.Lines.{answered_lines};
-ghost use Rattle.hotel_program.specs.Script.WholeScript.{IfCut, IfUnbegun, IsInput, NothingBegun, fault_of};
-ghost use Rattle.hotel_program.specs.Script.WholeScript.{LinesAnswered, LinesCut};
+ghost use Rattle.hotel_program.specs.Script.WholeScript.{IfCut, IfUnbegun, LinesAnswered, LinesCut, ScriptRan, fault_of};
 
 mod asks;
 mod line_answers;
@@ -17,7 +16,7 @@ mod words;
 
 use crate::script::line_answers::answer_line;
 use crate::script::lines::{first_line, is_silent, without_return};
-use hotel_asks::ListDesk;
+use hotel_core::Walks;
 use hotel_lists::{IoCalls, WholeFault, read_whole};
 use rand_core::Rng;
 use std::alloc::Global;
@@ -63,7 +62,7 @@ impl From<WholeFault> for ScriptFault {
 }
 
 /// Answers the lines of a script. Each answer is written before the next line is begun.
-fn answer_lines<W: Write, B: ListDesk, R: Rng>(
+fn answer_lines<W: Write, B: Walks, R: Rng>(
     alloc: Global,
     script: &[u8],
     writer: &mut W,
@@ -73,10 +72,10 @@ fn answer_lines<W: Write, B: ListDesk, R: Rng>(
 ) -> Result<ScriptEnd, ScriptFault>
     requires { length script.now ≤ SCRIPT_LIMIT }
     ensures count { IfOk result (λ script_end. script_end.lines ≡ length (answered_lines script.now)) }
-    ensures ok { OnOk result (LinesAnswered B.Issued B.rows R.stream W.contents
+    ensures ok { OnOk result (LinesAnswered B.Kept B.rows R.stream W.contents
         (books.old, source.old, writer.old) (answered_lines script.now) (books.new, source.new, writer.new)) }
     ensures cut { IfCut result (λ done. (1 ≤ done) × (done ≤ length (answered_lines script.now))
-        × LinesCut B.Issued B.rows R.stream W.contents (books.old, source.old, writer.old)
+        × LinesCut B.Kept B.rows R.stream W.contents (books.old, source.old, writer.old)
         (take done (answered_lines script.now)) (books.new, source.new, writer.new)) }
     ensures sure { IfUnbegun result ⊥ }
     ensures calls { CountsWrites calls.old calls.new (OnErr result) }
@@ -98,28 +97,22 @@ fn answer_lines<W: Write, B: ListDesk, R: Rng>(
 }
 
 /// Answers the lines of a script: all the bytes that the reader has. The whole script is read first;
-/// then each line is carried out and its answer written before the next line is begun. The
-/// interrupted reads and writes of the call are counted together, those of its lists among them; the
-/// thousandth is a fault. The writer is not flushed.
-pub fn run_script<I: Read, W: Write, B: ListDesk, R: Rng>(
+/// then each line is carried out and its answer written before the next line is begun. The reads and
+/// writes, those of its lists among them, are added to the caller's; the thousandth interrupted one is
+/// a fault. The writer is not flushed.
+pub fn run_script<I: Read, W: Write, B: Walks, R: Rng>(
     alloc: Global,
     reader: &mut I,
     writer: &mut W,
     books: &mut B,
     source: &mut R,
+    calls: &mut IoCalls,
 ) -> Result<ScriptEnd, ScriptFault>
-    ensures ok { IfOk result (λ script_end. (script : List ℕ) × IsInput (I.remaining reader.old) script
-        × (script_end.lines ≡ length (answered_lines script))
-        × LinesAnswered B.Issued B.rows R.stream W.contents (books.old, source.old, writer.old)
-        (answered_lines script) (books.new, source.new, writer.new)) }
-    ensures cut { IfCut result (λ done. (script : List ℕ) × IsInput (I.remaining reader.old) script × (1 ≤ done)
-        × (done ≤ length (answered_lines script))
-        × LinesCut B.Issued B.rows R.stream W.contents (books.old, source.old, writer.old)
-        (take done (answered_lines script)) (books.new, source.new, writer.new)) }
-    ensures unbegun { IfUnbegun result (NothingBegun books.old books.new source.old source.new writer.old writer.new) }
-    ensures large { IsErrOf result TooLarge → IfSome (I.remaining reader.old) (λ input. SCRIPT_LIMIT < length input) }
+    ensures ends { ScriptRan B.Kept B.rows R.stream W.contents (I.remaining reader.old)
+        (books.old, source.old, writer.old) result (books.new, source.new, writer.new) }
+    ensures wanted { ReadsWhile (λ came. length came ≤ SCRIPT_LIMIT) (I.remaining reader.old) (I.remaining reader.new) }
+    ensures calls { CountsCalls calls.old calls.new (OnErrOf result Read) (λ fact. IfCut result (λ _. fact)) }
 {
-    let mut calls = IoCalls::none();
-    let script = read_whole(alloc, reader, SCRIPT_LIMIT, &mut calls)?;
-    answer_lines(alloc, &script, writer, books, source, &mut calls)
+    let script = read_whole(alloc, reader, SCRIPT_LIMIT, calls)?;
+    answer_lines(alloc, &script, writer, books, source, calls)
 }

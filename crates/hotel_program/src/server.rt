@@ -7,7 +7,7 @@ ghost use Rattle.hotel_program.specs.Acts.{ServeEnds, desk, listening_text, view
 use crate::connections::serve_connections;
 use crate::faults::{Fault, FaultSink, finish};
 use crate::surroundings::Surroundings;
-use hotel_asks::ListDesk;
+use hotel_core::Walks;
 use hotel_lists::{IoCalls, WriteFailed, write_parts};
 use rand_core::Rng;
 use std::alloc::Global;
@@ -44,7 +44,7 @@ fn write_listening<W: Write>(
 /// Listens on a port of the loopback address, says so, and answers so many connections, one after the other. It answers
 /// the exit
 /// status: 0, or 5 where the port couldn't be had or the line couldn't be written; then none is answered.
-pub fn run_serve<B: ListDesk, R: Rng, W: Write, F: FaultSink, E: Surroundings>(
+pub fn run_serve<B: Walks, R: Rng, W: Write, F: FaultSink, E: Surroundings>(
     alloc: Global,
     port: u16,
     count: u32,
@@ -54,7 +54,7 @@ pub fn run_serve<B: ListDesk, R: Rng, W: Write, F: FaultSink, E: Surroundings>(
     faults: &mut F,
     around: &mut E,
 ) -> u8
-    ensures ends { ServeEnds (views B.Issued B.rows R.stream W.contents F.told E.port_bound) port count result
+    ensures ends { ServeEnds (views B.Kept B.rows R.stream W.contents F.told E.port_bound) port count result
         (desk books.old source.old writer.old faults.old around.old)
         (desk books.new source.new writer.new faults.new around.new) }
     ensures no_usage { result ≢ 2 }

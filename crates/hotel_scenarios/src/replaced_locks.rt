@@ -1,7 +1,7 @@
 //! The worked scenarios of locks that are replaced: notes by the lock that they are of, and a room's last lock.
 use crate::desks::Desk;
 use crate::scenarios::{CHECKED_IN, OPENED, Scenario, Step, TAKEN_TWICE, TWO_NOTES};
-use hotel_asks::ListDesk;
+use hotel_core::Walks;
 use std::alloc::Global;
 use std::test::Fail;
 
@@ -233,7 +233,7 @@ pub static OF_REPLACED_LOCKS: [Scenario; 5] = [
 
 /// Scenario `fits-used-up` over these empty books: whether a room gets 98 locks after its first one, each with the code
 /// of its number, and no more.
-pub fn fits_are_used_up<B: ListDesk + Drop>(alloc: Global, books: B) -> Result<bool, Fail> {
+pub fn fits_are_used_up<B: Walks + Drop>(alloc: Global, books: B) -> Result<bool, Fail> {
     let mut codes = Vec::new(alloc);
     for code in 1..=100u64 {
         codes.push(code)?;

@@ -1,13 +1,13 @@
 //! What the books say of room 101, and what an audit file's lines are answered.
 use crate::desks::room;
-use hotel_asks::ListDesk;
 use hotel_audit::{LineAnswer, answer_text, import};
-use hotel_core::{Books, FitRow};
-use keycard_rules::{CardNo, Code, Count, FitNo, LockNote, PartyNo, RoomNo};
+use hotel_core::{Books, FitRow, RoomRow, Walks};
+use hotel_nights::Stay;
+use keycard_rules::{Card, CardNo, Code, Count, FitNo, LockNote, PartyNo, RoomNo};
 use std::alloc::Global;
 use std::test::Fail;
 
-/// What the books say of room 101.
+/// What the books say of room 101, of the stays of its kind and of all cards.
 #[derive(Drop, PartialEq)]
 pub struct RoomNow {
     pub lock_place: u32,
@@ -17,6 +17,8 @@ pub struct RoomNow {
     pub inside: Vec<CardNo>,
     pub fits: Vec<FitRow>,
     pub notes: Vec<LockNote>,
+    pub stays: Vec<Stay>,
+    pub cards: Vec<Card>,
 }
 
 /// The room's first codes, so many.
@@ -80,6 +82,17 @@ fn notes_of<B: Books>(
     Ok(notes)
 }
 
+/// All cards, which are fewer than there are numbers.
+fn all_cards<B: Books>(alloc: Global, books: &mut B) -> Result<Vec<Card>, Fail> {
+    let next = books.next_numbers()?.card.ok_or("no number")?;
+    let mut cards = Vec::new(alloc);
+    for number in 1..next.value() {
+        let number = CardNo::new(number).ok_or("no card number")?;
+        cards.push(books.card(number)?.ok_or("no card")?)?;
+    }
+    Ok(cards)
+}
+
 /// How many notes of room 101 the books have.
 pub fn note_count<B: Books>(books: &mut B) -> Result<u32, Fail> {
     let room = room(101)?;
@@ -88,14 +101,14 @@ pub fn note_count<B: Books>(books: &mut B) -> Result<u32, Fail> {
 }
 
 impl RoomNow {
-    /// What these books say.
-    pub fn of<B: Books>(alloc: Global, books: &mut B) -> Result<RoomNow, Fail> {
-        let room = room(101)?;
-        let row = books.room(room)?.ok_or("no row")?;
-        let codes = codes_of(alloc, books, room, row.codes)?;
-        let fits = fits_of(alloc, books, room, row.fit)?;
+    /// What these books say of the room with this row.
+    fn of_row<B: Books>(alloc: Global, books: &mut B, row: &RoomRow) -> Result<RoomNow, Fail> {
+        let codes = codes_of(alloc, books, row.room, row.codes)?;
+        let fits = fits_of(alloc, books, row.room, row.fit)?;
         let notes = notes_of(alloc, books, fits.as_slice(), row.notes)?;
-        let inside = books.inside(room)?;
+        let inside = books.inside(row.room)?;
+        let stays = books.stays_of_kind(&row.kind)?;
+        let cards = all_cards(alloc, books)?;
         Ok(RoomNow {
             lock_place: row.lock_place,
             secured: row.secured,
@@ -104,7 +117,17 @@ impl RoomNow {
             inside,
             fits,
             notes,
+            stays,
+            cards,
         })
+    }
+
+    /// What these books say; nothing where the room isn't there.
+    pub fn of<B: Books>(alloc: Global, books: &mut B) -> Result<Option<RoomNow>, Fail> {
+        match books.room(room(101)?)? {
+            Some(row) => Ok(Some(RoomNow::of_row(alloc, books, &row)?)),
+            None => Ok(None),
+        }
     }
 }
 
@@ -120,11 +143,7 @@ fn texts_of(alloc: Global, answers: &[LineAnswer]) -> Result<Vec<u8>, Fail> {
 }
 
 /// The texts of the answers to a file's lines.
-pub fn answers_to<B: ListDesk>(
-    alloc: Global,
-    books: &mut B,
-    bytes: &[u8],
-) -> Result<Vec<u8>, Fail> {
+pub fn answers_to<B: Walks>(alloc: Global, books: &mut B, bytes: &[u8]) -> Result<Vec<u8>, Fail> {
     let Ok(answers) = import(alloc, books, bytes) else {
         return Err(Fail::from("stopped"));
     };

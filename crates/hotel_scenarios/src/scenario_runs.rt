@@ -2,14 +2,16 @@
 use crate::desks::{Desk, words_of};
 use crate::line_asks::ask_of;
 use crate::scenarios::{Scenario, Step};
-use hotel_asks::{Ask, ListDesk};
+use hotel_asks::Ask;
+use hotel_core::Walks;
+use hotel_lists::IoCalls;
 use hotel_program::{ScriptEnd, run_audit, run_list, run_script};
 use keycard_rules::ListedWords;
 use std::alloc::Global;
 use std::test::Fail;
 
 /// A desk over these books, and a source of words that give these codes, and then the last one for ever.
-pub fn desk_of<B: ListDesk + Drop>(
+pub fn desk_of<B: Walks + Drop>(
     alloc: Global,
     books: B,
     codes: &[u64],
@@ -25,7 +27,7 @@ pub fn desk_of<B: ListDesk + Drop>(
     })
 }
 
-impl<B: ListDesk> Desk<B> {
+impl<B: Walks> Desk<B> {
     /// Answers a line of a script.
     fn line(&mut self, line: &[u8], writer: &mut Vec<u8>) -> Result<(), Fail> {
         let mut reader = line;
@@ -35,6 +37,7 @@ impl<B: ListDesk> Desk<B> {
             writer,
             &mut self.books,
             &mut self.source,
+            &mut IoCalls::none(),
         ) {
             Ok(ScriptEnd { lines: 1 }) => Ok(()),
             _ => Err(Fail::from("no line")),
@@ -98,7 +101,7 @@ pub fn expected(step: &Step) -> (&'static [u8], &'static [u8], u8) {
 }
 
 /// Whether the step comes to what it says.
-pub fn step_holds<B: ListDesk>(desk: &mut Desk<B>, step: &Step) -> Result<bool, Fail> {
+pub fn step_holds<B: Walks>(desk: &mut Desk<B>, step: &Step) -> Result<bool, Fail> {
     let mut writer = Vec::new(desk.alloc);
     let mut faults = Vec::new(desk.alloc);
     let status = desk.carry_out(step, &mut writer, &mut faults)?;
@@ -107,11 +110,7 @@ pub fn step_holds<B: ListDesk>(desk: &mut Desk<B>, step: &Step) -> Result<bool, 
 }
 
 /// The steps of a part of this scenario hold in turn, or the test fails by its name.
-fn part_holds<B: ListDesk>(
-    desk: &mut Desk<B>,
-    part: &[Step],
-    name: &'static str,
-) -> Result<(), Fail> {
+fn part_holds<B: Walks>(desk: &mut Desk<B>, part: &[Step], name: &'static str) -> Result<(), Fail> {
     for step in part {
         if !step_holds(desk, step)? {
             return Err(Fail::from(name));
@@ -121,7 +120,7 @@ fn part_holds<B: ListDesk>(
 }
 
 /// The scenario holds over these empty books, or the test fails by its name.
-pub fn scenario_holds<B: ListDesk + Drop>(
+pub fn scenario_holds<B: Walks + Drop>(
     alloc: Global,
     books: B,
     scenario: &Scenario,

@@ -3,7 +3,7 @@ use crate::desks::Desk;
 use crate::replaced_locks::{LATE_NOTES, REPLACED};
 use crate::rooms_now::{RoomNow, answers_to, note_count};
 use crate::scenarios::{CHECKED_IN, CUT_LAST_LINE, LISTED_NOTES, OPENED, Step, TWO_NOTES};
-use hotel_asks::ListDesk;
+use hotel_core::Walks;
 use std::alloc::Global;
 use std::test::Fail;
 
@@ -116,7 +116,7 @@ impl Sent {
 }
 
 /// What the books say after the whole file, sent once.
-fn once(alloc: Global, sent: &Sent) -> Result<RoomNow, Fail> {
+fn once(alloc: Global, sent: &Sent) -> Result<Option<RoomNow>, Fail> {
     let mut desk = sent.desk(alloc)?;
     answers_to(alloc, &mut desk.books, sent.file)?;
     RoomNow::of(alloc, &mut desk.books)
@@ -124,7 +124,7 @@ fn once(alloc: Global, sent: &Sent) -> Result<RoomNow, Fail> {
 
 /// After so many answered lines the file comes again: whether the answered lines stand, the others are answered for,
 /// and the tables are those of the whole file.
-pub fn comes_again<B: ListDesk>(
+pub fn comes_again<B: Walks>(
     alloc: Global,
     books: &mut B,
     sent: &Sent,

@@ -8,7 +8,8 @@ use Rattle.sqlite.specs.State.{State, HasCleanDisk, KeepsCommit, Survives, Execu
 use Rattle.sqlite.specs.Steps.{FailsToCommit}
 use Rattle.sqlite.specs.declared.error.Error.{Error}
 use Rattle.hotel_model.specs.Rows.{Rows}
-use Rattle.hotel_statements.specs.declared.version.Version.TheVariants.{Second}
+use Rattle.hotel_statements.specs.declared.version.Layout.TheVariants.{Nine}
+use Rattle.hotel_statements.specs.declared.version.TheConstants.{INDEXES}
 use Rattle.hotel_statements.specs.Tables.{rows_in}
 use Rattle.hotel_statements.specs.Books.{IsKept, IsBooks}
 use Rattle.hotel_core.specs.Refinement.Finds.{AnyRows}
@@ -108,7 +109,7 @@ pub record Ends (make : Rows → Rows) (old new : State) (r : Result (Unit {0}) 
   pub crash : Survives old new (IsMadeOf make old.now.trees)
 
 module _ {fits : Rows → Type 0} {make : Rows → Rows} {old start mid : State} {u : Unit {0}}
-    (b : Begins Second old start) (may : IsKept old → fits (rows_in old.now.trees))
+    (b : Begins (Nine INDEXES) old start) (may : IsKept old → fits (rows_in old.now.trees))
     (did : MakesRows fits make start mid (Ok u)) where
   -- what was true of the rows as the change began is true as its transaction does
   fits_start : HasCleanDisk start → IsTrue start.is_open → fits (rows_in start.now.trees)

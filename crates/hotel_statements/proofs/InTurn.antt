@@ -1,5 +1,5 @@
 -- Statements that are run in turn.
-use Rattle.std.proofs.Common.{◌≡◌, inl, inr, subst, ◌∙◌, ap, false, IsTrue, List, [], ◌∷◌, ◌++◌, ℕ, Ok, Err, Result}
+use Rattle.std.proofs.Common.{◌≡◌, inl, inr, refl, subst, ◌∙◌, ap, false, IsTrue, List, [], ◌∷◌, ◌++◌, ℕ, Ok, Err, Result}
 use Rattle.std.proofs.Common.{IsErr, IsErrAnd, OnOk, arith}
 use Rattle.std.proofs.lemmas.Result.{on_ok_weaker}
 use Rattle.std.proofs.lemmas.Bool.{cases_Bool}
@@ -47,6 +47,23 @@ module _ {S : Type 0} (g : Ghosts S) where
     | inl inside ↦ inl (inside, ran inside)
     | inr over ↦ inr (over, (ended over).0, (ended over).1)
   ]
+
+-- no statement was run
+pub none_ran : {S : Type 0} (g : Ghosts S) {P : State → State → Type 0} (a : Held S) → P (state g a) (state g a)
+    → MakesBy g [] P a a (Ok tt)
+none_ran g a made = record {
+  runs = record { in_turn = λ _. (refl, refl) };
+  made = λ _. made;
+  kept = λ _. record { was_open = λ is_open. is_open; committed = λ _. refl };
+  survives = record {
+    clean = omega arith;
+    shield = λ shield. shield;
+    counts = omega arith;
+    limit = refl;
+    closes = λ _ is_open. inl is_open;
+    crash = λ _ db left. inl left;
+  };
+}
 
 module _ {S : Type 0} {g : Ghosts S} {one : List Statement} {a b : Held S} where
   -- those ran, and then these

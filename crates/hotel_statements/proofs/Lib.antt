@@ -8,6 +8,7 @@ mod Keeps
 mod Unread
 mod LookedInTurn
 mod Looked
+mod Readied
 pub mod Since
 mod Writing
 mod Makers

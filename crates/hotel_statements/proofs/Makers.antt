@@ -1,5 +1,6 @@
 -- What CREATE TABLE and CREATE INDEX do.
-use Rattle.std.proofs.Common.{◌≡◌, refl, sym, ap, subst, ◌∙◌, List, [], ◌∷◌, ◌++◌, ℕ, false, IsTrue}
+use Rattle.std.proofs.Common.{◌≡◌, ◌⊎◌, ◌+◌, ◌<◌, ◌≤◌, inl, inr, refl, sym, ap, subst, ◌∙◌, List, [], ◌∷◌, ◌++◌}
+use Rattle.std.proofs.Common.{ℕ, zero, suc, false, IsTrue, arith}
 use Rattle.std.proofs.Common.{Option, None, Result, Ok}
 use Rattle.std.specs.List.{AllByRecursion}
 use Rattle.sqlite_tied.specs.Compute.{everything}
@@ -20,14 +21,17 @@ use Rattle.sqlite.proofs.Callers.{runs_as}
 use Rattle.hotel_statements.specs.Trees.{stay_tree, card_tree, fit_tree}
 use Rattle.hotel_statements.specs.Texts.{create_meta, create_kind, create_room, create_stay, create_code, create_card}
 use Rattle.hotel_statements.specs.Texts.{create_inside, create_note, create_fit, create_stay_room, create_card_party}
-use Rattle.hotel_statements.specs.Schema.{no_schema, first_schema, tables_schema, with_stay_index, desk_schema}
+use Rattle.hotel_statements.specs.Texts.{create_stay_arrive}
+use Rattle.hotel_statements.specs.declared.version.TheConstants.{INDEXES}
+use Rattle.hotel_statements.specs.Schema.{no_schema, first_schema, tables_schema, with_indexes, desk_schema}
 use Rattle.hotel_statements.specs.Schema.{meta_table, kind_table, room_table, stay_table, code_table, card_table}
 use Rattle.hotel_statements.specs.Schema.{inside_table, note_table, fit_table, at_tree, stay_by_room, card_by_party}
-use Rattle.hotel_statements.specs.NewDesk.{IsMaker, IsIndexer, HasTable, HasIndex, HasNew, IsBare, IfOpenBare}
-use Rattle.hotel_statements.specs.NewDesk.{Makes, AddsTable, AddsIndex, MakesNew}
+use Rattle.hotel_statements.specs.Schema.{stay_by_arrival}
+use Rattle.hotel_statements.specs.NewDesk.{IsMaker, IsIndexer, HasTable, HasIndex, HasIndexes, HasNew, IsBare}
+use Rattle.hotel_statements.specs.NewDesk.{IfOpenBare, Makes, AddsTable, AddsIndex, AddsIndexes, MakesNew}
 use Rattle.hotel_statements.specs.NewDesk.{with_meta, with_kind, with_room, with_stay, with_code}
 use Rattle.hotel_statements.specs.NewDesk.{with_card, with_inside, with_note}
-use Rattle.hotel_statements.specs.Statements.{Statement, MakesBy}
+use Rattle.hotel_statements.specs.Statements.{Statement, MakesBy, index_text, makes_index, makes_indexes}
 use Rattle.hotel_statements.proofs.InTurn.{made_then, made_as}
 use Rattle.hotel_statements.proofs.Writing.{went, same_value}
 
@@ -106,11 +110,14 @@ indexes schema text at t index old new count maker has_open h =
     record {
       inside = subst IsTrue (sym h.1.mode) refl;
       was_open = h.1.was_open;
+      is_open = h.1.is_open;
+      committed = h.1.committed_is;
       schema_is = ap (λ (d : Database). d.schema) now ∙ did.is ∙ ap (indexed schema t) same;
       rows = subst (λ (d : Database). KeepsRows schema.tables old.now.trees d.trees) (sym now) did.rows;
+      sound = w.sound;
     }
 
--- ---- the second version
+-- ---- the indexes of ours
 
 keeps_then : (ts : List Table) (a b c : Trees) → KeepsRows ts a b → KeepsRows ts b c → KeepsRows ts a c
 keeps_then [] a b c one two = tt
@@ -124,23 +131,131 @@ keeps_last : (ts : List Table) (t : Table) (a b : Trees) → KeepsRows (ts ++ t 
 keeps_last [] t a b keeps = keeps.0
 keeps_last (x ∷ ts) t a b keeps = keeps_last ts t a b keeps.1
 
+pub make_stay_room : IsIndexer (with_indexes 0) create_stay_room 3 (at_tree stay_tree stay_table) stay_by_room
+unfolding understood everything
+make_stay_room = record { command = refl; whole = refl; plain = (refl, refl); there = refl; defines = refl }
+
+pub make_card_party : IsIndexer (with_indexes 1) create_card_party 5 (at_tree card_tree card_table) card_by_party
+unfolding understood everything
+make_card_party = record { command = refl; whole = refl; plain = (refl, refl); there = refl; defines = refl }
+
+pub make_stay_arrive : IsIndexer (with_indexes 2) create_stay_arrive 3 (at_tree stay_tree stay_table) stay_by_arrival
+unfolding understood everything
+make_stay_arrive = record { command = refl; whole = refl; plain = (refl, refl); there = refl; defines = refl }
+
+one_index : (count : ℕ) (t : Table) (index : Index) (a b : State)
+    → indexed (with_indexes count) t index ≡ with_indexes (count + 1)
+    → (with_indexes count).tables ≡ tables_schema.tables → HasIndex (with_indexes count) t index a b
+    → HasIndexes (count + 1) a b
+one_index count t index a b next same did = record {
+  inside = did.inside;
+  was_open = did.was_open;
+  is_open = did.is_open;
+  committed = did.committed;
+  schema_is = did.schema_is ∙ next;
+  rows = subst (λ ts. KeepsRows ts a.now.trees b.now.trees) same did.rows;
+  sound = did.sound;
+}
+
+-- each, where those before it are there
+pub index_added : (at : ℕ) (a b : State) → at < INDEXES → AddsIndex (index_text at) a b → AddsIndexes at (at + 1) a b
+index_added zero a b low adds has = one_index 0 _ _ a b refl refl (adds _ _ _ _ make_stay_room has)
+index_added (suc zero) a b low adds has = one_index 1 _ _ a b refl refl (adds _ _ _ _ make_card_party has)
+index_added (suc (suc zero)) a b low adds has = one_index 2 _ _ a b refl refl (adds _ _ _ _ make_stay_arrive has)
+index_added (suc (suc (suc at))) a b low adds has = absurd (omega (arith, low))
+
+-- so far none was made, and the database is as it was; or those up to a place were made
+abbrev pub AddsSoFar : ℕ → ℕ → State → State → Type 0
+AddsSoFar first at old new =
+    ((at ≡ first) × (IsTrue new.is_open → IsTrue old.is_open) × (new.now ≡ old.now) × (new.committed ≡ old.committed))
+    ⊎ ((first < at) × AddsIndexes first at old new)
+
+pub none_added : (first : ℕ) (a : State) → AddsSoFar first first a a
+none_added first a = inl (refl, λ is_open. is_open, refl, refl)
+
+pub one_added : (first at : ℕ) (a b c : State) → first ≤ at → AddsSoFar first at a b → AddsIndexes at (at + 1) b c
+    → AddsSoFar first (at + 1) a c
+one_added first at a b c up so_far next = inr (omega (arith, up), λ has. go has so_far)
+  where
+    go : (IsTrue a.is_open → a.now.schema ≡ with_indexes first) → AddsSoFar first at a b → HasIndexes (at + 1) a c
+    go has (inl none) =
+        let did = next (λ is_open. ap (λ (d : Database). d.schema) none.2 ∙ has (none.1 is_open)
+        ∙ ap with_indexes (sym none.0)) in
+        record {
+          inside = did.inside;
+          was_open = none.1 did.was_open;
+          is_open = did.is_open;
+          committed = did.committed ∙ none.3;
+          schema_is = did.schema_is;
+          rows = subst (λ (d : Database). KeepsRows tables_schema.tables d.trees c.now.trees) none.2 did.rows;
+          sound = did.sound;
+        }
+    go has (inr some) =
+        let one = some.1 has in
+        let two = next (λ _. one.schema_is) in
+        record {
+          inside = two.inside;
+          was_open = one.was_open;
+          is_open = two.is_open;
+          committed = two.committed ∙ one.committed;
+          schema_is = two.schema_is;
+          rows = keeps_then tables_schema.tables a.now.trees b.now.trees c.now.trees one.rows two.rows;
+          sound = two.sound;
+        }
+
+-- all
+pub all_added : (first at : ℕ) (a b : State) → first < INDEXES → INDEXES ≤ at → at ≤ INDEXES
+    → AddsSoFar first at a b → AddsIndexes first INDEXES a b
+all_added first at a b low past up (inl none) = absurd (omega (arith, low, past, none.0))
+all_added first at a b low past up (inr some) =
+    let is : at ≡ INDEXES = omega (arith, past, up) in subst (λ n. AddsIndexes first n a b) is some.1
+
+-- their statements
+pub none_yet : (first : ℕ) → first < INDEXES → makes_indexes first first ≡ []
+none_yet zero low = refl
+none_yet (suc zero) low = refl
+none_yet (suc (suc zero)) low = refl
+none_yet (suc (suc (suc first))) low = absurd (omega (arith, low))
+
+pub and_one : (first at : ℕ) → first ≤ at → at < INDEXES
+    → makes_indexes first at ++ makes_index at ∷ [] ≡ makes_indexes first (at + 1)
+and_one zero zero up low = refl
+and_one zero (suc zero) up low = refl
+and_one zero (suc (suc zero)) up low = refl
+and_one (suc zero) (suc zero) up low = refl
+and_one (suc zero) (suc (suc zero)) up low = refl
+and_one (suc (suc zero)) (suc (suc zero)) up low = refl
+and_one first at up low = absurd (omega (arith, up, low))
+
+pub and_others : (first at : ℕ) → first ≤ at → at ≤ INDEXES
+    → makes_indexes first at ++ makes_indexes at INDEXES ≡ makes_indexes first INDEXES
+and_others zero zero up low = refl
+and_others zero (suc zero) up low = refl
+and_others zero (suc (suc zero)) up low = refl
+and_others zero (suc (suc (suc zero))) up low = refl
+and_others (suc zero) (suc zero) up low = refl
+and_others (suc zero) (suc (suc zero)) up low = refl
+and_others (suc zero) (suc (suc (suc zero))) up low = refl
+and_others (suc (suc zero)) (suc (suc zero)) up low = refl
+and_others (suc (suc zero)) (suc (suc (suc zero))) up low = refl
+and_others (suc (suc (suc zero))) (suc (suc (suc zero))) up low = refl
+and_others first at up low = absurd (omega (arith, up, low))
+
+-- ---- the second version
+
 abbrev the_fits : Table
 the_fits = at_tree fit_tree fit_table
 
--- the table of the fits and the two indexes, of eight tables with rows
-pub all_new : (a b c d : State) → HasTable first_schema fit_table a b
-    → HasIndex tables_schema (at_tree stay_tree stay_table) stay_by_room b c
-    → HasIndex with_stay_index (at_tree card_tree card_table) card_by_party c d → HasNew a d
-all_new a b c d one two three =
-    let rows : KeepsRows tables_schema.tables b.now.trees d.now.trees =
-    keeps_then tables_schema.tables b.now.trees c.now.trees d.now.trees two.rows three.rows in
-    let front = keeps_front first_schema.tables (the_fits ∷ []) b.now.trees d.now.trees rows in
+-- the table of the fits and the indexes, of eight tables with rows
+pub all_new : (a b c : State) → HasTable first_schema fit_table a b → HasIndexes INDEXES b c → HasNew a c
+all_new a b c one more =
+    let front = keeps_front first_schema.tables (the_fits ∷ []) b.now.trees c.now.trees more.rows in
     record {
-      inside = three.inside;
+      inside = more.inside;
       was_open = one.was_open;
-      schema_is = three.schema_is;
-      rows = keeps_then first_schema.tables a.now.trees b.now.trees d.now.trees one.rows front;
-      empty = keeps_last first_schema.tables the_fits b.now.trees d.now.trees rows ∙ one.empty;
+      schema_is = more.schema_is;
+      rows = keeps_then first_schema.tables a.now.trees b.now.trees c.now.trees one.rows front;
+      empty = keeps_last first_schema.tables the_fits b.now.trees c.now.trees more.rows ∙ one.empty;
     }
 
 -- of eight empty tables
@@ -150,14 +265,6 @@ new_bare old new did bare = record {
   schema_is = did.schema_is;
   empty = still_empty old.now.trees new.now.trees first_schema.tables the_fits did.rows bare.empty did.empty;
 }
-
-pub make_stay_room : IsIndexer tables_schema create_stay_room 3 (at_tree stay_tree stay_table) stay_by_room
-unfolding understood everything
-make_stay_room = record { command = refl; whole = refl; plain = (refl, refl); there = refl; defines = refl }
-
-pub make_card_party : IsIndexer with_stay_index create_card_party 5 (at_tree card_tree card_table) card_by_party
-unfolding understood everything
-make_card_party = record { command = refl; whole = refl; plain = (refl, refl); there = refl; defines = refl }
 
 -- ---- the tables
 
@@ -214,12 +321,11 @@ module _ {S : Type 0} {g : Ghosts S} {text : List ℕ} {schema : Schema} {t : Ta
       → MakesBy g (one ++ two) (IfOpenBare before (created schema t)) a c r
   bare_then it more = made_then (λ bare made had. made.0 schema t maker (λ _. bare had)) it more
 
--- the table of the fits and the two indexes, whether the eight tables have rows or not
-pub new_made : (a b c d : State) → AddsTable create_fit a b → AddsIndex create_stay_room b c
-    → AddsIndex create_card_party c d → MakesNew a d × IfOpenBare with_note desk_schema a d
-new_made a b c d fits by_room by_party =
-    let all : MakesNew a d = λ has.
+-- the table of the fits and the indexes, whether the eight tables have rows or not
+pub new_made : (a b c : State) → AddsTable create_fit a b → AddsIndexes 0 INDEXES b c
+    → MakesNew a c × IfOpenBare with_note desk_schema a c
+new_made a b c fits more =
+    let all : MakesNew a c = λ has.
     let one = fits _ _ make_fit has in
-    let two = by_room _ _ _ _ make_stay_room (λ _. one.schema_is) in
-    all_new a b c d one two (by_party _ _ _ _ make_card_party (λ _. two.schema_is)) in
-    (all, λ bare. let did = all (λ is_open. (bare is_open).schema_is) in new_bare a d did (bare did.was_open))
+    all_new a b c one (more (λ _. one.schema_is)) in
+    (all, λ bare. let did = all (λ is_open. (bare is_open).schema_is) in new_bare a c did (bare did.was_open))

@@ -10,7 +10,8 @@ use Rattle.sqlite.proofs.Callers.{IsPlain}
 use Rattle.keycard_rules.specs.declared.issued.LookFault.{LookFault}
 use Rattle.hotel_statements.specs.declared.version.Version.{Version}
 use Rattle.hotel_statements.specs.declared.version.Version.TheVariants.{First, Second}
-use Rattle.hotel_statements.specs.Schema.{schema_of}
+use Rattle.sqlite.specs.Schema.{Schema}
+use Rattle.hotel_statements.specs.Schema.{HasTablesOf}
 use Rattle.hotel_statements.specs.Books.{IsKept}
 use Rattle.hotel_statements.specs.LookUps.{AsksOf, ShowsUnread, FailsIn, LeavesNoMore}
 use Rattle.hotel_statements.specs.WholeTables.{IsOurs, ReadsIf, ReadsPart, BeginsAs, LastFail, FitRowsFail}
@@ -26,23 +27,23 @@ IsLater version Fails = (old mid new : State)
     → (HasCleanDisk new → HasCleanDisk mid) → (HasCleanDisk mid → IsUnchanged old mid)
     → LeavesNoMore old mid → IsOurs version mid → HasCleanDisk new → Fails mid new → Fails old new
 
-pub table_later : (version : Version) (text : List ℕ) (q : Query) → AsksOf (schema_of version) text q
-    → (IsReadable : Row → Type 0)
-    → IsLater version (FailsIn (schema_of version) IsReadable text [])
+pub table_later : (version : Version) (text : List ℕ) (q : Query)
+    → ((schema : Schema) → HasTablesOf version schema → AsksOf schema text q) → (IsReadable : Row → Type 0)
+    → IsLater version (λ old new. FailsIn old.now.schema IsReadable text [] old new)
 table_later version text q asks IsReadable old mid new was unchanged crash ours clean fails = go fails
   where
     same : IsUnchanged old mid
     same = unchanged (was clean)
 
     plain : IsPlain (understood mid.now.schema text)
-    plain = subst (λ m. IsPlain (understood m text)) (sym (ours.tables (was clean, same.0.is_open)).0) asks.plain
+    plain = (asks mid.now.schema (ours.tables (was clean, same.0.is_open)).0).plain
 
-    go : FailsIn (schema_of version) IsReadable text [] mid new → FailsIn (schema_of version) IsReadable text [] old new
+    go : FailsIn mid.now.schema IsReadable text [] mid new → FailsIn old.now.schema IsReadable text [] old new
     go (inl h) = inl (h.0, h.1, query_then old mid new same crash text [] h.0 plain h.2)
     go (inr h) =
         let kept : IsKept old = (clean_before old mid crash h.0.0, same.0.was_open) in
         inr
-        (kept, subst (λ (d : Database). ShowsUnread (schema_of version) IsReadable text [] d.trees) same.0.now_is h.1)
+        (kept, subst (λ (d : Database). ShowsUnread d.schema IsReadable text [] d.trees) same.0.now_is h.1)
 
 pub either_later : (version : Version) (Before Then : State → State → Type 0) → IsLater version Before
     → IsLater version Then
@@ -122,7 +123,7 @@ module _ {A B was : Type 0} (version : Version) (Before Then : State → State �
 
 -- ---- the readings that come later
 
-pub last_later : (version : Version) → IsLater version (LastFail version)
+pub last_later : (version : Version) → IsLater version LastFail
 last_later version =
     let code = code_whole version in
     let card = card_whole version in

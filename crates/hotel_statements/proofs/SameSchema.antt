@@ -1,6 +1,9 @@
--- Two schemas that the test takes for the same are the same, and the test takes a desk's schema for itself.
+-- A schema that the test takes for another's front is that, and each layout of a desk is taken for a front of the whole
+-- one.
 use Rattle.std.proofs.Common.{◌≡◌, refl, sym, ap, ◌∙◌, Bool, true, false, ℕ, List, [], ◌∷◌, Option, Some, None}
-use Rattle.std.proofs.Common.{length, take, arith}
+use Rattle.std.proofs.Common.{length, take, arith, subst, zero, suc, ◌+◌, ◌≤◌, ◌<◌}
+use Rattle.std.proofs.lemmas.List.{take_all}
+use Rattle.std.proofs.lemmas.Bool.Decides.{nat_tests}
 use Rattle.std.specs.Prelude.{◌==◌, bytes_eq}
 use Rattle.std.specs.Fmt.{digits}
 use Rattle.std.proofs.lemmas.Bool.{false≢true}
@@ -27,7 +30,13 @@ use Rattle.sqlite_schema.specs.declared.schema.Table.{Table}
 use Rattle.sqlite_schema.specs.declared.schema.Index.{Index}
 use Rattle.sqlite_schema.specs.declared.schema.Schema.{Schema}
 use Rattle.hotel_model.proofs.OfTables.Tests.{and_true, eight_true, eq_from}
-use Rattle.hotel_statements.specs.Schema.{first_schema, desk_schema}
+use Rattle.sqlite_catalog.specs.Change.{indexed}
+use Rattle.hotel_statements.specs.declared.version.Version.TheVariants.{Second}
+use Rattle.hotel_statements.specs.declared.version.Layout.{Layout}
+use Rattle.hotel_statements.specs.declared.version.Layout.TheVariants.{Eight, Nine}
+use Rattle.hotel_statements.specs.declared.version.TheConstants.{INDEXES}
+use Rattle.hotel_statements.specs.Schema.{first_schema, tables_schema, desk_schema, with_indexes, all_indexed}
+use Rattle.hotel_statements.specs.Schema.{our_indexes, tables_of, HasTablesOf, version_of, schema_of, is_whole}
 use Rattle.hotel_statements.specs.SameSchema as spec
 
 all_is : {A : Type 0} (same : A → A → Bool) → ((x y : A) → same x y ≡ true → x ≡ y) → (xs ys : List A)
@@ -181,24 +190,6 @@ index_is a b e =
       is_unique = flag_is a.is_unique b.is_unique p5.1 i;
     }
 
-pub schema_is : (a b : Schema) → spec.same_schema a b ≡ true → a ≡ b
-schema_is a b e =
-    let p3 = and_true _ _ e in
-    let p2 = and_true _ _ p3.0 in
-    let p1 = and_true _ _ p2.0 in
-    λ i. record {
-      tables = all_is spec.same_table table_is a.tables b.tables p1.0 i;
-      indexes = all_is spec.same_index index_is a.indexes b.indexes p1.1 i;
-      views = (none_of a.views p2.1 ∙ sym (none_of b.views p3.1)) i;
-    }
-
--- the names of the indexes end in a number
-pub desk_is_same : spec.same_schema desk_schema desk_schema ≡ true
-unfolding digits
-desk_is_same = refl
-
--- ---- the first version
-
 -- a schema that the test takes for another's front is that
 pub front_is : (tables indexes : ℕ) (a b : Schema) → spec.same_front tables indexes a b ≡ true
     → a ≡ record b { tables = take tables b.tables; indexes = take indexes b.indexes }
@@ -212,17 +203,11 @@ front_is tables indexes a b e =
       views = (none_of a.views p2.1 ∙ sym (none_of b.views p3.1)) i;
     }
 
--- the first version is the second's front
+-- ---- the first version, which is the second's front
+
 pub first_is_front : spec.same_front 8 5 first_schema desk_schema ≡ true
 unfolding digits
 first_is_front = refl
-
-pub tables_of_first : take 8 desk_schema.tables ≡ first_schema.tables
-tables_of_first = refl
-
-pub indexes_of_first : take 5 desk_schema.indexes ≡ first_schema.indexes
-unfolding digits
-indexes_of_first = refl
 
 pub front_is_first : record desk_schema { tables = take 8 desk_schema.tables; indexes = take 5 desk_schema.indexes }
     ≡ first_schema
@@ -232,10 +217,83 @@ front_is_first = refl
 pub count_tables : length desk_schema.tables ≡ 9
 count_tables = refl
 
-pub count_indexes : length desk_schema.indexes ≡ 9
+pub count_indexes : length desk_schema.indexes ≡ 10
 count_indexes = refl
 
--- the two are told apart
-pub not_both : (s : Schema) → s ≡ desk_schema → ¬ (s ≡ first_schema)
-not_both s second first =
-    let eight : 8 ≡ 9 = ap (λ (s : Schema). length s.tables) (sym first ∙ second) in absurd (omega (arith, eight))
+-- ---- the nine tables with some of our indexes
+
+-- those past the last are none
+pub with_many : (count : ℕ) → INDEXES ≤ count → with_indexes count ≡ desk_schema
+with_many count all = ap (all_indexed tables_schema) (take_all count our_indexes all)
+
+pub count_with : (count : ℕ) → (7 ≤ length (with_indexes count).indexes) × (length (with_indexes count).indexes ≤ 10)
+count_with zero = (omega arith, omega arith)
+count_with (suc zero) = (omega arith, omega arith)
+count_with (suc (suc zero)) = (omega arith, omega arith)
+count_with (suc (suc (suc count))) =
+    let is : length (with_indexes (suc (suc (suc count)))).indexes ≡ 10 =
+    ap (λ (s : Schema). length s.indexes) (with_many (suc (suc (suc count))) (omega arith)) in
+    (omega (arith, is), omega (arith, is))
+
+pub with_is_front : (count : ℕ)
+    → spec.same_front 9 (length (with_indexes count).indexes) (with_indexes count) desk_schema ≡ true
+unfolding digits
+with_is_front zero = refl
+with_is_front (suc zero) = refl
+with_is_front (suc (suc zero)) = refl
+with_is_front (suc (suc (suc count))) =
+    let all : spec.same_front 9 (length desk_schema.indexes) desk_schema desk_schema ≡ true = refl in
+    subst (λ (s : Schema). spec.same_front 9 (length s.indexes) s desk_schema ≡ true)
+    (sym (with_many (suc (suc (suc count))) (omega arith))) all
+
+pub front_is_with : (count : ℕ) → count ≤ INDEXES
+    → record desk_schema { tables = take 9 desk_schema.tables; indexes = take (7 + count) desk_schema.indexes }
+    ≡ with_indexes count
+unfolding digits
+front_is_with zero low = refl
+front_is_with (suc zero) low = refl
+front_is_with (suc (suc zero)) low = refl
+front_is_with (suc (suc (suc zero))) low = refl
+front_is_with (suc (suc (suc (suc count)))) low = absurd (omega (arith, low))
+
+-- ---- the layouts
+
+still_there : (schema : Schema) (more : List (Table × Index)) → HasTablesOf Second schema
+    → HasTablesOf Second (all_indexed schema more)
+still_there schema [] has = has
+still_there schema (i ∷ more) has =
+    still_there (indexed schema i.0 i.1) more (_, ap (λ (s : Schema). indexed s i.0 i.1) has.1)
+
+pub tables_there : (layout : Layout) → HasTablesOf (version_of layout) (schema_of layout)
+tables_there Eight = (_, refl)
+tables_there (Nine count) = still_there tables_schema (take count our_indexes) (_, refl)
+
+-- how many tables
+pub count_tables_of : (layout : Layout) → length (schema_of layout).tables ≡ length (tables_of (version_of layout))
+count_tables_of layout = ap (λ (s : Schema). length s.tables) (tables_there layout).1
+
+-- a database has the tables of one version only
+pub one_version : (a b : Layout) (s : Schema) → s ≡ schema_of a → s ≡ schema_of b → version_of a ≡ version_of b
+one_version Eight Eight s first second = refl
+one_version (Nine m) (Nine n) s first second = refl
+one_version Eight (Nine n) s first second =
+    let eight : length (schema_of (Nine n)).tables ≡ 8 = ap (λ (s : Schema). length s.tables) (sym second ∙ first) in
+    absurd (omega (arith, eight, count_tables_of (Nine n)))
+one_version (Nine m) Eight s first second =
+    let eight : length (schema_of (Nine m)).tables ≡ 8 = ap (λ (s : Schema). length s.tables) (sym first ∙ second) in
+    absurd (omega (arith, eight, count_tables_of (Nine m)))
+
+pub whole_is : (layout : Layout) → is_whole layout ≡ true → schema_of layout ≡ desk_schema
+whole_is Eight whole = absurd (false≢true whole)
+whole_is (Nine count) whole = with_many count (grind (arith, nat_tests, whole))
+
+pub not_whole : (layout : Layout) → is_whole layout ≡ false → ¬ (schema_of layout ≡ desk_schema)
+not_whole Eight lacks is = let eight : 8 ≡ 9 = ap (λ (s : Schema). length s.tables) is in absurd (omega (arith, eight))
+not_whole (Nine zero) lacks is =
+    let less : 7 ≡ 10 = ap (λ (s : Schema). length s.indexes) is in absurd (omega (arith, less))
+not_whole (Nine (suc zero)) lacks is =
+    let less : 8 ≡ 10 = ap (λ (s : Schema). length s.indexes) is in absurd (omega (arith, less))
+not_whole (Nine (suc (suc zero))) lacks is =
+    let less : 9 ≡ 10 = ap (λ (s : Schema). length s.indexes) is in absurd (omega (arith, less))
+not_whole (Nine (suc (suc (suc count)))) lacks is =
+    let low : suc (suc (suc count)) < 3 = grind (arith, nat_tests, lacks) in absurd (omega (arith, low))

@@ -1,5 +1,4 @@
--- A desk of the second version made of one of the first: its statements in turn, how their transaction ends, and what
--- that leaves.
+-- What is missing of a desk, made: its statements in turn, how their transaction ends, and what that leaves.
 use Rattle.std.proofs.Common.{◌≡◌, ◌<◌, ◌≤◌, ◌+◌, ◌++◌, sym, ap, ap₂, subst, ◌∙◌, List, [], ◌∷◌, ℕ, zero, suc}
 use Rattle.std.proofs.Common.{take, drop, length, get_or, map, false, Ok, Result, OnOk, OnErr, IfErr, IsTrue, arith}
 use Rattle.std.proofs.Common.{nat_cmp}
@@ -19,19 +18,23 @@ use Rattle.hotel_model.specs.declared.rows.FitRow.{FitRow}
 use Rattle.hotel_model.proofs.OfTables.KeysInOrder.{AllAfter, InOrder}
 use Rattle.hotel_rows.specs.Joined.{joined, first_fits, FitEntries}
 use Rattle.hotel_statements.specs.declared.version.Version.TheVariants.{First}
+use Rattle.hotel_statements.specs.declared.version.Layout.{Layout}
+use Rattle.hotel_statements.specs.declared.version.Layout.TheVariants.{Eight, Nine}
+use Rattle.hotel_statements.specs.declared.version.TheConstants.{INDEXES}
+use Rattle.hotel_statements.specs.Schema.{version_of}
 use Rattle.hotel_statements.specs.Tables.{rows_in, rows_of_version, fits_in, bare_rooms_in}
 use Rattle.hotel_statements.specs.Books.{IsKept, IsBooks, IsBooksOf}
-use Rattle.hotel_statements.specs.NewDesk.{MakesNew}
+use Rattle.hotel_statements.specs.NewDesk.{MakesNew, AddsIndexes}
 use Rattle.hotel_statements.specs.Statements.{RunsStatements, MakesBy, adds_first_fit, makes_new, makes_second}
 use Rattle.hotel_statements.specs.Statements.{sets_version}
 use Rattle.hotel_statements.specs.Steps.{IsMidOf, RunsStatement}
-use Rattle.hotel_statements.specs.Upgrade.{IsFirstWith, AreRoomsIn, IsUpgraded, Upgrades, IsUpgradeOf, IsOutdated}
+use Rattle.hotel_statements.specs.Upgrade.{IsPartly, AreRoomsIn, IsCompleted, Completes, IsWholeOf, IsOutdated}
 use Rattle.hotel_statements.specs.Upgrade.{IsBefore, first_of, GivesFits}
 use Rattle.hotel_statements.proofs.Answers.{fused}
 use Rattle.hotel_statements.proofs.Transaction.{Begins, LeavesDesk, Committed, start_kept, start_mid, finished}
 use Rattle.hotel_statements.proofs.Transaction.{or_committed}
 use Rattle.hotel_statements.proofs.Risen.{rooms_rise, keys_rise}
-use Rattle.hotel_statements.proofs.Made.Desk.{same_tables, same_bare}
+use Rattle.hotel_statements.proofs.Made.Desk.{same_tables, same_bare, same_desk}
 
 -- ---- statements, one after the other
 
@@ -53,7 +56,7 @@ gives_one {g = g} {text = text} {old = old} {new = new} {r = r} params it answer
 -- ---- the tables, and then the version
 
 pub version_then : {a b c : State} → MakesNew a b × KeepsCommit a b → GivesFits IsOutdated [] b c
-    → GivesFits (IsMidOf First) [] a c
+    → GivesFits (IsMidOf Eight) [] a c
 version_then {a} {b} made did before =
     let first = made.0 (λ is_open. (before is_open).schema) in
     let was = before first.was_open in
@@ -100,7 +103,7 @@ AreEarlier room fits = AllByRecursion (λ (e : (ℕ × ℕ) × FitRow). e.0.0 < 
 
 -- those so far have their fits
 abbrev pub GivesSoFar : List ℕ → ℕ → State → State → Type 0
-GivesSoFar rooms i = GivesFits (IsFirstWith rooms) (map first_of (take i rooms))
+GivesSoFar rooms i = GivesFits (IsPartly Eight rooms) (map first_of (take i rooms))
 
 pub room_then : {rooms : List ℕ} {a b c : State} (i room : ℕ) → i < length rooms → room ≡ get_or rooms i room
     → GivesSoFar rooms i a b → GivesFits (IsBefore room) (fits_in b.now.trees ++ first_of room ∷ []) b c
@@ -130,7 +133,7 @@ room_then {rooms} {a} {b} {c} i room low is did next before =
 
 -- all have
 pub all_given : {rooms : List ℕ} {a b : State} (i : ℕ) → length rooms ≤ i → GivesSoFar rooms i a b
-    → Upgrades rooms a b
+    → Completes Eight rooms a b
 all_given {rooms} {a} {b} i past did before =
     let all = did before in
     let fits : map first_of (take i rooms) ≡ first_fits (bare_rooms_in a.now.trees) =
@@ -157,46 +160,63 @@ pub with_others : (rooms : List ℕ) (i : ℕ)
 with_others rooms i = ap (λ more. makes_new ++ (sets_version ∷ more))
     (sym (map-append adds_first_fit (take i rooms) (drop i rooms)) ∙ ap (map adds_first_fit) (take-append-drop i rooms))
 
+-- ---- the indexes of a desk of the second version
+
+pub indexes_made : {rooms : List ℕ} {a b : State} (count : ℕ) → AddsIndexes count INDEXES a b
+    → Completes (Nine count) rooms a b
+indexes_made {rooms} {a} {b} count did before =
+    let has = did (λ is_open. (before is_open).0.schema) in
+    let was = (before has.was_open).0 in
+    let desk = same_desk a.now.trees b.now.trees has.rows was.tables in
+    record {
+      was_open = has.was_open;
+      is_open = has.is_open;
+      committed = has.committed;
+      mid = record { schema = has.schema_is; inside = has.inside; tables = desk.0 };
+      sound = has.sound;
+      rows_are = desk.1;
+    }
+
 -- ---- the transaction
 
--- How an upgrade ends that was made in one transaction.
-pub record Migrates (old new : State) (r : Result (Unit {0}) Error) : Type 0 where
+-- How the making of what is missing ends, in one transaction.
+pub record Migrates (layout : Layout) (old new : State) (r : Result (Unit {0}) Error) : Type 0 where
   pub books : OnOk r (IsBooks new)
-  pub left : OnErr r (IsBooksOf First new)
+  pub left : OnErr r (IsBooksOf layout new)
   pub was : IsKept new → IsKept old
-  pub made : IsKept new → OnOk r (rows_in new.now.trees ≡ rows_of_version First old.now.trees)
+  pub made : IsKept new → OnOk r (rows_in new.now.trees ≡ rows_of_version (version_of layout) old.now.trees)
   pub same : IsKept new → OnErr r (new.now ≡ old.now)
-  pub crash : Survives old new (IsUpgradeOf old.now.trees)
+  pub crash : Survives old new (IsWholeOf (version_of layout) old.now.trees)
 
-module _ {rooms : List ℕ} {old start mid : State} (b : Begins First old start)
-    (rooms_are : IsKept old → AreRoomsIn rooms old.now.trees) (did : HasCleanDisk mid → Upgrades rooms start mid)
+module _ {layout : Layout} {rooms : List ℕ} {old start mid : State} (b : Begins layout old start)
+    (rooms_are : IsKept old → AreRoomsIn rooms old.now.trees) (did : HasCleanDisk mid → Completes layout rooms start mid)
     (ran : Survives start mid (λ _. ⊥)) where
-  start_with : HasCleanDisk start → IsTrue start.is_open → IsFirstWith rooms start
+  start_with : HasCleanDisk start → IsTrue start.is_open → IsPartly layout rooms start
   start_with clean is_open = (
     start_mid b clean is_open,
     subst (λ (s : State). AreRoomsIn rooms s.now.trees) (sym b.begun) (rooms_are (start_kept b clean is_open)),
   )
 
-  all_steps : HasCleanDisk mid → IsUpgraded start mid
+  all_steps : HasCleanDisk mid → IsCompleted (version_of layout) start mid
   all_steps clean = did clean (start_with (omega (arith, ran.clean, clean)))
 
   leaves : HasCleanDisk mid → LeavesDesk start mid
   leaves clean =
       let all = all_steps clean in record { was_open = all.was_open; committed = all.committed; mid = all.mid }
 
-  whole : HasCleanDisk mid → IsUpgradeOf old.now.trees mid.now.trees
+  whole : HasCleanDisk mid → IsWholeOf (version_of layout) old.now.trees mid.now.trees
   whole clean =
       let all = all_steps clean in
       record {
         tables = all.mid.tables;
         sound = subst (λ s. IsSound s mid.now.trees) all.mid.schema all.sound;
-        rows_are = all.rows_are ∙ ap (λ (s : State). rows_of_version First s.now.trees) b.begun;
+        rows_are = all.rows_are ∙ ap (λ (s : State). rows_of_version (version_of layout) s.now.trees) b.begun;
       }
 
   pub migrated : (new : State) (r : Result (Unit {0}) Error) → Survives old start (λ _. ⊥)
       → new.in_transaction ≡ false → (HasCleanDisk new → Committed mid new r)
       → (HasCleanDisk new → IfErr r (FailsToCommit mid new)) → Survives mid new (λ db. db ≡ mid.now.trees)
-      → Migrates old new r
+      → Migrates layout old new r
   migrated new r began autocommit ok err survives =
       let it = finished b leaves ran new r autocommit ok err survives in
       record {

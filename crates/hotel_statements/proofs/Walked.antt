@@ -26,7 +26,7 @@ use Rattle.keycard_rules.specs.declared.issued.LookFault.{LookFault}
 use Rattle.keycard_rules.specs.declared.issued.LookFault.TheVariants as look
 use Rattle.hotel_core.specs.declared.books.walks.WalkFault.{WalkFault}
 use Rattle.hotel_core.specs.declared.books.walks.WalkFault.TheVariants as why
-use Rattle.hotel_core.specs.Books.Passes.{Passes}
+use Rattle.keycard_rules.specs.Calls.{Passes}
 use Rattle.hotel_core.specs.Books.Walks.{TakesFront, Hands, failure_of}
 use Rattle.hotel_core.proofs.OfCode.Walking.{one_more, all_taken}
 use Rattle.hotel_statements.specs.declared.walk.TheConstants.{MOST_ROWS}

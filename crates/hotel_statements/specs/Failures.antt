@@ -85,7 +85,7 @@ LacksFits room db =
 
 abbrev pub RoomFails : ℕ → State → State → Type 0
 RoomFails room old new =
-    BareRoomFails room old new ⊎ (FitsFail room old new ⊎ (IsKept old × LacksFits room old.now.trees))
+    FitsFail room old new ⊎ (BareRoomFails room old new ⊎ (IsKept old × LacksFits room old.now.trees))
 
 -- a note of a room that is under no fit of it, or at no time
 abbrev pub LacksFit : ℕ → ℕ → Trees → Type 0

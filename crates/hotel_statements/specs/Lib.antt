@@ -12,6 +12,7 @@ pub mod Steps
 pub mod Statements
 pub mod Walks
 pub mod Failures
+pub mod Ready
 pub mod PlainRows
 pub mod WholeTables
 pub mod SameSchema

@@ -17,7 +17,9 @@ use Rattle.sqlite_catalog.specs.Change.{created, indexed}
 use Rattle.hotel_model.specs.Rows.{no_rows}
 use Rattle.hotel_statements.specs.Trees.{fit_tree}
 use Rattle.hotel_statements.specs.Tables.{AreTables, rows_in}
-use Rattle.hotel_statements.specs.Schema.{desk_schema, first_schema, no_schema, meta_table, kind_table, room_table}
+use Rattle.sqlite.specs.Effect.{IsDatabase}
+use Rattle.hotel_statements.specs.Schema.{desk_schema, first_schema, tables_schema, with_indexes, no_schema}
+use Rattle.hotel_statements.specs.Schema.{meta_table, kind_table, room_table}
 use Rattle.hotel_statements.specs.Schema.{stay_table, code_table, card_table, inside_table}
 
 abbrev pub AreEmpty : Schema → Trees → Type 0
@@ -101,14 +103,33 @@ pub record IsIndexer (schema : Schema) (text : List ℕ) (at : ℕ) (t : Table) 
 pub record HasIndex (schema : Schema) (t : Table) (index : Index) (old new : State) : Type 0 where
   pub inside : IsTrue new.in_transaction
   pub was_open : IsTrue old.is_open
+  pub is_open : IsTrue new.is_open
+  pub committed : new.committed ≡ old.committed
   pub schema_is : new.now.schema ≡ indexed schema t index
   pub rows : KeepsRows schema.tables old.now.trees new.now.trees
+  -- the trees list the tables and indexes, and obey them
+  pub sound : IsDatabase new.now
 
 -- whatever tables are there and whatever their rows, the text's index is made
 abbrev pub AddsIndex : List ℕ → State → State → Type 0
 AddsIndex text old new =
     (schema : Schema) (at : ℕ) (t : Table) (index : Index) → IsIndexer schema text at t index
     → (IsTrue old.is_open → old.now.schema ≡ schema) → HasIndex schema t index old new
+
+-- Within a transaction, the nine tables have so many of our indexes, and no table's rows changed.
+pub record HasIndexes (count : ℕ) (old new : State) : Type 0 where
+  pub inside : IsTrue new.in_transaction
+  pub was_open : IsTrue old.is_open
+  pub is_open : IsTrue new.is_open
+  pub committed : new.committed ≡ old.committed
+  pub schema_is : new.now.schema ≡ with_indexes count
+  pub rows : KeepsRows tables_schema.tables old.now.trees new.now.trees
+  -- the trees list the tables and indexes, and obey them
+  pub sound : IsDatabase new.now
+
+-- where the connection was open and the nine tables had the first so many of them, those up to a place are made
+abbrev pub AddsIndexes : ℕ → ℕ → State → State → Type 0
+AddsIndexes first past old new = (IsTrue old.is_open → old.now.schema ≡ with_indexes first) → HasIndexes past old new
 
 -- Of eight tables with rows, all of the second version are made: the rows stay, and the ninth table has none.
 pub record HasNew (old new : State) : Type 0 where

@@ -1,4 +1,5 @@
--- When the front desk takes two schemas for the same: `true` only where they are, and always where both are a desk's.
+-- When the front desk takes a schema for another without its last tables and indexes: `true` only where it is that, and
+-- always where both are a desk's.
 use Rattle.std.specs.Prelude.{◌==◌, ◌&&◌, not, ℕ, Bool, true, false, List, [], ◌∷◌, Option, Some, None, length, take}
 use Rattle.std.specs.Prelude.{bytes_eq}
 use Rattle.std.specs.Ordering.{int_eq}
@@ -111,11 +112,6 @@ abbrev pub same_index : Index → Index → Bool
 same_index a b =
     bytes_eq a.name b.name && a.tree == b.tree && a.table == b.table && bytes_eq a.columns b.columns
     && a.order.digits == b.order.digits && same_flag a.is_unique b.is_unique
-
-abbrev pub same_schema : Schema → Schema → Bool
-same_schema a b =
-    same_all same_table a.tables b.tables && same_all same_index a.indexes b.indexes && length a.views == 0
-    && length b.views == 0
 
 -- the one is the other without its tables and indexes past the first so many
 abbrev pub same_front : ℕ → ℕ → Schema → Schema → Bool

@@ -1,7 +1,7 @@
 -- The SQL statements of each change, with the values of their parameters, and what comes of statements that are run in
 -- turn.
-use Rattle.std.specs.Prelude.{ℕ, ◌+◌, ◌≡◌, ◌⊎◌, false, Bool, IsTrue, List, [], ◌∷◌, ◌++◌, Option, Some, None, Result}
-use Rattle.std.specs.Prelude.{Ok, Err, OnOk, map}
+use Rattle.std.specs.Prelude.{ℕ, zero, suc, ◌+◌, ◌≡◌, ◌⊎◌, false, Bool, IsTrue, List, [], ◌∷◌, ◌++◌, Option, Some, None, Result}
+use Rattle.std.specs.Prelude.{Ok, Err, OnOk, map, take, drop}
 use Rattle.keycard_rules.specs.declared.card.Card.{Card}
 use Rattle.keycard_rules.specs.Note.{Note}
 use Rattle.hotel_nights.specs.declared.stay.Stay.{Stay}
@@ -29,6 +29,9 @@ use Rattle.sqlite.specs.declared.error.ErrorCode.TheVariants.{TransactionState}
 use Rattle.hotel_model.specs.Rows.{Rows}
 use Rattle.hotel_statements.specs.declared.look_ups.Known.{Known}
 use Rattle.hotel_statements.specs.declared.upgrade.TheConstants.{VERSION}
+use Rattle.hotel_statements.specs.declared.version.Layout.{Layout}
+use Rattle.hotel_statements.specs.declared.version.Layout.TheVariants.{Eight, Nine}
+use Rattle.hotel_statements.specs.declared.version.TheConstants.{INDEXES}
 use Rattle.hotel_statements.specs.Texts as text
 use Rattle.hotel_statements.specs.Values.{int, maybe_int}
 use Rattle.hotel_statements.specs.Columns.{bit_of, state_number, kind_written, room_written, stay_written, code_written}
@@ -177,9 +180,22 @@ abbrev pub makes_first : List Statement
 makes_first = makes_table text.create_meta ∷ makes_table text.create_kind ∷ makes_table text.create_room
     ∷ makes_table text.create_stay ∷ []
 
--- what the second version has beside the tables of the first: the fits and the two indexes
+-- the text that makes an index of ours, by its place among them
+abbrev pub index_text : ℕ → List ℕ
+index_text zero = text.create_stay_room
+index_text (suc zero) = text.create_card_party
+index_text (suc (suc at)) = text.create_stay_arrive
+
+abbrev pub makes_index : ℕ → Statement
+makes_index at = makes_table (index_text at)
+
+-- our indexes from one place on, up to another
+abbrev pub makes_indexes : ℕ → ℕ → List Statement
+makes_indexes first past = drop first (take past (makes_index 0 ∷ makes_index 1 ∷ makes_index 2 ∷ []))
+
+-- what a new desk has beside the tables of the first version: the fits and the indexes
 abbrev pub makes_new : List Statement
-makes_new = makes_table text.create_fit ∷ makes_table text.create_stay_room ∷ makes_table text.create_card_party ∷ []
+makes_new = makes_table text.create_fit ∷ makes_indexes 0 INDEXES
 
 -- insides and notes, and these
 abbrev pub makes_of_locks : List Statement
@@ -192,6 +208,11 @@ makes_last = makes_table text.create_code ∷ makes_table text.create_card ∷ m
 -- those that make a desk of the second version of one of the first, whose rooms are these
 abbrev pub makes_second : List ℕ → List Statement
 makes_second rooms = makes_new ++ (sets_version ∷ map adds_first_fit rooms)
+
+-- those that make what is missing of a desk that is laid out so, whose rooms are these
+abbrev pub completes : Layout → List ℕ → List Statement
+completes Eight rooms = makes_second rooms
+completes (Nine count) rooms = makes_indexes count INDEXES
 
 -- ---- what comes of them
 

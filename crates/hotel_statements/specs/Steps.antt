@@ -27,20 +27,21 @@ use Rattle.sqlite.specs.Order.{Row}
 use Rattle.sqlite.specs.State.{State, HasCleanDisk, KeepsCommit, Survives, ExecutesInside}
 use Rattle.sqlite.specs.declared.error.Error.{Error}
 use Rattle.hotel_model.specs.Rows.{Rows, fits_at}
-use Rattle.hotel_statements.specs.declared.version.Version.{Version}
-use Rattle.hotel_statements.specs.declared.version.Version.TheVariants.{Second}
-use Rattle.hotel_statements.specs.Schema.{schema_of}
+use Rattle.hotel_statements.specs.declared.version.Layout.{Layout}
+use Rattle.hotel_statements.specs.declared.version.Layout.TheVariants.{Nine}
+use Rattle.hotel_statements.specs.declared.version.TheConstants.{INDEXES}
+use Rattle.hotel_statements.specs.Schema.{schema_of, version_of}
 use Rattle.hotel_statements.specs.Tables.{AreTablesOf, AreTables, rows_in}
 
--- Within a transaction, the tables are those of a desk of a version.
-pub record IsMidOf (version : Version) (s : State) : Type 0 where
-  pub schema : s.now.schema ≡ schema_of version
+-- Within a transaction, the database is laid out so, and its tables are those of a desk.
+pub record IsMidOf (layout : Layout) (s : State) : Type 0 where
+  pub schema : s.now.schema ≡ schema_of layout
   pub inside : IsTrue s.in_transaction
-  pub tables : AreTablesOf version s.now.trees
+  pub tables : AreTablesOf (version_of layout) s.now.trees
 
--- of the second version
+-- with all indexes
 abbrev pub IsMid : State → Type 0
-IsMid = IsMidOf Second
+IsMid = IsMidOf (Nine INDEXES)
 
 -- A step of a transaction: nothing is committed, and the rows after it are what is made of those before.
 pub record MovesRows (old new : State) (make : Rows → Rows) : Type 0 where

@@ -31,13 +31,16 @@ create_note = constant.CREATE_NOTE.now
 abbrev pub create_fit : List ℕ
 create_fit = constant.CREATE_FIT.now
 
--- ---- the indexes, by which the rows that refer to a changed one are looked for
+-- ---- the indexes: by the first two the rows that refer to a changed one are looked for, by the third the arrivals
 
 abbrev pub create_stay_room : List ℕ
 create_stay_room = constant.CREATE_STAY_ROOM.now
 
 abbrev pub create_card_party : List ℕ
 create_card_party = constant.CREATE_CARD_PARTY.now
+
+abbrev pub create_stay_arrive : List ℕ
+create_stay_arrive = constant.CREATE_STAY_ARRIVE.now
 
 -- ---- one row by its key
 

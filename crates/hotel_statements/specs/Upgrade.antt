@@ -1,4 +1,4 @@
--- A desk of the first version, and what makes one of the second of it.
+-- A desk that lacks something which a new one has, and what makes that.
 use Rattle.std.specs.Prelude.{◌≡◌, ◌<◌, ℕ, List, [], IsTrue}
 use Rattle.std.specs.List.{AllByRecursion}
 use Rattle.std.specs.Map.{keys_of}
@@ -10,9 +10,11 @@ use Rattle.hotel_model.specs.declared.rows.FitRow.{FitRow}
 use Rattle.hotel_model.specs.Rows.{FitKey}
 use Rattle.hotel_model.specs.Refits.{fit_row}
 use Rattle.hotel_rows.specs.Joined.{FitEntries}
+use Rattle.hotel_statements.specs.declared.version.Version.{Version}
 use Rattle.hotel_statements.specs.declared.version.Version.TheVariants.{First}
+use Rattle.hotel_statements.specs.declared.version.Layout.{Layout}
 use Rattle.hotel_statements.specs.Trees.{fit_tree}
-use Rattle.hotel_statements.specs.Schema.{desk_schema}
+use Rattle.hotel_statements.specs.Schema.{desk_schema, version_of}
 use Rattle.hotel_statements.specs.Tables.{AreTablesOf, AreTables, bare_rooms_in, fits_in, rows_in, bare_rows_in}
 use Rattle.hotel_statements.specs.Tables.{rows_of_version}
 use Rattle.hotel_statements.specs.Steps.{IsMidOf, IsMid}
@@ -21,30 +23,29 @@ use Rattle.hotel_statements.specs.Steps.{IsMidOf, IsMid}
 abbrev pub AreRoomsIn : List ℕ → Trees → Type 0
 AreRoomsIn rooms db = rooms ≡ keys_of (bare_rooms_in db)
 
--- within a transaction, the tables are those of a desk of the first version, and these are its rooms
-abbrev pub IsFirstWith : List ℕ → State → Type 0
-IsFirstWith rooms s = IsMidOf First s × AreRoomsIn rooms s.now.trees
+-- within a transaction, the tables are those of a desk that is laid out so, and these are its rooms
+abbrev pub IsPartly : Layout → List ℕ → State → Type 0
+IsPartly layout rooms s = IsMidOf layout s × AreRoomsIn rooms s.now.trees
 
--- Within one transaction, a desk of the first version became one of the second, with its rows.
-pub record IsUpgraded (old new : State) : Type 0 where
+-- Within one transaction, a desk of a version became a whole one, with its rows.
+pub record IsCompleted (version : Version) (old new : State) : Type 0 where
   pub was_open : IsTrue old.is_open
   pub is_open : IsTrue new.is_open
   pub committed : new.committed ≡ old.committed
   pub mid : IsMid new
   -- the trees list the tables and indexes, and obey them
   pub sound : IsDatabase new.now
-  pub rows_are : rows_in new.now.trees ≡ rows_of_version First old.now.trees
+  pub rows_are : rows_in new.now.trees ≡ rows_of_version version old.now.trees
 
--- where the connection was open, and the desk was one of the first version with these rooms, it is one of the second
-abbrev pub Upgrades : List ℕ → State → State → Type 0
-Upgrades rooms old new = (IsTrue old.is_open → IsFirstWith rooms old) → IsUpgraded old new
+-- where the connection was open, and the desk was laid out so and had these rooms, it is whole
+abbrev pub Completes : Layout → List ℕ → State → State → Type 0
+Completes layout rooms old new = (IsTrue old.is_open → IsPartly layout rooms old) → IsCompleted (version_of layout) old new
 
--- The trees are the whole of a desk of the second version, with the rows of one of the first: an opening that finds
--- them finds its schema.
-pub record IsUpgradeOf (old new : Trees) : Type 0 where
+-- The trees are the whole of a desk, with the rows of one of a version: an opening that finds them finds its schema.
+pub record IsWholeOf (version : Version) (old new : Trees) : Type 0 where
   pub tables : AreTables new
   pub sound : IsSound desk_schema new
-  pub rows_are : rows_in new ≡ rows_of_version First old
+  pub rows_are : rows_in new ≡ rows_of_version version old
 
 -- ---- its statements
 

@@ -23,7 +23,8 @@ use Rattle.hotel_statements.specs.declared.version.Version.{Version}
 use Rattle.hotel_statements.specs.declared.version.Version.TheVariants.{First, Second}
 use Rattle.hotel_statements.specs.Trees.{meta_tree, kind_tree, room_tree, stay_tree, code_tree, card_tree, inside_tree}
 use Rattle.hotel_statements.specs.Trees.{note_tree, fit_tree}
-use Rattle.hotel_statements.specs.Schema.{schema_of}
+use Rattle.sqlite_schema.specs.declared.schema.Schema.{Schema}
+use Rattle.hotel_statements.specs.Schema.{HasTablesOf}
 use Rattle.hotel_statements.specs.Columns.{meta_columns, kind_columns, room_columns, stay_columns, code_columns}
 use Rattle.hotel_statements.specs.Columns.{card_columns, note_columns, fit_columns}
 use Rattle.hotel_statements.specs.PlainRows.{meta_shown, kind_shown, room_shown, stay_shown, code_shown, card_shown}
@@ -32,16 +33,16 @@ use Rattle.hotel_statements.specs.LookUps.{AsksOf, FailsIn, HasCause, LeavesNoMo
 use Rattle.hotel_statements.specs.Texts as text
 use Rattle.hotel_statements.specs.Books.{IsKept, KeepsRows}
 
--- A connection outside any transaction, over the tables of a desk of a version, whatever their rows.
+-- A connection outside any transaction, over the tables of a desk of a version, whatever their rows and indexes.
 pub record IsOurs (version : Version) (s : State) : Type 0 where
   pub autocommit : s.in_transaction ≡ false
-  pub tables : IsKept s → (s.now.schema ≡ schema_of version) × (s.now ≡ s.committed)
+  pub tables : IsKept s → HasTablesOf version s.now.schema × (s.now ≡ s.committed)
 
--- The text reads a whole table of a desk of a version: to it that is a query, whose answer has the columns of the
--- tree's rows, in some order.
+-- The text reads a whole table of a desk of a version, whatever indexes it has: to it that is a query, whose answer has
+-- the columns of the tree's rows, in some order.
 pub record IsWhole (version : Version) (text : List ℕ) (tree : ℕ) (columns cut : Row → Row) : Type 0 where
   pub query : Query
-  pub asks : AsksOf (schema_of version) text query
+  pub asks : (schema : Schema) → HasTablesOf version schema → AsksOf schema text query
   pub answers : (db : Trees) (rows : List Row) → IsAnswer query (overlay db []) [] rows
       → IsPermutation (map columns (db tree)) (map cut rows)
 
@@ -49,9 +50,9 @@ pub record IsWhole (version : Version) (text : List ℕ) (tree : ℕ) (columns c
 abbrev pub BeginsAs : {L : Type 0} → (L → Row) → Row → Type 0
 BeginsAs {L} shown row = (l : L) × (more : Row) × (shown l ++ more ≡ row)
 
--- why a table of a version isn't read, but for want of memory
-abbrev pub TableFails : {L : Type 0} → Version → List ℕ → (L → Row) → State → State → Type 0
-TableFails version text shown = FailsIn (schema_of version) (BeginsAs shown) text []
+-- why a table isn't read, but for want of memory
+abbrev pub TableFails : {L : Type 0} → List ℕ → (L → Row) → State → State → Type 0
+TableFails text shown old new = FailsIn old.now.schema (BeginsAs shown) text [] old new
 
 -- What a reading of the tables promises, of a connection from old to new: what it says of the trees where the test
 -- holds at its end.
@@ -110,24 +111,23 @@ AreRead version t db =
 
 -- ---- why they aren't read
 
-abbrev pub FirstFail : Version → State → State → Type 0
-FirstFail version old new =
-    (TableFails version text.read_meta meta_shown old new ⊎ TableFails version text.read_kind kind_shown old new)
-    ⊎ (TableFails version text.read_room room_shown old new ⊎ TableFails version text.read_stay stay_shown old new)
+abbrev pub FirstFail : State → State → Type 0
+FirstFail old new =
+    (TableFails text.read_meta meta_shown old new ⊎ TableFails text.read_kind kind_shown old new)
+    ⊎ (TableFails text.read_room room_shown old new ⊎ TableFails text.read_stay stay_shown old new)
 
-abbrev pub LastFail : Version → State → State → Type 0
-LastFail version old new =
-    (TableFails version text.read_code code_shown old new ⊎ TableFails version text.read_card card_shown old new)
-    ⊎ (TableFails version text.read_inside numbered_shown old new
-    ⊎ TableFails version text.read_note note_shown old new)
+abbrev pub LastFail : State → State → Type 0
+LastFail old new =
+    (TableFails text.read_code code_shown old new ⊎ TableFails text.read_card card_shown old new)
+    ⊎ (TableFails text.read_inside numbered_shown old new ⊎ TableFails text.read_note note_shown old new)
 
 -- the first version has none that could fail
 abbrev pub FitRowsFail : Version → State → State → Type 0
 FitRowsFail First old new = ⊥
-FitRowsFail Second old new = TableFails Second text.read_fit fit_shown old new
+FitRowsFail Second old new = TableFails text.read_fit fit_shown old new
 
 abbrev pub TablesFail : Version → State → State → Type 0
-TablesFail version old new = (FirstFail version old new ⊎ LastFail version old new) ⊎ FitRowsFail version old new
+TablesFail version old new = (FirstFail old new ⊎ LastFail old new) ⊎ FitRowsFail version old new
 
 -- The same of a reading of all tables: it fails only where one of them isn't read.
 abbrev pub ReadsTo : {R : Type 0} → Version → (R → Trees → Type 0) → State → State → Result R LookFault → Type 0

@@ -6,6 +6,7 @@
 
 pub mod changes;
 mod from_row;
+mod indexes;
 pub mod issue;
 pub mod lock_notes;
 mod look;
@@ -26,4 +27,4 @@ pub mod whole_tables;
 
 pub use from_row::fault_of;
 pub use look_ups::Known;
-pub use version::Version;
+pub use version::{INDEXES, Layout, Version};

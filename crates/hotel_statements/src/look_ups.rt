@@ -17,8 +17,10 @@ ghost use Rattle.hotel_statements.specs.Failures.{DayFails, FitFails, FitsFail, 
 ghost use Rattle.hotel_statements.specs.Failures.{InsideFails, IsInsideFails, KindFails, LastCardFails, LastPartyFails};
 ghost use Rattle.hotel_statements.specs.Failures.{NoteFails, NumbersFail, RoomFails, StayFails, StaysFail};
 ghost use Rattle.hotel_statements.specs.LookUps.{LooksUp, Finds, known_by_room, numbered_fit, next_numbers_of};
+ghost use Rattle.hotel_statements.specs.Ready.{IsReady};
 
 use crate::from_row::bare_rows::{BareNote, BareRoom, note_with, room_with};
+use crate::from_row::fault_of;
 use crate::look::{look, look_all};
 use crate::number::{number, small, text};
 use crate::texts::{
@@ -43,6 +45,19 @@ pub struct Known {
     pub notes: u32,
     /// How many notes were taken there before the fit of the note that a change adds.
     pub before: u32,
+}
+
+/// Asks whether a connection answers: a statement is compiled, and none is run.
+///
+/// A connection that a failure shut answers an error, and nothing is left by that.
+pub fn ready<S: Alter>(conn: &mut Connection<S>) -> Result<(), LookFault>
+    requires { IsBooks (state S.Store conn.old) }
+    ensures { IsReady (state S.Store conn.old) (state S.Store conn.new) result }
+{
+    if let Err(error) = conn.prepare(SELECT_DAY) {
+        return Err(fault_of(error));
+    }
+    Ok(())
 }
 
 /// The day of the desk, where one was set.
@@ -123,10 +138,10 @@ pub fn room<S: Alter>(
     ensures { LooksUp (RoomFails room) (λ a. a) (λ rows. room_at rows room)
         (state S.Store conn.old) (state S.Store conn.new) result }
 {
+    let fits = fits_of_room(alloc, conn, room)?;
     let Some(bare) = bare_room(alloc, conn, room)? else {
         return Ok(None);
     };
-    let fits = fits_of_room(alloc, conn, room)?;
     Ok(Some(room_with(&bare, &fits)?))
 }
 

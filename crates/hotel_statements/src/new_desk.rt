@@ -1,15 +1,16 @@
-//! The statements that make a new desk, within a transaction: its nine tables, two indexes and the one row of meta.
+//! The statements that make a new desk, within a transaction: its nine tables, three indexes and the one row of meta.
 ghost use Rattle.std.specs.Prelude.{◌≡◌, [], ◌∷◌};
 ghost use Rattle.hotel_statements.specs.Schema.{no_schema, desk_schema};
 ghost use Rattle.hotel_statements.specs.Statements.{MakesBy, adds_meta, makes_table, makes_first, makes_new};
 ghost use Rattle.hotel_statements.specs.Statements.{makes_of_locks, makes_last};
-ghost use Rattle.hotel_statements.specs.NewDesk.{IfOpen, IfOpenBare, Makes, AddsTable, AddsIndex, MakesNew, IsBare};
+ghost use Rattle.hotel_statements.specs.NewDesk.{IfOpen, IfOpenBare, Makes, AddsTable, MakesNew, IsBare};
 ghost use Rattle.hotel_statements.specs.NewDesk.{IsMade, with_stay, with_card, with_note};
 
+use crate::indexes::add_indexes;
 use crate::statement::run;
 use crate::texts::{
-    CREATE_CARD, CREATE_CARD_PARTY, CREATE_CODE, CREATE_FIT, CREATE_INSIDE, CREATE_KIND,
-    CREATE_META, CREATE_NOTE, CREATE_ROOM, CREATE_STAY, CREATE_STAY_ROOM, INSERT_META,
+    CREATE_CARD, CREATE_CODE, CREATE_FIT, CREATE_INSIDE, CREATE_KIND, CREATE_META, CREATE_NOTE,
+    CREATE_ROOM, CREATE_STAY, INSERT_META,
 };
 use sqlite::{Alter, Error, Transaction};
 
@@ -18,15 +19,6 @@ fn make<S: Alter>(tx: &mut Transaction<'_, S>, text: &str) -> Result<(), Error>
     ensures same_reference { tx.new.conn.ghost_name ≡ tx.old.conn.ghost_name }
     ensures makes { MakesBy S.Store (makes_table text.now ∷ [])
         (λ old new. Makes text.now old new × AddsTable text.now old new) tx.old.conn.now tx.new.conn.now result }
-{
-    run(tx, text, &[])
-}
-
-/// Makes an index.
-fn make_index<S: Alter>(tx: &mut Transaction<'_, S>, text: &str) -> Result<(), Error>
-    ensures same_reference { tx.new.conn.ghost_name ≡ tx.old.conn.ghost_name }
-    ensures makes { MakesBy S.Store (makes_table text.now ∷ []) (AddsIndex text.now)
-        tx.old.conn.now tx.new.conn.now result }
 {
     run(tx, text, &[])
 }
@@ -43,7 +35,7 @@ pub fn make_first<S: Alter>(tx: &mut Transaction<'_, S>) -> Result<(), Error>
     make(tx, CREATE_STAY)
 }
 
-/// Makes what the second version has beside the tables of the first: the table of fits and the two indexes.
+/// Makes what a new desk has beside the tables of the first version: the table of fits and the indexes.
 pub(crate) fn make_new<S: Alter>(tx: &mut Transaction<'_, S>) -> Result<(), Error>
     ensures same_reference { tx.new.conn.ghost_name ≡ tx.old.conn.ghost_name }
     ensures makes { MakesBy S.Store makes_new
@@ -51,11 +43,10 @@ pub(crate) fn make_new<S: Alter>(tx: &mut Transaction<'_, S>) -> Result<(), Erro
         tx.old.conn.now tx.new.conn.now result }
 {
     make(tx, CREATE_FIT)?;
-    make_index(tx, CREATE_STAY_ROOM)?;
-    make_index(tx, CREATE_CARD_PARTY)
+    add_indexes(tx, 0)
 }
 
-/// Makes the tables of insides, notes and fits, and the two indexes.
+/// Makes the tables of insides, notes and fits, and the indexes.
 fn make_of_locks<S: Alter>(tx: &mut Transaction<'_, S>) -> Result<(), Error>
     ensures same_reference { tx.new.conn.ghost_name ≡ tx.old.conn.ghost_name }
     ensures makes { MakesBy S.Store makes_of_locks (IfOpenBare with_card desk_schema)
@@ -66,7 +57,7 @@ fn make_of_locks<S: Alter>(tx: &mut Transaction<'_, S>) -> Result<(), Error>
     make_new(tx)
 }
 
-/// Makes the tables of codes, cards, insides, notes and fits, and the two indexes.
+/// Makes the tables of codes, cards, insides, notes and fits, and the indexes.
 pub fn make_last<S: Alter>(tx: &mut Transaction<'_, S>) -> Result<(), Error>
     ensures same_reference { tx.new.conn.ghost_name ≡ tx.old.conn.ghost_name }
     ensures makes { MakesBy S.Store makes_last (IfOpenBare with_stay desk_schema)

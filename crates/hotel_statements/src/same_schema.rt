@@ -1,4 +1,4 @@
-//! Whether two schemas are the same, of the forms that a desk's tables have.
+//! Whether a schema is another without its last tables and indexes, of the forms that a desk's tables have.
 //!
 //! Of other forms, as a column with a default, the answer is no.
 ghost use Rattle.std.specs.Prelude.{◌≡◌, ◌==◌, ◌<◌, ◌≤◌, Bool, MatchOption, length, bytes_eq};
@@ -296,16 +296,6 @@ pub fn same_front(a: &Schema, b: &Schema, tables: usize, indexes: usize) -> bool
 {
     same_parts(a.tables.as_slice(), &b.tables.as_slice()[..tables])
         && same_parts(a.indexes.as_slice(), &b.indexes.as_slice()[..indexes])
-        && a.views.len() == 0
-        && b.views.len() == 0
-}
-
-/// Whether two schemas are the same, and have no view.
-pub fn same_schema(a: &Schema, b: &Schema) -> bool
-    ensures { result ≡ spec.same_schema a.now b.now }
-{
-    same_parts(a.tables.as_slice(), b.tables.as_slice())
-        && same_parts(a.indexes.as_slice(), b.indexes.as_slice())
         && a.views.len() == 0
         && b.views.len() == 0
 }

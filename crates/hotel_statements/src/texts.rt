@@ -65,11 +65,13 @@ pub(crate) const CREATE_FIT: &str = "CREATE TABLE fit (\
     PRIMARY KEY (room, fit), \
     UNIQUE (room, place)) STRICT";
 
-// The indexes, by which the rows that refer to a changed one are looked for.
+// The indexes: by the first two the rows that refer to a changed one are looked for, by the third the arrivals.
 
 pub(crate) const CREATE_STAY_ROOM: &str = "CREATE INDEX stay_room ON stay (room)";
 
 pub(crate) const CREATE_CARD_PARTY: &str = "CREATE INDEX card_party ON card (party)";
+
+pub(crate) const CREATE_STAY_ARRIVE: &str = "CREATE INDEX stay_arrive ON stay (state, arrive)";
 
 // One row by its key.
 

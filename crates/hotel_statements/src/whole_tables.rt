@@ -44,7 +44,7 @@ fn read_table<S: Alter, L: PlainRow + Drop>(
 ) -> Result<Vec<L>, LookFault>
     requires ours { IsOurs version (state S.Store conn.old) }
     requires whole { IsWhole version L.PlainRow.text L.PlainRow.tree L.PlainRow.columns L.PlainRow.cut }
-    ensures { ReadsPart version (TableFails version L.PlainRow.text L.PlainRow.shown)
+    ensures { ReadsPart version (TableFails L.PlainRow.text L.PlainRow.shown)
         (λ plain_rows db. ArePlainRows L.PlainRow.columns L.PlainRow.shown plain_rows.items (db L.PlainRow.tree))
         (state S.Store conn.old) (state S.Store conn.new) result }
 {
@@ -64,8 +64,8 @@ fn read_two<S: Alter, A: PlainRow + Drop, B: PlainRow + Drop>(
     requires first { IsWhole version A.PlainRow.text A.PlainRow.tree A.PlainRow.columns A.PlainRow.cut }
     requires second { IsWhole version B.PlainRow.text B.PlainRow.tree B.PlainRow.columns B.PlainRow.cut }
     ensures { ReadsPart version
-        (λ old new. TableFails version A.PlainRow.text A.PlainRow.shown old new
-        ⊎ TableFails version B.PlainRow.text B.PlainRow.shown old new)
+        (λ old new. TableFails A.PlainRow.text A.PlainRow.shown old new
+        ⊎ TableFails B.PlainRow.text B.PlainRow.shown old new)
         (λ two db.
         ArePlainRows A.PlainRow.columns A.PlainRow.shown two.0.items (db A.PlainRow.tree)
         × ArePlainRows B.PlainRow.columns B.PlainRow.shown two.1.items (db B.PlainRow.tree))
@@ -134,7 +134,7 @@ fn read_first<S: Alter>(
     LookFault,
 >
     requires { IsOurs version (state S.Store conn.old) }
-    ensures { ReadsPart version (FirstFail version) AreFirst (state S.Store conn.old) (state S.Store conn.new) result }
+    ensures { ReadsPart version FirstFail AreFirst (state S.Store conn.old) (state S.Store conn.new) result }
 {
     let first = read_two(alloc, conn, version)?;
     let second = read_two(alloc, conn, version)?;
@@ -154,7 +154,7 @@ fn read_last<S: Alter>(
     LookFault,
 >
     requires { IsOurs version (state S.Store conn.old) }
-    ensures { ReadsPart version (LastFail version) AreLast (state S.Store conn.old) (state S.Store conn.new) result }
+    ensures { ReadsPart version LastFail AreLast (state S.Store conn.old) (state S.Store conn.new) result }
 {
     let first = read_two(alloc, conn, version)?;
     let second = read_two(alloc, conn, version)?;

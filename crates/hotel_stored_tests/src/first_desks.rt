@@ -51,16 +51,15 @@ pub(crate) const CREATE_STAY_ROOM: &str = "CREATE INDEX stay_room ON stay (room)
 
 pub(crate) const CREATE_CARD_PARTY: &str = "CREATE INDEX card_party ON card (party)";
 
+pub(crate) const CREATE_STAY_ARRIVE: &str = "CREATE INDEX stay_arrive ON stay (state, arrive)";
+
+/// The indexes of a new desk, in their order.
+pub(crate) static INDEXES: [&str; 3] = [CREATE_STAY_ROOM, CREATE_CARD_PARTY, CREATE_STAY_ARRIVE];
+
 pub(crate) const INSERT_FIT: &str = "INSERT INTO fit VALUES (101, 1, 0, 0)";
 
-/// What makes a desk of the second version of this one.
-static UPGRADE: [&str; 5] = [
-    CREATE_FIT,
-    CREATE_STAY_ROOM,
-    CREATE_CARD_PARTY,
-    INSERT_FIT,
-    "UPDATE meta SET version = 2",
-];
+/// What makes a desk of the second version of this one, without indexes.
+static UPGRADE: [&str; 3] = [CREATE_FIT, INSERT_FIT, "UPDATE meta SET version = 2"];
 
 /// Carries out these statements.
 pub(crate) fn carry_out<S: Alter>(
@@ -86,9 +85,15 @@ pub(crate) fn first_desk(alloc: Global) -> Result<Connection<MemStore>, Fail> {
     Ok(conn)
 }
 
-/// The desk of the second version that comes of it.
-pub(crate) fn second_desk(alloc: Global) -> Result<Connection<MemStore>, Fail> {
+/// The desk of the second version that comes of it, with these indexes.
+pub(crate) fn desk_with(alloc: Global, indexes: &[&str]) -> Result<Connection<MemStore>, Fail> {
     let mut conn = first_desk(alloc)?;
     carry_out(&mut conn, &UPGRADE)?;
+    carry_out(&mut conn, indexes)?;
     Ok(conn)
+}
+
+/// The same with all of them.
+pub(crate) fn second_desk(alloc: Global) -> Result<Connection<MemStore>, Fail> {
+    desk_with(alloc, &INDEXES)
 }

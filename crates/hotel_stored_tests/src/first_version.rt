@@ -1,7 +1,8 @@
 //! Desks of the first version of the tables: what an opening makes of them, and what it refuses and leaves as it is.
 use crate::connections::opened;
 use crate::first_desks::{
-    CREATE_CARD_PARTY, CREATE_FIT, CREATE_STAY_ROOM, INSERT_FIT, carry_out, first_desk, second_desk,
+    CREATE_CARD_PARTY, CREATE_FIT, CREATE_STAY_ARRIVE, CREATE_STAY_ROOM, INDEXES, INSERT_FIT, carry_out,
+    desk_with, first_desk, second_desk,
 };
 use crate::stored_rows::{database_text, stored};
 use crate::tables::{damaged_in, is_damaged, is_refused};
@@ -163,14 +164,45 @@ fn secured_by_no_card(rt: HostRuntime) -> Result<(), Fail> {
     secured_by_first_code(&rt, second_desk(rt.alloc())?)
 }
 
+/// A desk of the second version that lacks indexes, all or the last ones, is whole once it is opened, with its rows.
+#[test]
+fn indexes_made(rt: HostRuntime) -> Result<(), Fail> {
+    let whole = database_text(rt.alloc(), &mut second_desk(rt.alloc())?)?;
+    for count in 0..=INDEXES.len() {
+        let mut conn = desk_with(rt.alloc(), &INDEXES[..count])?;
+        assert!(rt; (database_text(rt.alloc(), &mut conn)? == whole) == (count == INDEXES.len()));
+        let mut books = opened(rt.alloc(), conn)?;
+        has_first_fit(&rt, &mut books)?;
+        conn = books.close();
+        assert!(rt; database_text(rt.alloc(), &mut conn)? == whole);
+    }
+    Ok(())
+}
+
+/// Others than the first ones are no desk's.
+static OTHER_INDEXES: [&[&str]; 5] = [
+    &[CREATE_CARD_PARTY],
+    &[CREATE_STAY_ARRIVE],
+    &[CREATE_STAY_ROOM, CREATE_STAY_ARRIVE],
+    &[CREATE_CARD_PARTY, CREATE_STAY_ROOM],
+    &[CREATE_STAY_ROOM, "CREATE INDEX note_day ON note (day)"],
+];
+
+#[test]
+fn other_indexes(rt: HostRuntime) -> Result<(), Fail> {
+    for indexes in &OTHER_INDEXES {
+        is_refused(&rt, desk_with(rt.alloc(), indexes)?, OpenFault::NotADesk)?;
+    }
+    Ok(())
+}
+
 /// Statements that make no desk of it: with the table of fits, or an index, or the second version's number.
-static NO_DESKS: [&[&str]; 7] = [
+static NO_DESKS: [&[&str]; 6] = [
     &[CREATE_FIT],
     &[CREATE_FIT, INSERT_FIT],
     &[CREATE_STAY_ROOM, CREATE_CARD_PARTY],
     &[CREATE_FIT, CREATE_STAY_ROOM, CREATE_CARD_PARTY, INSERT_FIT],
     &["UPDATE meta SET version = 2"],
-    &[CREATE_FIT, INSERT_FIT, "UPDATE meta SET version = 2"],
     &["DELETE FROM meta"],
 ];
 

@@ -10,6 +10,8 @@ mod first_desks;
 #[cfg(test)]
 mod first_version;
 #[cfg(test)]
+mod interrupted_walks;
+#[cfg(test)]
 mod stored_rows;
 #[cfg(test)]
 mod tables;

@@ -5,7 +5,6 @@ use Rattle.std.specs.Prelude.{IfErr}
 use Rattle.std.specs.Result.{IsErr, IsErrAnd}
 use Rattle.sqlite_trees.specs.declared.store.Store.{Ghosts}
 use Rattle.sqlite.specs.Effect.{Database}
-use Rattle.sqlite.specs.Tree.{Trees}
 use Rattle.sqlite.specs.Held.{Held, state}
 use Rattle.sqlite.specs.State.{State, HasCleanDisk, Survives}
 use Rattle.sqlite.specs.Steps.{FailsToCommit}
@@ -172,7 +171,7 @@ module _ {S : Type 0} (g : Ghosts S) where
     told_from new (change.Noted note lock_place secured insides) asks fails =
         subst (λ (h : Held S). FitFails note.room note.fit (state g h) (state g new)) asks fails
 
-  asked_then : {old mid new : Held S} → (mid ≡ old) ⊎ IsAsked g old mid → (new ≡ mid) ⊎ IsAsked g mid new
+  pub asked_then : {old mid new : Held S} → (mid ≡ old) ⊎ IsAsked g old mid → (new ≡ mid) ⊎ IsAsked g mid new
       → (new ≡ old) ⊎ IsAsked g old new
   asked_then (inl same) (inl more) = inl (more ∙ same)
   asked_then {old = old} {mid = mid} {new = new} (inl same) (inr more) = inr (subst (λ (h : Held S). IsAsked g h new)

@@ -1,5 +1,5 @@
--- What is entered: a desk of the second version as it is, and one of the first of which one of the second is made.
-use Rattle.std.proofs.Common.{◌≡◌, ◌⊎◌, inl, inr, refl, sym, ap, subst, ◌∙◌, ℕ, List, false, Result, Ok, Err}
+-- What is entered: a whole desk as it is, and one that lacks something of which a whole one is made.
+use Rattle.std.proofs.Common.{◌≡◌, ◌⊎◌, inl, inr, refl, sym, ap, subst, ◌∙◌, ℕ, List, true, false, Result, Ok, Err}
 use Rattle.std.proofs.Common.{IfErr, IsTrue, arith}
 use Rattle.sqlite.specs.Schema.{Schema}
 use Rattle.sqlite.specs.Effect.{Database}
@@ -12,49 +12,51 @@ use Rattle.keycard_rules.specs.declared.issued.LookFault.{LookFault}
 use Rattle.keycard_rules.specs.declared.issued.LookFault.TheVariants as look
 use Rattle.hotel_statements.specs.LookUps.{fault_of}
 use Rattle.hotel_statements.specs.declared.version.Version.{Version}
-use Rattle.hotel_statements.specs.declared.version.Version.TheVariants.{First, Second}
-use Rattle.hotel_statements.specs.Schema.{first_schema, desk_schema, schema_of}
+use Rattle.hotel_statements.specs.declared.version.Layout.{Layout}
+use Rattle.hotel_statements.specs.declared.version.Layout.TheVariants.{Eight, Nine}
+use Rattle.hotel_statements.specs.Schema.{first_schema, with_indexes, schema_of, version_of, is_whole}
 use Rattle.hotel_statements.specs.Tables.{rows_in, rows_of_version}
 use Rattle.hotel_statements.specs.Books.{IsKept, IsBooks, IsBooksOf, KeepsRows}
-use Rattle.hotel_statements.specs.Statements.{makes_second}
+use Rattle.hotel_statements.specs.Statements.{completes}
 use Rattle.hotel_statements.specs.WholeTables.{IsOurs, AreRead, ReadsTo}
 use Rattle.hotel_statements.specs.declared.whole_tables.Tables.{Tables}
-use Rattle.hotel_statements.specs.Upgrade.{AreRoomsIn, IsUpgradeOf}
-use Rattle.hotel_statements.proofs.SameSchema.{not_both}
+use Rattle.hotel_statements.specs.Upgrade.{AreRoomsIn, IsWholeOf}
+use Rattle.hotel_statements.proofs.SameSchema.{tables_there, one_version, whole_is, not_whole}
 use Rattle.hotel_statements.proofs.Books.{desk_shown}
 use Rattle.hotel_tables.specs.declared.open_fault.OpenFault.{OpenFault}
 use Rattle.hotel_tables.specs.declared.open_fault.OpenFault.TheVariants as fault
 use Rattle.hotel_tables.specs.declared.opening.Found.{Found}
 use Rattle.hotel_tables.specs.Applied.{LeavesAll}
 use Rattle.hotel_tables.specs.TableBooks.{IsCounted}
-use Rattle.hotel_tables.specs.Opening.{Opens, Enters, FaultFits, FaultFitsIn, IsUpgraded, IsSoundDesk, IsOfVersion}
-use Rattle.hotel_tables.specs.Opening.{IsOfCall, IsNoDesk, FailsToRead, MemoryFitsIn, fault_for}
+use Rattle.hotel_tables.specs.Opening.{Opens, Enters, FaultFits, FaultFitsIn, IsCompleted, IsSoundDesk, IsLaidOut}
+use Rattle.hotel_tables.specs.Opening.{Lacks, IsOfCall, IsNoDesk, FailsToRead, MemoryFitsIn, fault_for}
 use Rattle.hotel_tables.specs.Causes.{FailsToWrite}
 use Rattle.hotel_tables.specs.Exits.{CallFails, LeavesDatabase}
 use Rattle.hotel_tables.proofs.Opened.{fits_more, fits_call}
 use Rattle.hotel_tables.proofs.Reread.{of_a_call}
 
-pub ours_of : {version : Version} (s : State) → s.in_transaction ≡ false → (IsTrue s.is_open → s.now ≡ s.committed)
-    → s.now.schema ≡ schema_of version → IsOurs version s
-ours_of s autocommit settled has = record { autocommit = autocommit; tables = λ kept. (has, settled kept.1) }
+pub ours_of : (layout : Layout) (s : State) → s.in_transaction ≡ false → (IsTrue s.is_open → s.now ≡ s.committed)
+    → s.now.schema ≡ schema_of layout → IsOurs (version_of layout) s
+ours_of layout s autocommit settled has =
+    let there = tables_there layout in
+    record { autocommit = autocommit; tables = λ kept. ((there.0, has ∙ there.1), settled kept.1) }
 
 -- a database has the tables of one version only
-fits_in : (failed : Version → Type 0) (version : Version) (db : Database) (why : OpenFault)
-    → db.schema ≡ schema_of version → FaultFits (failed version) version db.trees why → FaultFitsIn failed db why
-fits_in failed First db why has fits First is = fits
-fits_in failed First db why has fits Second is = absurd (not_both db.schema is has)
-fits_in failed Second db why has fits First is = absurd (not_both db.schema has is)
-fits_in failed Second db why has fits Second is = fits
+fits_in : (failed : Version → Type 0) (layout : Layout) (db : Database) (why : OpenFault)
+    → db.schema ≡ schema_of layout → FaultFits (failed (version_of layout)) (version_of layout) db.trees why
+    → FaultFitsIn failed db why
+fits_in failed layout db why has fits other is =
+    subst (λ (v : Version). FaultFits (failed v) v db.trees why) (one_version layout other db.schema has is) fits
 
--- the same of what is said of Memory
-memory_in : (failed : Version → Type 0) (version : Version) (old new : State) (why : OpenFault)
-    → old.now.schema ≡ schema_of version
-    → (why ≡ fault.Memory → failed version ⊎ ((t : Tables) × ReadsTo version (AreRead version) old new (Ok t)))
+-- what is said of Memory over the tables of a version
+abbrev MemoryFits : (Version → Type 0) → State → State → Version → Type 0
+MemoryFits failed old new version = failed version ⊎ ((t : Tables) × ReadsTo version (AreRead version) old new (Ok t))
+
+memory_in : (failed : Version → Type 0) (layout : Layout) (old new : State) (why : OpenFault)
+    → old.now.schema ≡ schema_of layout → (why ≡ fault.Memory → MemoryFits failed old new (version_of layout))
     → MemoryFitsIn failed old new why
-memory_in failed First old new why has told memory First is = told memory
-memory_in failed First old new why has told memory Second is = absurd (not_both old.now.schema is has)
-memory_in failed Second old new why has told memory First is = absurd (not_both old.now.schema has is)
-memory_in failed Second old new why has told memory Second is = told memory
+memory_in failed layout old new why has told memory other is =
+    subst (MemoryFits failed old new) (one_version layout other old.now.schema has is) (told memory)
 
 -- a reading that failed is told by its cause
 memory_read : (failed : Type 0) (version : Version) (old new : State) (why : OpenFault) (r : Result Tables LookFault)
@@ -71,100 +73,111 @@ is_memory : (why : LookFault) → fault_for why ≡ fault.Memory → why ≡ loo
 is_memory look.Memory is = refl
 is_memory look.Store is = absurd (let both_are : fault.Store ≡ fault.Memory = is in cc)
 
--- the tables are of neither version
-pub of_neither : {schema : Schema} → ¬ (schema ≡ desk_schema) → ¬ (schema ≡ first_schema) → ¬ IsOfVersion schema
-of_neither second first (First, is) = first is
-of_neither second first (Second, is) = second is
+-- the database is laid out in no way of a desk's
+pub of_none : {schema : Schema} → ¬ (schema ≡ first_schema) → ((count : ℕ) → ¬ (schema ≡ with_indexes count))
+    → ¬ IsLaidOut schema
+of_none first second (Eight, is) = first is
+of_none first second (Nine count, is) = second count is
 
-pub sound_of : (s : State) → IsSoundDesk s → IsOfVersion s.now.schema
-sound_of s (version, desk, sound) = (version, desk.schema)
+pub sound_of : (s : State) → IsSoundDesk s → IsLaidOut s.now.schema
+sound_of s (layout, desk, sound) = (layout, desk.schema)
 
 -- ---- an opening that was refused
 
-pub entered_not : {fails : LookFault → Version → Type 0} (version : Version) (old new : State) (why : OpenFault)
-    → old.now.schema ≡ schema_of version
-    → ((cause : LookFault) → FailsToRead version old new cause → fails cause version)
-    → Opens version old new (Err why) → Enters fails old new (Err why)
-entered_not {fails} version old new why has read opens = record {
+pub entered_not : {fails : LookFault → Version → Type 0} (layout : Layout) (old new : State) (why : OpenFault)
+    → old.now.schema ≡ schema_of layout
+    → ((cause : LookFault) → FailsToRead (version_of layout) old new cause → fails cause (version_of layout))
+    → Opens (version_of layout) old new (Err why) → Enters fails old new (Err why)
+entered_not {fails} layout old new why has read opens = record {
   autocommit = opens.ours.autocommit;
   books = tt;
   was = λ kept. (opens.keeps kept).0;
   continues = λ _. tt;
-  whole = λ _ _. tt;
+  whole = λ _ _ _. tt;
   same = λ kept. (opens.keeps kept).1;
   counted = λ _. tt;
   open_on = λ _. tt;
   fault = λ clean.
-      fits_in (fails look.Store) version old.now why has
-      (fits_more (read look.Store) version old.now.trees why (opens.fault clean));
+      fits_in (fails look.Store) layout old.now why has
+      (fits_more (read look.Store) (version_of layout) old.now.trees why (opens.fault clean));
   memory =
       let r = opens.reading in
-      memory_in (fails look.Memory) version old new why has
-      (memory_read (fails look.Memory version) version old new why r.0 r.1 r.2 (read look.Memory));
+      memory_in (fails look.Memory) layout old new why has
+      (memory_read (fails look.Memory (version_of layout)) (version_of layout) old new why r.0 r.1 r.2
+      (read look.Memory));
   crash = λ kept. survives_weaker old new _ _ (λ _ db none. absurd (none kept)) opens.crash;
 }
 
 -- ---- a desk that was read
 
 -- its rows are those of a desk of its version
-pub books_read : {version : Version} {found : Found} {old new : State} → old.now.schema ≡ schema_of version
-    → Opens version old new (Ok found) → IsBooksOf version new
-books_read has opens = record {
+pub books_read : (layout : Layout) {found : Found} {old new : State} → old.now.schema ≡ schema_of layout
+    → Opens (version_of layout) old new (Ok found) → IsBooksOf layout new
+books_read layout has opens = record {
   autocommit = opens.ours.autocommit;
   desk = λ kept. desk_shown has (opens.found kept).tables (opens.keeps kept).1 (opens.ours.tables kept).1;
 }
 
--- ---- a desk of the second version
+-- ---- a whole desk
 
-pub entered_second : {fails : LookFault → Version → Type 0} {found : Found} (old new : State)
-    → old.now.schema ≡ desk_schema → Opens Second old new (Ok found) → Enters fails old new (Ok found.counts)
-entered_second {fails} {found} old new has opens = record {
-  autocommit = opens.ours.autocommit;
-  books = books_read has opens;
-  was = λ kept. (opens.keeps kept).0;
-  continues = λ kept. inl (has, (opens.keeps kept).1);
-  whole = λ first kept. absurd (not_both old.now.schema has first);
-  same = λ _. tt;
-  counted = λ kept.
-      subst (λ (d : Database). IsCounted found.counts.kinds found.counts.nights (rows_in d.trees))
-      (sym (opens.keeps kept).1)
-      (opens.found kept).counted;
-  open_on = opens.open_on;
-  fault = λ _. tt;
-  memory = tt;
-  crash = λ kept. survives_weaker old new _ _ (λ _ db none. absurd (none kept)) opens.crash;
-}
+pub entered_whole : {fails : LookFault → Version → Type 0} (layout : Layout) {found : Found} (old new : State)
+    → is_whole layout ≡ true → old.now.schema ≡ schema_of layout → Opens (version_of layout) old new (Ok found)
+    → Enters fails old new (Ok found.counts)
+entered_whole {fails} Eight {found} old new whole has opens =
+    absurd (let no : false ≡ true = whole in cc)
+entered_whole {fails} (Nine count) {found} old new whole has opens =
+    let desk = has ∙ whole_is (Nine count) whole in
+    record {
+      autocommit = opens.ours.autocommit;
+      books = record {
+        autocommit = opens.ours.autocommit;
+        desk = λ kept. desk_shown desk (opens.found kept).tables (opens.keeps kept).1 (opens.ours.tables kept).1;
+      };
+      was = λ kept. (opens.keeps kept).0;
+      continues = λ kept. inl (desk, (opens.keeps kept).1);
+      whole = λ other lacks kept. absurd (not_whole other lacks.0 (sym lacks.1 ∙ desk));
+      same = λ _. tt;
+      counted = λ kept.
+          subst (λ (d : Database). IsCounted found.counts.kinds found.counts.nights (rows_in d.trees))
+          (sym (opens.keeps kept).1)
+          (opens.found kept).counted;
+      open_on = opens.open_on;
+      fault = λ _. tt;
+      memory = tt;
+      crash = λ kept. survives_weaker old new _ _ (λ _ db none. absurd (none kept)) opens.crash;
+    }
 
--- ---- a desk of the first version
+-- ---- a desk that lacks something
 
-module _ {found : Found} {old mid : State} (has : old.now.schema ≡ first_schema)
-    (opens : Opens First old mid (Ok found)) where
-  pub first_rooms : IsKept mid → AreRoomsIn found.rooms.items mid.now.trees
-  first_rooms kept =
+module _ (layout : Layout) {found : Found} {old mid : State} (lacks : Lacks layout old.now.schema)
+    (opens : Opens (version_of layout) old mid (Ok found)) where
+  pub rooms_read : IsKept mid → AreRoomsIn found.rooms.items mid.now.trees
+  rooms_read kept =
       subst (λ (d : Database). AreRoomsIn found.rooms.items d.trees) (sym (opens.keeps kept).1) (opens.found kept).rooms
 
   -- what is made of it, and what that leaves
   module _ {new : State} (autocommit : new.in_transaction ≡ false) (was : IsKept new → IsKept mid)
-      (crash : Survives mid new (IsUpgradeOf mid.now.trees)) where
-    crash_whole : IsKept old → Survives old new (IsUpgraded old.now)
+      (crash : Survives mid new (IsWholeOf (version_of layout) mid.now.trees)) where
+    crash_whole : IsKept old → Survives old new (IsCompleted old.now)
     crash_whole kept =
-        survives_then old mid new (λ _. IsKept old → ⊥) (IsUpgradeOf mid.now.trees) (IsUpgraded old.now)
-        (λ _ db none. absurd (none kept))
+        survives_then old mid new (λ _. IsKept old → ⊥) (IsWholeOf (version_of layout) mid.now.trees)
+        (IsCompleted old.now) (λ _ db none. absurd (none kept))
         (λ clean db whole.
         let before : HasCleanDisk mid = omega (arith, crash.clean, clean) in
         let same = (opens.keeps (before, opens.open_on before)).1 in
-        (has, subst (λ (d : Database). IsUpgradeOf d.trees db) same whole)) opens.crash crash
+        (layout, lacks, subst (λ (d : Database). IsWholeOf (version_of layout) d.trees db) same whole))
+        opens.crash crash
 
-    pub entered_first : {fails : LookFault → Version → Type 0} → IsBooks new
-        → (IsKept new → rows_in new.now.trees ≡ rows_of_version First mid.now.trees)
+    pub entered_made : {fails : LookFault → Version → Type 0} → IsBooks new
+        → (IsKept new → rows_in new.now.trees ≡ rows_of_version (version_of layout) mid.now.trees)
         → (IsKept new → LeavesAll new) → (HasCleanDisk new → IsTrue new.is_open)
         → Enters fails old new (Ok found.counts)
-    entered_first books made whole open_on = record {
+    entered_made books made whole open_on = record {
       autocommit = autocommit;
       books = books;
       was = λ kept. (opens.keeps (was kept)).0;
-      continues = λ kept. inr (has, (books.desk kept).schema, rows kept);
-      whole = λ _ kept. whole kept;
+      continues = λ kept. inr (layout, lacks, (books.desk kept).schema, rows kept);
+      whole = λ _ _ kept. whole kept;
       same = λ _. tt;
       counted = λ kept.
           subst (IsCounted found.counts.kinds found.counts.nights) (sym (rows kept)) (opens.found (was kept)).counted;
@@ -174,25 +187,27 @@ module _ {found : Found} {old mid : State} (has : old.now.schema ≡ first_schem
       crash = crash_whole;
     }
       where
-        rows : IsKept new → rows_in new.now.trees ≡ rows_of_version First old.now.trees
-        rows kept = made kept ∙ ap (λ (d : Database). rows_of_version First d.trees) (opens.keeps (was kept)).1
+        rows : IsKept new → rows_in new.now.trees ≡ rows_of_version (version_of layout) old.now.trees
+        rows kept =
+            made kept
+            ∙ ap (λ (d : Database). rows_of_version (version_of layout) d.trees) (opens.keeps (was kept)).1
 
-    pub not_upgraded : {fails : LookFault → Version → Type 0} (why : LookFault) → (IsKept new → new.now ≡ mid.now)
-        → ((cause : LookFault) → why ≡ cause → fails cause First) → Enters fails old new (Err (fault_for why))
-    not_upgraded {fails} why same failed = record {
+    pub not_made : {fails : LookFault → Version → Type 0} (why : LookFault) → (IsKept new → new.now ≡ mid.now)
+        → ((cause : LookFault) → why ≡ cause → fails cause (version_of layout)) → Enters fails old new (Err (fault_for why))
+    not_made {fails} why same failed = record {
       autocommit = autocommit;
       books = tt;
       was = λ kept. (opens.keeps (was kept)).0;
       continues = λ _. tt;
-      whole = λ _ _. tt;
+      whole = λ _ _ _. tt;
       same = λ kept. same kept ∙ (opens.keeps (was kept)).1;
       counted = λ _. tt;
       open_on = λ _. tt;
       fault = λ _.
-          fits_in (fails look.Store) First old.now (fault_for why) has
-          (fits_call (fails look.Store First) First old.now.trees why (failed look.Store));
+          fits_in (fails look.Store) layout old.now (fault_for why) lacks.1
+          (fits_call (fails look.Store (version_of layout)) (version_of layout) old.now.trees why (failed look.Store));
       memory =
-          memory_in (fails look.Memory) First old new (fault_for why) has
+          memory_in (fails look.Memory) layout old new (fault_for why) lacks.1
           (λ is. inl (failed look.Memory (is_memory why is)));
       crash = crash_whole;
     }
@@ -201,44 +216,53 @@ module _ {found : Found} {old mid : State} (has : old.now.schema ≡ first_schem
 
 pub of_call : (failed : Version → Type 0) (s : State) (why : OpenFault) → FaultFitsIn failed s.now why → IsSoundDesk s
     → IsOfCall why
-of_call failed s why fits (version, desk, sound) =
-    of_a_call (failed version) version s.now.trees why desk.tables sound (fits version desk.schema)
+of_call failed s why fits (layout, desk, sound) =
+    of_a_call (failed (version_of layout)) (version_of layout) s.now.trees why desk.tables sound
+    (fits layout desk.schema)
 
 module _ {S : Type 0} (g : Ghosts S) where
-  -- the making of a desk of the second version failed
-  pub upgrade_fails : (old mid new : Held S) (rooms : List ℕ) (e : Error) → KeepsRows (state g old) (state g mid)
+  -- the making of what a desk lacks failed
+  pub completion_fails : (layout : Layout) (old mid new : Held S) (rooms : List ℕ) (e : Error)
+      → Lacks layout (state g old).now.schema → KeepsRows (state g old) (state g mid)
       → (IsKept (state g mid) → AreRoomsIn rooms (state g mid).now.trees)
-      → FailsToWrite g (makes_second rooms) mid new e → (cause : LookFault) → fault_of e ≡ cause
-      → CallFails g old new cause First
-  upgrade_fails old mid new rooms e same rooms_are failed cause is = inr (
-    refl,
-    record { read = mid; same = same; rooms = rooms; rooms_are = rooms_are; error = e; told = sym is; failed = failed },
-  )
+      → FailsToWrite g (completes layout rooms) mid new e → (cause : LookFault) → fault_of e ≡ cause
+      → CallFails g old new cause (version_of layout)
+  completion_fails layout old mid new rooms e lacks same rooms_are failed cause is = inr (record {
+    layout = layout;
+    lacks = lacks;
+    read = mid;
+    same = same;
+    rooms = rooms;
+    rooms_are = rooms_are;
+    error = e;
+    told = sym is;
+    failed = failed;
+  })
 
   -- nothing was read: the tables are no desk's, or memory was wanting
   pub unread : (c : Held S) (why : OpenFault) → c.in_transaction ≡ false
-      → (IsOfVersion (state g c).now.schema → why ≡ fault.Memory) → IsNoDesk why
+      → (IsLaidOut (state g c).now.schema → why ≡ fault.Memory) → IsNoDesk why
       → Survives (state g c) (state g c) (λ _. ⊥) → LeavesDatabase g c c why
   unread c why alone memory none still = record {
     outside = alone;
     same = λ kept. (kept, refl);
     crash = λ _. survives_weaker (state g c) (state g c) _ _ (λ _ db no. absurd no) still;
     foreign = λ _. none;
-    fits = λ _ version is.
-        subst (FaultFits (CallFails g c c look.Store version) version (state g c).now.trees)
-        (sym (memory (version, is))) tt;
+    fits = λ _ layout is.
+        subst (FaultFits (CallFails g c c look.Store (version_of layout)) (version_of layout) (state g c).now.trees)
+        (sym (memory (layout, is))) tt;
     memory = inl refl;
     kept = λ _ desk. subst IsOfCall (sym (memory (sound_of (state g c) desk))) tt;
   }
 
   -- its tables gave no books
-  pub left_of : (version : Version) (old new : Held S) (why : OpenFault) → (state g old).now.schema ≡ schema_of version
+  pub left_of : (layout : Layout) (old new : Held S) (why : OpenFault) → (state g old).now.schema ≡ schema_of layout
       → Enters (CallFails g old new) (state g old) (state g new) (Err why) → LeavesDatabase g old new why
-  left_of version old new why has enters = record {
+  left_of layout old new why has enters = record {
     outside = enters.autocommit;
     same = λ kept. (enters.was kept, enters.same kept);
     crash = enters.crash;
-    foreign = λ none. absurd (none (version, has));
+    foreign = λ none. absurd (none (layout, has));
     fits = enters.fault;
     memory = inr enters.memory;
     kept = λ clean desk. of_call (CallFails g old new look.Store) (state g old) why (enters.fault clean) desk;

@@ -1,16 +1,16 @@
 -- A desk made in memory has a desk's tables, since memory is always clean and never fails as a disk does.
-use Rattle.std.proofs.Common.{◌≡◌, ◌≤◌, ◌∙◌, true, sym, ap, subst, length, take, arith, inl, inr, IsTrue}
+use Rattle.std.proofs.Common.{ℕ, ◌+◌, ◌-◌, ◌≡◌, ◌≤◌, ◌∙◌, true, sym, ap, subst, length, take, arith, inl, inr, IsTrue}
 use Rattle.sqlite_trees.specs.declared.memory.MemStore.{MemStore}
 use Rattle.sqlite.specs.Held.{Held, state}
 use Rattle.sqlite.specs.Schema.{Schema}
 use Rattle.sqlite.specs.State.{Survives}
 use Rattle.sqlite.specs.Steps.{over_memory, IsEmpty}
 use Rattle.sqlite.proofs.Callers.{memory_is_clean}
-use Rattle.hotel_statements.specs.Schema.{first_schema, desk_schema}
+use Rattle.hotel_statements.specs.Schema.{first_schema, desk_schema, with_indexes}
 use Rattle.hotel_statements.specs.Books.{IsBooks}
 use Rattle.hotel_statements.specs.NewDesk.{IsEmptyDesk}
-use Rattle.hotel_statements.specs.SameSchema.{same_schema, same_front}
-use Rattle.hotel_statements.proofs.SameSchema.{schema_is, desk_is_same, front_is, front_is_first}
+use Rattle.hotel_statements.specs.SameSchema.{same_front}
+use Rattle.hotel_statements.proofs.SameSchema.{front_is, front_is_first, front_is_with, with_is_front, count_with}
 use Rattle.hotel_statements.proofs.SameSchema.{first_is_front, count_tables, count_indexes}
 
 pub memory_has_desk : (old new : Held MemStore) → IsEmpty (state over_memory old)
@@ -24,18 +24,9 @@ memory_has_desk old new empty survives books = (books.desk (memory_is_clean new,
       | inr more ↦ let h : 1 ≤ 0 = more in absurd (omega (arith, h))
     ]
 
--- the schemas of two connections, the second of which is a desk's
-pub same_is_desk : (a b shown desk : Schema)
-    → a ≡ shown → b ≡ desk → desk ≡ desk_schema → same_schema a b ≡ true → shown ≡ desk_schema
-same_is_desk a b shown desk p q r e = sym p ∙ schema_is a b e ∙ q ∙ r
+-- ---- the schemas of two connections, the second of which is a desk's
 
-pub desk_is_taken : (a b shown desk : Schema)
-    → a ≡ shown → b ≡ desk → desk ≡ desk_schema → shown ≡ desk_schema → same_schema a b ≡ true
-desk_is_taken a b shown desk p q r s =
-    subst (λ x. same_schema x b ≡ true) (sym (p ∙ s))
-    (subst (λ x. same_schema desk_schema x ≡ true) (sym (q ∙ r)) desk_is_same)
-
--- the same of the first version
+-- the first version
 pub front_is_shown : (a b shown desk : Schema) → a ≡ shown → b ≡ desk → desk ≡ desk_schema
     → same_front 8 5 a b ≡ true → shown ≡ first_schema
 front_is_shown a b shown desk p q r e =
@@ -48,13 +39,31 @@ first_is_taken a b shown desk p q r s =
     subst (λ x. same_front 8 5 x b ≡ true) (sym (p ∙ s))
     (subst (λ x. same_front 8 5 first_schema x ≡ true) (sym (q ∙ r)) first_is_front)
 
--- a desk has so many tables and indexes
-pub has_tables : (b desk : Schema) → b ≡ desk → desk ≡ desk_schema → 8 ≤ length b.tables
-has_tables b desk q r =
-    let nine : length b.tables ≡ 9 = ap (λ (s : Schema). length s.tables) (q ∙ r) ∙ count_tables in
-    omega (arith, nine)
+-- the nine tables, with so many of our indexes
+pub front_is_nine : (a b shown desk : Schema) (indexes : ℕ) → a ≡ shown → b ≡ desk → desk ≡ desk_schema
+    → 7 ≤ indexes → indexes ≤ 10 → same_front 9 indexes a b ≡ true → shown ≡ with_indexes (indexes - 7)
+front_is_nine a b shown desk indexes p q r low high e =
+    let count : 7 + (indexes - 7) ≡ indexes = omega (arith, low) in
+    sym p ∙ front_is 9 indexes a b e
+    ∙ ap (λ (s : Schema). record s { tables = take 9 s.tables; indexes = take indexes s.indexes }) (q ∙ r)
+    ∙ ap (λ n. record desk_schema { tables = take 9 desk_schema.tables; indexes = take n desk_schema.indexes })
+    (sym count) ∙ front_is_with (indexes - 7) (omega (arith, high))
 
-pub has_indexes : (b desk : Schema) → b ≡ desk → desk ≡ desk_schema → 5 ≤ length b.indexes
-has_indexes b desk q r =
-    let nine : length b.indexes ≡ 9 = ap (λ (s : Schema). length s.indexes) (q ∙ r) ∙ count_indexes in
-    omega (arith, nine)
+pub nine_is_taken : (a b shown desk : Schema) → a ≡ shown → b ≡ desk → desk ≡ desk_schema → (count : ℕ)
+    → shown ≡ with_indexes count → same_front 9 (length a.indexes) a b ≡ true
+nine_is_taken a b shown desk p q r count s =
+    subst (λ (x : Schema). same_front 9 (length x.indexes) x b ≡ true) (sym (p ∙ s))
+    (subst (λ (x : Schema). same_front 9 (length (with_indexes count).indexes) (with_indexes count) x ≡ true)
+    (sym (q ∙ r)) (with_is_front count))
+
+pub nine_has : (a shown : Schema) → a ≡ shown → (count : ℕ) → shown ≡ with_indexes count
+    → (7 ≤ length a.indexes) × (length a.indexes ≤ 10)
+nine_has a shown p count s =
+    subst (λ (x : Schema). (7 ≤ length x.indexes) × (length x.indexes ≤ 10)) (sym (p ∙ s)) (count_with count)
+
+-- a desk has so many tables and indexes
+pub has_tables : (b desk : Schema) → b ≡ desk → desk ≡ desk_schema → length b.tables ≡ 9
+has_tables b desk q r = ap (λ (s : Schema). length s.tables) (q ∙ r) ∙ count_tables
+
+pub has_indexes : (b desk : Schema) → b ≡ desk → desk ≡ desk_schema → length b.indexes ≡ 10
+has_indexes b desk q r = ap (λ (s : Schema). length s.indexes) (q ∙ r) ∙ count_indexes

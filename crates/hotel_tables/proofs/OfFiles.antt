@@ -18,7 +18,11 @@ use Rattle.hotel_model.specs.Rows.{no_rows}
 use Rattle.hotel_model.proofs.OfTables.RowTests.{both}
 use Rattle.hotel_tables.specs.declared.open_fault.OpenFault.{OpenFault}
 use Rattle.hotel_tables.specs.TableBooks.{Tabled}
-use Rattle.hotel_statements.specs.Schema.{no_schema, first_schema}
+use Rattle.hotel_statements.specs.declared.version.Version.{Version}
+use Rattle.hotel_statements.specs.declared.version.Version.TheVariants.{First, Second}
+use Rattle.hotel_statements.specs.declared.version.Layout.{Layout}
+use Rattle.hotel_statements.specs.Schema.{no_schema, schema_of, version_of, tables_of}
+use Rattle.hotel_statements.proofs.SameSchema.{count_tables_of}
 use Rattle.hotel_statements.specs.Books.{IsKept, IsBooks}
 use Rattle.hotel_statements.specs.Tables.{rows_in}
 use Rattle.hotel_statements.specs.NewDesk.{IsEmptyDesk}
@@ -29,18 +33,23 @@ use Rattle.hotel_tables.specs.Files.{AreBooksOf, IsWhyNone, HoldBooks}
 use Rattle.hotel_tables.proofs.EmptyDesk.{empty_counted}
 use Rattle.hotel_tables.proofs.Reopened.{files_keep_books}
 
--- a desk of the first version has tables
-not_bare : (s : Schema) → s ≡ first_schema → ¬ (s ≡ no_schema)
-not_bare s first none =
-    let eight : 8 ≡ 0 = ap (λ (s : Schema). length s.tables) (sym first ∙ none) in
-    absurd (omega (arith, eight))
+-- a desk has tables
+not_bare : (layout : Layout) (s : Schema) → s ≡ schema_of layout → ¬ (s ≡ no_schema)
+not_bare layout s has none =
+    let count : length (tables_of (version_of layout)) ≡ 0 =
+    sym (count_tables_of layout) ∙ ap (λ (s : Schema). length s.tables) (sym has ∙ none) in
+    some (version_of layout) count
+  where
+    some : (version : Version) → ¬ (length (tables_of version) ≡ 0)
+    some First count = absurd (omega (arith, count))
+    some Second count = absurd (omega (arith, count))
 
 made_books : (old new : State) → old.now.schema ≡ no_schema → (IsKept new → rows_in new.now.trees ≡ no_rows)
     → Survives old new IsEmptyDesk → (HasCleanDisk new → IsKept new) → AreBooksOf old new
 made_books old new bare empty crash vouched = record {
   made = λ _. (empty, crash);
   found = λ other. absurd (other bare);
-  whole = λ first. absurd (not_bare old.now.schema first bare);
+  whole = λ layout lacks. absurd (not_bare layout old.now.schema lacks.1 bare);
   sound = λ kept. (empty_counted (rows_in new.now.trees) (empty kept)).sound;
   vouched = vouched;
 }

@@ -52,8 +52,8 @@ counted_on change o = said_of o None (λ known. if can_count change known then S
 abbrev pub known_for : Change → Rows → Option Known
 known_for change rows = counted_on change (told_for change rows)
 
--- A change, of the books' connection from old to new: it is made whole or not at all, and a crash leaves what it could
--- leave before, or the change made.
+-- A change, of the books' connection from old to new, which answers: it is made whole or not at all, and a crash leaves
+-- what it could leave before, or the change made.
 pub record Applies (change : Change) (old new : State) (result : Result (Unit {0}) LookFault) : Type 0 where
   pub books : IsBooks new
   pub was : IsKept new → IsKept old
@@ -66,8 +66,12 @@ pub record Applies (change : Change) (old new : State) (result : Result (Unit {0
 abbrev pub LeavesAll : State → Type 0
 LeavesAll s = (db : Trees) → s.may_leave db → db ≡ s.now.trees
 
--- A crash in a change or after it leaves what one could leave before, or the change made; and where it was answered and
--- no failure shut the connection, the tables as they are.
+-- A crash leaves nothing that one couldn't have left before, also where a failure had shut the connection.
+abbrev pub LeavesNothing : State → State → Type 0
+LeavesNothing old new = Survives old new (λ _. ⊥)
+
+-- A crash in a change or after it leaves what one could leave before, or, where no failure had shut the connection, the
+-- change made; and where it was answered and no failure shut the connection, the tables as they are.
 pub record LeavesChange (change : Change) (old new : State) : Type 0 where
-  pub crash : Survives old new (λ db. IsKept old → IsMadeOf (made change) old.now.trees db)
+  pub crash : Survives old new (λ db. IsKept old × IsMadeOf (made change) old.now.trees db)
   pub left : IsKept new → LeavesAll new

@@ -61,6 +61,17 @@ module _ {S : Type 0} (g : Ghosts S) where
   abbrev pub IsAsked : Held S → Held S → Type 0
   IsAsked old new = IsUnchanged (state g old) (state g new) × LeavesNoMore (state g old) (state g new)
 
+  -- What fails of a call, of a connection from old to new, that begins where it was asked in vain whether it answers, or
+  -- once it answered. It is asked where it did not answer when it was last asked.
+  abbrev pub OnceReady : (Held S → Held S → Type 0) → Held S → Held S → Type 0
+  OnceReady Fails old new =
+      DayFails (state g old) (state g new)
+      ⊎ ((begins : Held S) × ((begins ≡ old) ⊎ IsAsked old begins) × Fails begins new)
+
+  -- why a look-up or a walk fails, but for want of memory
+  abbrev pub LookFails : Held S → Held S → Type 0
+  LookFails = OnceReady (λ a b. LookUpFails (state g a) (state g b))
+
   -- the stay that a change ends was looked up; nothing was, where it ends none
   abbrev pub AsksEnded : Change → Held S → Held S → Type 0
   AsksEnded (Cancelled party) old new = IsAsked old new
@@ -100,6 +111,10 @@ module _ {S : Type 0} (g : Ghosts S) where
   abbrev pub MakingFails : Change → Held S → Held S → Type 0
   MakingFails change old new = ToldFails change (state g old) (state g new) ⊎ WriteFails change old new
 
+  -- why the connection, that answers, doesn't make a change
+  abbrev pub TablesFail : Change → Held S → Held S → Type 0
+  TablesFail change old new = EndedFails change (state g old) (state g new) ⊎ MakingFails change old new
+
   -- Why a change isn't made, of the books' connection from old to new, but for want of memory.
   abbrev pub ChangeFails : Change → Held S → Held S → Type 0
-  ChangeFails change old new = EndedFails change (state g old) (state g new) ⊎ MakingFails change old new
+  ChangeFails change = OnceReady (TablesFail change)

@@ -1,5 +1,5 @@
 -- What the opening of a database file gives: its books, or why there are none. And what a close leaves of its files.
-use Rattle.std.specs.Prelude.{◌≡◌, ◌⊎◌, Bool, Result, Ok, Err, Option, MatchOption, IsTrue}
+use Rattle.std.specs.Prelude.{◌≡◌, ◌⊎◌, Bool, false, Result, Ok, Err, Option, MatchOption, IsTrue}
 use Rattle.sqlite_disk.specs.declared.Disk as disk
 use Rattle.sqlite_disk.specs.declared.Files.{Files}
 use Rattle.sqlite_store.specs.declared.store.FileStore.{FileStore}
@@ -14,7 +14,7 @@ use Rattle.sqlite_trees.specs.declared.store.Store.{Ghosts}
 use Rattle.sqlite.specs.declared.file.Leftover.{Leftover}
 use Rattle.sqlite.specs.Held.{Held, state, IsNew}
 use Rattle.sqlite.specs.Opening.{is_open_error}
-use Rattle.sqlite.specs.Files.{over_files, file_state, IsOpened, Finds, IsClosed, FailsToClose}
+use Rattle.sqlite.specs.Files.{over_files, file_state, image_of, IsBlankAs, IsOpened, Finds, IsClosed, FailsToClose}
 use Rattle.sqlite.specs.Files.{IsCleanLeft, FailsToOpenFiles, LeavesFiles}
 use Rattle.sqlite.specs.Closing.{IsCopied}
 use Rattle.hotel_model.specs.Rows.{no_rows}
@@ -23,12 +23,12 @@ use Rattle.hotel_tables.specs.declared.open_fault.OpenFault.{OpenFault}
 use Rattle.hotel_tables.specs.declared.open_fault.OpenFault.TheVariants as fault
 use Rattle.hotel_tables.specs.declared.files.FileFault.{FileFault}
 use Rattle.hotel_tables.specs.declared.files.FileFault.TheVariants.{File, Desk}
-use Rattle.hotel_statements.specs.Schema.{no_schema, first_schema}
+use Rattle.hotel_statements.specs.Schema.{no_schema}
 use Rattle.hotel_statements.specs.Books.{IsKept}
 use Rattle.hotel_statements.specs.Tables.{rows_in}
 use Rattle.hotel_statements.specs.NewDesk.{IsEmptyDesk}
 use Rattle.hotel_tables.specs.Applied.{LeavesAll}
-use Rattle.hotel_tables.specs.Opening.{IsOfVersion, Continues, IsUpgraded}
+use Rattle.hotel_tables.specs.Opening.{IsLaidOut, Continues, IsCompleted, IfLacking}
 use Rattle.hotel_tables.specs.Exits.{LeavesBare, LeavesDatabase}
 use Rattle.hotel_tables.specs.Paths.{IsPathError, AreParts}
 
@@ -46,12 +46,12 @@ file_fault _ = File
 pub record AreBooksOf (old new : State) : Type 0 where
   -- of a database that has nothing an empty desk is made; a crash leaves nothing or that desk
   pub made : old.now.schema ≡ no_schema → (IsKept new → rows_in new.now.trees ≡ no_rows) × Survives old new IsEmptyDesk
-  -- any other is a desk's, whose rows are kept; of one of the first version one of the second is made. A crash leaves
-  -- what it could leave before, or the whole of that
-  pub found : ¬ (old.now.schema ≡ no_schema) → IsOfVersion old.now.schema
-      × (IsKept new → IsKept old × Continues old.now new.now) × (IsKept old → Survives old new (IsUpgraded old.now))
+  -- any other is a desk's, whose rows are kept; what it lacks is made. A crash leaves what it could leave before, or
+  -- the whole of that
+  pub found : ¬ (old.now.schema ≡ no_schema) → IsLaidOut old.now.schema
+      × (IsKept new → IsKept old × Continues old.now new.now) × (IsKept old → Survives old new (IsCompleted old.now))
   -- once that was made, a crash leaves it
-  pub whole : old.now.schema ≡ first_schema → IsKept new → LeavesAll new
+  pub whole : IfLacking old.now (IsKept new → LeavesAll new)
   -- the rows are sound
   pub sound : IsKept new → IsSound (rows_in new.now.trees)
   -- the connection is open where its disk returned what was written
@@ -65,13 +65,17 @@ pub record IsWhyNone {S : Type 0} (g : Ghosts S) (old new : Held S) (why : OpenF
   pub found : ¬ ((state g old).now.schema ≡ no_schema) → LeavesDatabase g old new why
 
 module _ {D : Type 0} {g : disk.Ghosts D} (is_part : Bool → D → Type 0) where
+  -- the pages of a file that was blank have no sums
+  abbrev pub IsPlain : Files D → Held (FileStore D g) → Type 0
+  IsPlain files c = IsBlankAs false (image_of g files) → (view c.store).has_sums ≡ false
+
   -- What an opening promises of its answer. A connection is new, over a log and a database's file; where its disk is
-  -- clean it is open, with nothing uncommitted, and has what the files held. An error comes before there are files, or
+  -- clean it is open, with nothing uncommitted, and has what the files held, and of blank files without sums. An error comes before there are files, or
   -- has its cause in what they hold or in a call of theirs that failed, and says what is left of them.
   abbrev pub IsAnswer : Result (Held (FileStore D g)) (Error × Option (Leftover D g)) → Type 0
   IsAnswer (Ok c) =
       (files : Files D) × AreParts is_part files × IsNew c
-      × (HasCleanDisk (file_state c) → IsOpened c × Finds files c)
+      × (HasCleanDisk (file_state c) → IsOpened c × Finds files c × IsPlain files c)
   IsAnswer (Err e) =
       IsTrue (is_open_error e.0)
       × MatchOption e.1 (IsPathError e.0) (λ left. (files : Files D) × AreParts is_part files

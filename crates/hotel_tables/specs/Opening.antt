@@ -36,15 +36,15 @@ use Rattle.hotel_rows.specs.declared.stored.PlainFit.{PlainFit}
 use Rattle.hotel_rows.specs.declared.stored.PlainInside.{PlainInside}
 use Rattle.hotel_rows.specs.Damage.{first_damaged_of}
 use Rattle.hotel_statements.specs.declared.version.Version.{Version}
-use Rattle.hotel_statements.specs.declared.version.Version.TheVariants.{First}
-use Rattle.hotel_statements.specs.Schema.{first_schema, desk_schema, schema_of}
+use Rattle.hotel_statements.specs.declared.version.Layout.{Layout}
+use Rattle.hotel_statements.specs.Schema.{desk_schema, schema_of, version_of, is_whole}
 use Rattle.hotel_statements.specs.Tables.{HasId, AreApart, AreApartIds, AreTablesOf, number_of_version, rows_in}
 use Rattle.hotel_statements.specs.Tables.{rows_of_version}
 use Rattle.hotel_statements.specs.Books.{IsKept, IsBooks, IsDeskOf, KeepsRows}
 use Rattle.hotel_statements.specs.LookUps.{LeavesNoMore}
 use Rattle.hotel_statements.specs.WholeTables.{IsOurs, AreFitRows, AreRead, ReadsTo}
 use Rattle.hotel_statements.specs.declared.whole_tables.Tables.{Tables}
-use Rattle.hotel_statements.specs.Upgrade.{AreRoomsIn, IsUpgradeOf}
+use Rattle.hotel_statements.specs.Upgrade.{AreRoomsIn, IsWholeOf}
 use Rattle.hotel_tables.specs.Applied.{LeavesAll}
 use Rattle.hotel_tables.specs.TableBooks.{IsCounted}
 
@@ -134,10 +134,11 @@ FaultFits failed version db fault.Store = failed ⊎ (HasMetaRow version db × I
 FaultFits failed version db fault.NotADesk = ¬ HasMetaRow version db
 FaultFits failed version db (fault.Damaged t) = (s : Stored) × AreStored version s db × (first_damaged_of s ≡ Some t)
 
--- what a fault says of a database that has the tables of a version, where this is what it says of the calls
+-- what a fault says of a database that is laid out as a desk's, where this is what it says of the calls
 abbrev pub FaultFitsIn : (Version → Type 0) → Database → OpenFault → Type 0
 FaultFitsIn failed db why =
-    (version : Version) → db.schema ≡ schema_of version → FaultFits (failed version) version db.trees why
+    (layout : Layout) → db.schema ≡ schema_of layout
+    → FaultFits (failed (version_of layout)) (version_of layout) db.trees why
 
 -- the reading of the tables of a version failed for this cause
 abbrev pub FailsToRead : Version → State → State → LookFault → Type 0
@@ -147,38 +148,48 @@ FailsToRead version old new why = ReadsTo version (AreRead version) old new (Err
 -- read.
 abbrev pub MemoryFitsIn : (Version → Type 0) → State → State → OpenFault → Type 0
 MemoryFitsIn failed old new why =
-    why ≡ fault.Memory → (version : Version) → old.now.schema ≡ schema_of version
-    → failed version ⊎ ((t : Tables) × ReadsTo version (AreRead version) old new (Ok t))
+    why ≡ fault.Memory → (layout : Layout) → old.now.schema ≡ schema_of layout
+    → failed (version_of layout)
+    ⊎ ((t : Tables) × ReadsTo (version_of layout) (AreRead (version_of layout)) old new (Ok t))
 
--- the tables are those of a desk, of one of the versions
-abbrev pub IsOfVersion : Schema → Type 0
-IsOfVersion schema = (version : Version) × (schema ≡ schema_of version)
+-- the database is laid out as a desk's: it has the tables of one of the versions, and the first ones of our indexes
+abbrev pub IsLaidOut : Schema → Type 0
+IsLaidOut schema = (layout : Layout) × (schema ≡ schema_of layout)
 
--- The tables are those of a desk of one of the versions, and what it holds is sound.
+-- and something is missing that a new desk has
+abbrev pub Lacks : Layout → Schema → Type 0
+Lacks layout schema = (is_whole layout ≡ false) × (schema ≡ schema_of layout)
+
+-- The tables are those of a desk, however it is laid out, and what it holds is sound.
 abbrev pub IsSoundDesk : State → Type 0
-IsSoundDesk s = (version : Version) × IsDeskOf version s × IsSound (rows_of_version version s.now.trees)
+IsSoundDesk s = (layout : Layout) × IsDeskOf layout s × IsSound (rows_of_version (version_of layout) s.now.trees)
 
--- Of a desk of the first version one of the second was made, with its rows; one of the second is as it was.
+-- What a desk lacked was made, and its rows stayed; a whole one is as it was.
 abbrev pub Continues : Database → Database → Type 0
 Continues old new =
     ((old.schema ≡ desk_schema) × (new ≡ old))
-    ⊎ ((old.schema ≡ first_schema) × (new.schema ≡ desk_schema) × (rows_in new.trees ≡ rows_of_version First old.trees))
+    ⊎ ((layout : Layout) × Lacks layout old.schema × (new.schema ≡ desk_schema)
+    × (rows_in new.trees ≡ rows_of_version (version_of layout) old.trees))
 
--- the trees are the whole of the desk of the second version that is made of one of the first
-abbrev pub IsUpgraded : Database → Trees → Type 0
-IsUpgraded old db = (old.schema ≡ first_schema) × IsUpgradeOf old.trees db
+-- the trees are the whole of the desk that is made of one that lacked something
+abbrev pub IsCompleted : Database → Trees → Type 0
+IsCompleted old db = (layout : Layout) × Lacks layout old.schema × IsWholeOf (version_of layout) old.trees db
 
--- What the opening of a desk says of the connection of its books, from old to new: it continues the desk of a version,
--- and what it holds is sound. A crash leaves what it could leave before, or the whole desk that is made of one of the
--- first version. The connection is open where the disk returned what was written.
+-- of a database that is laid out as a desk's and lacks something, this is so
+abbrev pub IfLacking : Database → Type 0 → Type 0
+IfLacking old P = (layout : Layout) → Lacks layout old.schema → P
+
+-- What the opening of a desk says of the connection of its books, from old to new: it continues the desk, and what it
+-- holds is sound. A crash leaves what it could leave before, or the whole desk that is made of one that lacked
+-- something. The connection is open where the disk returned what was written.
 pub record IsOpened (old new : State) : Type 0 where
-  pub schema : IsOfVersion old.now.schema
+  pub schema : IsLaidOut old.now.schema
   pub was : IsKept new → IsKept old
   pub continues : IsKept new → Continues old.now new.now
   pub sound : IsKept new → IsSound (rows_in new.now.trees)
-  pub crash : IsKept old → Survives old new (IsUpgraded old.now)
-  -- once one of the second was made, a crash leaves that
-  pub whole : old.now.schema ≡ first_schema → IsKept new → LeavesAll new
+  pub crash : IsKept old → Survives old new (IsCompleted old.now)
+  -- once what was missing is made, a crash leaves that
+  pub whole : IfLacking old.now (IsKept new → LeavesAll new)
   pub vouched : HasCleanDisk new → IsKept new
 
 -- memory was wanting, or a call of the store failed
@@ -222,21 +233,21 @@ pub record Opens (version : Version) (old new : State) (result : Result Found Op
 -- What the opening of a desk promises, of a connection from old to new: its books, what is counted of their rows, and
 -- what a fault says of the tables, where this is what it says of the calls by their cause. Where it is answered over a
 -- disk that returned what was written, the connection is open. A crash in it, or after it, leaves what it could leave
--- before, or the whole desk that is made of one of the first version.
+-- before, or the whole desk that is made of one that lacked something.
 pub record Enters (fails : LookFault → Version → Type 0) (old new : State) (result : Result Counts OpenFault)
     : Type 0 where
   pub autocommit : new.in_transaction ≡ false
   pub books : OnOk result (IsBooks new)
   pub was : IsKept new → IsKept old
   pub continues : IsKept new → OnOk result (Continues old.now new.now)
-  -- once one of the second was made, a crash leaves that
-  pub whole : old.now.schema ≡ first_schema → IsKept new → OnOk result (LeavesAll new)
+  -- once what was missing is made, a crash leaves that
+  pub whole : IfLacking old.now (IsKept new → OnOk result (LeavesAll new))
   pub same : IsKept new → OnErr result (new.now ≡ old.now)
   pub counted : IsKept new → IfOk result (λ c. IsCounted c.kinds c.nights (rows_in new.now.trees))
   pub open_on : HasCleanDisk new → OnOk result (IsTrue new.is_open)
   pub fault : HasCleanDisk new → IfErr result (FaultFitsIn (fails look.Store) old.now)
   pub memory : IfErr result (MemoryFitsIn (fails look.Memory) old new)
-  pub crash : IsKept old → Survives old new (IsUpgraded old.now)
+  pub crash : IsKept old → Survives old new (IsCompleted old.now)
 
 -- Over this store nothing but its own calls writes, as in memory: each state of a connection is clean.
 abbrev pub IsAlwaysClean : {S : Type 0} → (Held S → State) → Type 0

@@ -1,4 +1,4 @@
-//! A new desk: nine tables, two indexes and the one row of meta, in one transaction.
+//! A new desk: nine tables, three indexes and the one row of meta, in one transaction.
 ghost use Rattle.std.specs.Prelude.{◌≡◌, ◌↔◌, IsTrue, OnOk, OnErr, IfOk, IfErr, Err, false};
 ghost use Rattle.sqlite.specs.Held.{state};
 ghost use Rattle.sqlite.specs.State.{HasCleanDisk, Survives};

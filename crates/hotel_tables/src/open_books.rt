@@ -8,7 +8,7 @@ ghost use Rattle.hotel_statements.specs.Tables.{rows_in};
 ghost use Rattle.hotel_tables.specs.Opening.{IsOpened};
 ghost use Rattle.hotel_tables.specs.Exits.{LeavesDatabase};
 
-use crate::desk_schema::version_of;
+use crate::desk_schema::layout_of;
 use crate::entering::enter;
 use crate::open_fault::OpenFault;
 use crate::table_books::TableBooks;
@@ -18,7 +18,7 @@ use std::alloc::Global;
 impl<S: Alter + Drop> TableBooks<S> {
     /// Books over the tables of a desk, which are read whole and tested.
     ///
-    /// Of a desk of the first version whose rows are sound one of the second is made in one transaction; its rows stay.
+    /// What a desk lacks whose rows are sound, as a desk of the first version, is made in one transaction; its rows stay.
     /// A database with other tables is no desk's. A desk is made in memory to compare them with.
     /// On a fault the connection is given back.
     pub fn open_or_return(
@@ -32,11 +32,11 @@ impl<S: Alter + Drop> TableBooks<S> {
     {
         // Outside a transaction nothing is uncommitted.
         let _settled = conn.is_autocommit();
-        let version = match version_of(alloc, &conn) {
-            Ok(version) => version,
+        let layout = match layout_of(alloc, &conn) {
+            Ok(layout) => layout,
             Err(why) => return Err((why, conn)),
         };
-        match enter(alloc, &mut conn, version) {
+        match enter(alloc, &mut conn, layout) {
             Ok(counts) => Ok(TableBooks {
                 alloc,
                 conn,

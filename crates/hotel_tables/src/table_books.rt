@@ -1,24 +1,24 @@
 //! Books over tables.
-ghost use Rattle.std.specs.Prelude.{◌≡◌, IfErr, OnOk, IsTrue, refl};
+ghost use Rattle.std.specs.Prelude.{◌≡◌, OnOk, Some, IsTrue, refl};
 ghost use Rattle.std.proofs.Common.{ap, ◌∙◌};
-ghost use Rattle.keycard_rules.specs.Rise.{HasRisen, NoFewer};
+ghost use Rattle.keycard_rules.specs.{Leaves.told_by, Rise.Counts, Rise.NoFewer, Rise.one_of};
 ghost use Rattle.hotel_model.specs.Refinement.Lookups.{codes_in};
 ghost use Rattle.sqlite.specs.Held.{state};
 ghost use Rattle.sqlite.specs.State.{HasCleanDisk};
 ghost use Rattle.hotel_statements.specs.Books.{IsKept};
-ghost use Rattle.hotel_statements.specs.LookUps.{LeavesNoMore};
+ghost use Rattle.hotel_statements.specs.Ready.{IsReady};
 ghost use Rattle.hotel_statements.specs.Tables.{rows_in};
+ghost use Rattle.hotel_tables.specs.Applied.{LeavesNothing};
 ghost use Rattle.hotel_tables.specs.TableBooks.{failed};
-ghost use Rattle.hotel_tables.specs.Causes.{LookUpFails};
+ghost use Rattle.hotel_tables.specs.Causes.{LookFails};
 
 mod books;
 mod changes;
-mod desk;
 mod walks;
 
 use hotel_core::{KindRooms, NightIndex};
 use hotel_statements::look_ups;
-use keycard_rules::{Code, Issued, LookFault};
+use keycard_rules::{Code, Issued, Kept, LookFault};
 use sqlite::{Alter, Connection};
 use std::alloc::Global;
 use std::marker::Model;
@@ -62,8 +62,8 @@ impl<S: Alter> TableBooks<S> {
     /// Counts a failure by its cause; a count stays at its greatest value.
     pub(crate) fn count(&mut self, why: LookFault)
         ensures conn { self.new.conn ≡ self.old.conn }
-        ensures counted { NoFewer (failed self.old) (failed self.new) }
-        ensures risen { HasRisen (failed self.old why) (failed self.new why) }
+        ensures no_fewer { NoFewer (failed self.old) (failed self.new) }
+        ensures counted { Counts (λ cause. one_of cause (Some why)) (failed self.old) (failed self.new) }
     {
         match why {
             LookFault::Memory => self.memory = self.memory.saturating_add(1),
@@ -77,8 +77,8 @@ impl<S: Alter> TableBooks<S> {
             → OnOk found (IsTrue (state S.Store self.old.conn).is_open) }
         ensures same { result ≡ found }
         ensures conn { self.new.conn ≡ self.old.conn }
-        ensures counted { NoFewer (failed self.old) (failed self.new) }
-        ensures risen { IfErr found (λ why. HasRisen (failed self.old why) (failed self.new why)) }
+        ensures no_fewer { NoFewer (failed self.old) (failed self.new) }
+        ensures counted { Counts (λ why. one_of why (told_by result)) (failed self.old) (failed self.new) }
     {
         match &found {
             Ok(_) => self.answers = true,
@@ -86,34 +86,41 @@ impl<S: Alter> TableBooks<S> {
         }
         found
     }
+
+    /// Asks whether the connection answers, where it did not answer when it was last asked.
+    ///
+    /// It comes before each call: a connection that a failure shut answers nothing, and no statement is run on it.
+    pub(crate) fn ask(&mut self) -> Result<(), LookFault>
+        ensures ready { IsReady (state S.Store self.old.conn) (state S.Store self.new.conn) result }
+        ensures no_fewer { NoFewer (failed self.old) (failed self.new) }
+        ensures counted { Counts (λ why. one_of why (told_by result)) (failed self.old) (failed self.new) }
+    {
+        if self.answers {
+            return Ok(());
+        }
+        let ready = look_ups::ready(&mut self.conn);
+        self.counting(ready)
+    }
 }
 
-impl<S: Alter> Issued for TableBooks<S> {
+impl<S: Alter> Kept for TableBooks<S> {
     ghost issued = { λ b. codes_in (rows_in (state S.Store b.conn).now.trees) };
 
     ghost is_clean = { λ b. IsKept (state S.Store b.conn) };
 
     ghost is_honest = { λ b. HasCleanDisk (state S.Store b.conn) };
 
-    ghost leaves_no_more = { λ a b. LeavesNoMore (state S.Store a.conn) (state S.Store b.conn) };
+    ghost leaves_no_more = { λ a b. LeavesNothing (state S.Store a.conn) (state S.Store b.conn) };
 
-    ghost look_up_fails = { λ a b. LookUpFails (state S.Store a.conn) (state S.Store b.conn) };
+    ghost look_up_fails = { λ a b. LookFails S.Store a.conn b.conn };
 
     ghost is_kept = { λ a b. rows_in (state S.Store b.conn).now.trees ≡ rows_in (state S.Store a.conn).now.trees };
 
     ghost failures = { failed };
 
+    ghost disk_failures = { λ b. (state S.Store b.conn).faults };
+
     ghost never_fails = { ⊥ };
-
-    ghost has_answered = { λ _ b. HasCleanDisk (state S.Store b.conn) → IsKept (state S.Store b.conn) };
-
-    ghost was_asked = { λ _ _ _ _. Unit {0} };
-
-    fn is_issued(&mut self, code: Code) -> Result<bool, LookFault> {
-        self.answers = false;
-        let issued = look_ups::is_issued(self.alloc, &mut self.conn, code);
-        self.counting(issued)
-    }
 
     ghost never_store = { λ a never. absurd never };
 
@@ -124,4 +131,13 @@ impl<S: Alter> Issued for TableBooks<S> {
     ghost kept_trans = { λ a b c h k. k ∙ h };
 
     ghost kept_issued = { λ a b h. ap codes_in h };
+}
+
+impl<S: Alter> Issued for TableBooks<S> {
+    fn is_issued(&mut self, code: Code) -> Result<bool, LookFault> {
+        self.ask()?;
+        self.answers = false;
+        let issued = look_ups::is_issued(self.alloc, &mut self.conn, code);
+        self.counting(issued)
+    }
 }

@@ -1,6 +1,6 @@
 //! Runs of commands in one call.
-use hotel_asks::{Ask, ListDesk};
-use hotel_core::{Command, Reply, reply_text, run};
+use hotel_asks::Ask;
+use hotel_core::{Command, Reply, Walks, reply_text, run};
 use hotel_scenarios::desks::Desk;
 use hotel_scenarios::line_asks::ask_of;
 use hotel_scenarios::scenarios::{CHECKED_IN, OPENED, Step, TWO_ENTRIES};
@@ -38,7 +38,7 @@ fn texts_of(alloc: Global, replies: &[Reply]) -> Result<Vec<u8>, Fail> {
 /// A run of these commands has so many replies, whose texts are the answers.
 fn run_is_answered(
     rt: &(impl Abort + AllocGlobal),
-    desk: &mut Desk<impl ListDesk>,
+    desk: &mut Desk<impl Walks>,
     commands: &[Command],
     count: usize,
     answers: &[u8],
@@ -62,10 +62,7 @@ fn push_two_entries(
 }
 
 /// The commands of the scenario "two-entries" have their seven replies in one run, after a run of no command.
-fn runs_at_once(
-    rt: &(impl Abort + AllocGlobal),
-    desk: &mut Desk<impl ListDesk>,
-) -> Result<(), Fail> {
+fn runs_at_once(rt: &(impl Abort + AllocGlobal), desk: &mut Desk<impl Walks>) -> Result<(), Fail> {
     let mut commands = Vec::new(rt.alloc());
     let mut answers = Vec::new(rt.alloc());
     push_two_entries(rt.alloc(), &mut commands, &mut answers)?;

@@ -1,7 +1,7 @@
 //! Draws whose look-ups fail.
 ghost use Rattle.std.specs.Prelude.{[], refl};
 
-use keycard_rules::{Code, DrawFault, Issued, ListedWords, LookFault, draw_fresh};
+use keycard_rules::{Code, DrawFault, Issued, Kept, ListedWords, LookFault, draw_fresh};
 use rand_core::Rng;
 use std::test::Fail;
 
@@ -13,7 +13,7 @@ struct FailingCodes {
     failures: u64,
 }
 
-impl Issued for FailingCodes {
+impl Kept for FailingCodes {
     ghost issued = { λ _. [] };
 
     ghost is_clean = { λ _. ⊥ };
@@ -28,20 +28,9 @@ impl Issued for FailingCodes {
 
     ghost failures = { λ codes _. codes.failures };
 
+    ghost disk_failures = { λ _. 0 };
+
     ghost never_fails = { ⊥ };
-
-    ghost has_answered = { λ _ _. Unit {0} };
-
-    ghost was_asked = { λ _ _ _ _. Unit {0} };
-
-    fn is_issued(&mut self, _code: Code) -> Result<bool, LookFault> {
-        if self.left == 0 {
-            self.failures = self.failures.saturating_add(1);
-            return Err(self.fault);
-        }
-        self.left -= 1;
-        Ok(true)
-    }
 
     ghost never_store = { λ a never. absurd never };
 
@@ -52,6 +41,17 @@ impl Issued for FailingCodes {
     ghost kept_trans = { λ a b c first second. tt };
 
     ghost kept_issued = { λ a b kept. refl };
+}
+
+impl Issued for FailingCodes {
+    fn is_issued(&mut self, _code: Code) -> Result<bool, LookFault> {
+        if self.left == 0 {
+            self.failures = self.failures.saturating_add(1);
+            return Err(self.fault);
+        }
+        self.left -= 1;
+        Ok(true)
+    }
 }
 
 #[test]

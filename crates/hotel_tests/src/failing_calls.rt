@@ -1,9 +1,9 @@
 //! A script, a list and a request of which each read and each write fails in turn, and some are interrupted.
 use crate::lists::{list_of, write_alone};
 use crate::wrong_calls::{Wrong, WrongReader, WrongWriter};
-use hotel_asks::ListDesk;
+use hotel_core::Walks;
 use hotel_http::{ServeFault, Served, serve_one};
-use hotel_lists::ListFault;
+use hotel_lists::{IoCalls, ListFault};
 use hotel_program::{ScriptEnd, ScriptFault, run_script};
 use hotel_scenarios::desks::Desk;
 use hotel_scenarios::scenarios::{CHECKED_IN, OPENED, Step};
@@ -191,14 +191,21 @@ impl Asked {
     /// Asks the desk.
     fn ask(
         &self,
-        desk: &mut Desk<impl ListDesk>,
+        desk: &mut Desk<impl Walks>,
         reader: &mut WrongReader<'_>,
         writer: &mut WrongWriter,
     ) -> Result<End, Fail> {
         let alloc = desk.alloc;
         match self.call {
             Call::Script => {
-                let end = run_script(alloc, reader, writer, &mut desk.books, &mut desk.source);
+                let end = run_script(
+                    alloc,
+                    reader,
+                    writer,
+                    &mut desk.books,
+                    &mut desk.source,
+                    &mut IoCalls::none(),
+                );
                 Ok(end_of_script(end))
             }
             Call::List => {
@@ -218,7 +225,7 @@ impl Asked {
 fn ends_so(
     rt: &(impl Abort + AllocGlobal),
     asked: &Asked,
-    desk: &mut Desk<impl ListDesk>,
+    desk: &mut Desk<impl Walks>,
     wrong: (Wrong, Wrong),
     end: End,
     text: &[u8],

@@ -1,7 +1,12 @@
-//! Lists over books of which a call fails, each call in turn, for each cause: by their own calls, and in a script.
+//! Lists over books of which a call fails, each call in turn, for each cause: by their own calls, in a script and over
+//! HTTP.
+use crate::causes::{CAUSES, counts, counts_of, refusal_of, stopping};
 use crate::lists::{list_of, write_alone};
+use crate::requests::serve;
+use crate::wrong_calls::{Wrong, WrongWriter};
 use hotel_core::StoppingBooks;
-use hotel_lists::ListFault;
+use hotel_http::Served;
+use hotel_lists::{IoCalls, ListFault};
 use hotel_program::{ScriptEnd, run_script};
 use hotel_scenarios::desks::Desk;
 use keycard_rules::LookFault;
@@ -35,25 +40,32 @@ fn listed_desk(alloc: Global) -> Result<Desk, Fail> {
     Ok(desk)
 }
 
-/// A list: the line that asks for it, its text, how many calls of the books it makes (one before each row and one
-/// behind the last one; and a room is looked up first), and how many lines stand before the first of these.
+/// A list.
 #[derive(Clone, Copy)]
 struct Asked {
+    /// The line that asks for it.
     line: &'static [u8],
+    /// The path by which HTTP asks for it.
+    path: &'static [u8],
     text: &'static [u8],
-    calls: usize,
-    header: usize,
+    /// How many calls of the books it makes: one before each row and one behind the last one; and of a room that is
+    /// looked up first.
+    calls: u64,
+    /// How many lines stand before the first of them.
+    header: u64,
 }
 
 static ASKED: [Asked; 5] = [
     Asked {
         line: b"arrivals 2031-05-03",
+        path: b"/arrivals/2031-05-03",
         text: b"party,guest,kind,arrive,depart\n4,Di,DBL,2031-05-03,2031-05-04\n",
         calls: 2,
         header: 1,
     },
     Asked {
         line: b"in-house",
+        path: b"/in-house",
         text: b"\
 room,party,guest,kind,depart,secured
 101,2,Bo,DBL,2031-05-03,no
@@ -64,6 +76,7 @@ room,party,guest,kind,depart,secured
     },
     Asked {
         line: b"chain 101",
+        path: b"/rooms/101/chain",
         text: b"\
 place,code,state
 0,0000000000a0,held
@@ -75,12 +88,14 @@ place,code,state
     },
     Asked {
         line: b"left-behind",
+        path: b"/left-behind",
         text: b"room,held,current,awaited\n101,0000000000a0,0000000000a2,2\n",
         calls: 2,
         header: 1,
     },
     Asked {
         line: b"audit-of 102",
+        path: b"/rooms/102/audit",
         text: b"\
 room,fit,count,kind,card,old,new,at
 102,1,1,in,3,0000000000b0,0000000000b1,2031-05-01T15:00:00
@@ -91,15 +106,8 @@ room,fit,count,kind,card,old,new,at
     },
 ];
 
-impl Asked {
-    /// How many lines stand before this call.
-    fn lines_before(&self, call: usize) -> usize {
-        self.header.saturating_add(call).saturating_sub(1)
-    }
-}
-
 /// The first lines of a text, so many of them.
-fn first_lines(text: &[u8], lines: usize) -> &[u8] {
+fn first_lines(text: &[u8], lines: u64) -> &[u8] {
     let mut left = lines;
     for (at, byte) in text.iter().enumerate() {
         if left == 0 {
@@ -112,6 +120,16 @@ fn first_lines(text: &[u8], lines: usize) -> &[u8] {
     text
 }
 
+impl Asked {
+    /// Whether this may be written of the list where the call of this number fails: whole lines of it, and none of a
+    /// row that the books hadn't handed over.
+    fn may_be_cut_to(&self, text: &[u8], call: u64) -> bool {
+        let lines_before = self.header.saturating_add(call).saturating_sub(1);
+        let is_whole = text.is_empty() || text.ends_with(b"\n");
+        is_whole && first_lines(self.text, lines_before).starts_with(text)
+    }
+}
+
 /// The fault that a list answers where a call of the books failed for this cause.
 fn fault_of(cause: LookFault) -> ListFault {
     match cause {
@@ -120,59 +138,58 @@ fn fault_of(cause: LookFault) -> ListFault {
     }
 }
 
-/// The list is written up to the call of this number, which fails.
-fn is_cut(
+/// The list ends so over these books, with writes that go wrong so, by so many calls. It answers the writer.
+fn ends_so(
     rt: &(impl Abort + AllocGlobal),
     asked: &Asked,
     books: &mut StoppingBooks,
-    call: usize,
-    cause: LookFault,
-) -> Result<(), Fail> {
+    wrong: Wrong,
+    end: Result<(), ListFault>,
+    calls: u64,
+) -> Result<WrongWriter, Fail> {
+    let before = books.calls();
     let list = list_of(rt.alloc(), asked.line)?;
-    let mut writer = Vec::new(rt.alloc());
-    let written = write_alone(rt.alloc(), &list, books, &mut writer);
-    assert!(rt; written == Err(fault_of(cause)));
-    assert!(rt; writer.as_slice() == first_lines(asked.text, asked.lines_before(call)));
-    assert!(rt; books.failures(cause) == 1);
-    Ok(())
+    let mut writer = WrongWriter::new(rt.alloc(), wrong);
+    let ended = write_alone(rt.alloc(), &list, books, &mut writer);
+    assert!(rt; ended == end);
+    assert!(rt; books.calls() == before.saturating_add(calls));
+    Ok(writer)
 }
 
-/// The list is written whole, by so many calls of the books.
+/// The list is written whole.
 fn is_whole(
     rt: &(impl Abort + AllocGlobal),
     asked: &Asked,
     books: &mut StoppingBooks,
 ) -> Result<(), Fail> {
-    let calls = books.calls();
-    let list = list_of(rt.alloc(), asked.line)?;
-    let mut writer = Vec::new(rt.alloc());
-    let written = write_alone(rt.alloc(), &list, books, &mut writer);
-    assert!(rt; written == Ok(()));
-    assert!(rt; writer.as_slice() == asked.text);
-    let made = books.calls().saturating_sub(calls);
-    assert!(rt; made == asked.calls as u64);
+    let writer = ends_so(rt, asked, books, Wrong::NONE, Ok(()), asked.calls)?;
+    assert!(rt; writer.written() == asked.text);
     Ok(())
 }
 
-/// The call of this number fails for this cause; then the list is whole.
+/// The call of this number fails for this cause, and writes go wrong so: that cause is told and counted. Then the list
+/// is whole.
 fn fails_at(
     rt: &(impl Abort + AllocGlobal),
     asked: &Asked,
-    call: usize,
+    wrong: Wrong,
+    call: u64,
     cause: LookFault,
 ) -> Result<(), Fail> {
-    let books = listed_desk(rt.alloc())?.books;
-    let mut books = StoppingBooks::new(books, call as u64, cause);
-    is_cut(rt, asked, &mut books, call, cause)?;
-    is_whole(rt, asked, &mut books)
+    let mut books = stopping(listed_desk(rt.alloc())?, call, cause).books;
+    let writer = ends_so(rt, asked, &mut books, wrong, Err(fault_of(cause)), call)?;
+    assert!(rt; asked.may_be_cut_to(writer.written(), call));
+    is_whole(rt, asked, &mut books)?;
+    assert!(rt; counts(&books) == counts_of(Some(cause)));
+    Ok(())
 }
 
-/// Each call of the list fails in turn.
-fn fails_in_turn(rt: &(impl Abort + AllocGlobal), asked: &Asked) -> Result<(), Fail> {
-    for earlier in 0..asked.calls {
-        let call = earlier.saturating_add(1);
-        fails_at(rt, asked, call, LookFault::Memory)?;
-        fails_at(rt, asked, call, LookFault::Store)?;
+/// Each call of the list fails in turn, for each cause, and writes go wrong so.
+fn fails_in_turn(rt: &(impl Abort + AllocGlobal), asked: &Asked, wrong: Wrong) -> Result<(), Fail> {
+    for call in 1..=asked.calls {
+        for cause in CAUSES {
+            fails_at(rt, asked, wrong, call, cause)?;
+        }
     }
     Ok(())
 }
@@ -180,17 +197,57 @@ fn fails_in_turn(rt: &(impl Abort + AllocGlobal), asked: &Asked) -> Result<(), F
 #[test]
 fn each_call_of_a_list_fails(rt: HostRuntime) -> Result<(), Fail> {
     for asked in &ASKED {
-        fails_in_turn(&rt, asked)?;
+        fails_in_turn(&rt, asked, Wrong::NONE)?;
     }
     Ok(())
 }
 
-/// The refusal that a script has where a call of the books failed for this cause.
-pub(crate) fn refusal_of(cause: LookFault) -> &'static [u8] {
-    match cause {
-        LookFault::Memory => b"refused 29 Memory\n",
-        LookFault::Store => b"refused 30 Store\n",
+/// How many bytes the header has.
+fn header_bytes(asked: &Asked) -> u32 {
+    first_lines(asked.text, 1).len() as u32
+}
+
+/// Behind a walk that failed nothing is written: a write that would fail there isn't told in place of the walk's fault.
+#[test]
+fn a_failed_walk_is_told_before_a_failed_write(rt: HostRuntime) -> Result<(), Fail> {
+    for asked in &ASKED {
+        let next = header_bytes(asked).saturating_add(1);
+        fails_in_turn(&rt, asked, Wrong::Failing(next))?;
     }
+    Ok(())
+}
+
+/// The write of each byte fails in turn: the bytes before it were written.
+fn each_write_of(
+    rt: &(impl Abort + AllocGlobal),
+    asked: &Asked,
+    books: &mut StoppingBooks,
+) -> Result<(), Fail> {
+    let mut write = 0u32;
+    for bytes in 0..asked.text.len() {
+        write = write.saturating_add(1);
+        let calls = if write <= header_bytes(asked) {
+            1u64.saturating_sub(asked.header)
+        } else {
+            asked.calls
+        };
+        let end = Err(ListFault::Write);
+        let writer = ends_so(rt, asked, books, Wrong::Failing(write), end, calls)?;
+        assert!(rt; writer.written() == asked.text.get(..bytes).ok_or("a front")?);
+    }
+    Ok(())
+}
+
+/// A failed write is no failure of the books: they count none.
+#[test]
+fn failed_writes_are_not_counted(rt: HostRuntime) -> Result<(), Fail> {
+    for asked in &ASKED {
+        let mut books = stopping(listed_desk(rt.alloc())?, 0, LookFault::Store).books;
+        each_write_of(&rt, asked, &mut books)?;
+        assert!(rt; counts(&books) == counts_of(None));
+        is_whole(&rt, asked, &mut books)?;
+    }
+    Ok(())
 }
 
 /// The texts, one after the other.
@@ -202,43 +259,51 @@ fn joined(alloc: Global, texts: &[&[u8]]) -> Result<Vec<u8>, Fail> {
     Ok(all)
 }
 
-/// A script asks for the list twice. The call of this number fails for this cause: the first lines before it are
-/// followed by the refusal, and then the list is whole.
-fn fails_in_script(
+/// The output of a script of these two lines on the desk.
+fn output_of(
     rt: &(impl Abort + AllocGlobal),
-    asked: &Asked,
-    call: usize,
-    cause: LookFault,
-) -> Result<(), Fail> {
-    let lines = first_lines(asked.text, asked.lines_before(call));
-    let script = joined(rt.alloc(), &[asked.line, b"\n", asked.line])?;
-    let answers = joined(rt.alloc(), &[lines, refusal_of(cause), asked.text])?;
-    let Desk {
-        alloc: _,
-        books,
-        mut source,
-    } = listed_desk(rt.alloc())?;
-    let mut books = StoppingBooks::new(books, call as u64, cause);
-    let mut reader = script.as_slice();
+    desk: &mut Desk<StoppingBooks>,
+    script: &[u8],
+) -> Result<Vec<u8>, Fail> {
+    let mut reader = script;
     let mut writer = Vec::new(rt.alloc());
     let ran = run_script(
         rt.alloc(),
         &mut reader,
         &mut writer,
-        &mut books,
-        &mut source,
+        &mut desk.books,
+        &mut desk.source,
+        &mut IoCalls::none(),
     );
-    assert!(rt; writer.as_slice() == answers.as_slice());
     assert!(rt; ran == Ok(ScriptEnd { lines: 2 }));
+    Ok(writer)
+}
+
+/// A script asks for the list twice. The call of this number fails for this cause: lines before it are followed by the
+/// refusal, and then the list is whole.
+fn fails_in_script(
+    rt: &(impl Abort + AllocGlobal),
+    asked: &Asked,
+    call: u64,
+    cause: LookFault,
+) -> Result<(), Fail> {
+    let script = joined(rt.alloc(), &[asked.line, b"\n", asked.line])?;
+    let rest = joined(rt.alloc(), &[refusal_of(cause), asked.text])?;
+    let mut desk = stopping(listed_desk(rt.alloc())?, call, cause);
+    let output = output_of(rt, &mut desk, script.as_slice())?;
+    let front = output.as_slice().strip_suffix(rest.as_slice());
+    assert!(rt; asked.may_be_cut_to(front.ok_or("the refusal and the list")?, call));
+    assert!(rt; desk.books.calls() == call.saturating_add(asked.calls));
+    assert!(rt; counts(&desk.books) == counts_of(Some(cause)));
     Ok(())
 }
 
-/// Each call of the list fails in turn.
+/// Each call of the list fails in turn, for each cause.
 fn fails_in_turn_in_scripts(rt: &(impl Abort + AllocGlobal), asked: &Asked) -> Result<(), Fail> {
-    for earlier in 0..asked.calls {
-        let call = earlier.saturating_add(1);
-        fails_in_script(rt, asked, call, LookFault::Memory)?;
-        fails_in_script(rt, asked, call, LookFault::Store)?;
+    for call in 1..=asked.calls {
+        for cause in CAUSES {
+            fails_in_script(rt, asked, call, cause)?;
+        }
     }
     Ok(())
 }
@@ -247,6 +312,64 @@ fn fails_in_turn_in_scripts(rt: &(impl Abort + AllocGlobal), asked: &Asked) -> R
 fn each_call_of_a_list_in_a_script_fails(rt: HostRuntime) -> Result<(), Fail> {
     for asked in &ASKED {
         fails_in_turn_in_scripts(&rt, asked)?;
+    }
+    Ok(())
+}
+
+/// The request for the list has this status and this body.
+fn is_served(
+    rt: &(impl Abort + AllocGlobal),
+    desk: &mut Desk<StoppingBooks>,
+    asked: &Asked,
+    status: u16,
+    body: &[u8],
+) -> Result<(), Fail> {
+    let head = [b"GET ", asked.path, b" HTTP/1.1\r\nHost: desk\r\n\r\n"];
+    let request = joined(rt.alloc(), &head)?;
+    let end = joined(rt.alloc(), &[b"\r\n\r\n", body])?;
+    let mut reader = request.as_slice();
+    let mut writer = Vec::new(rt.alloc());
+    let served = serve(desk, &mut reader, &mut writer);
+    assert!(rt;
+        served
+            == Ok(Served {
+                status,
+                acted: false
+            })
+    );
+    assert!(rt; writer.as_slice().ends_with(end.as_slice()));
+    Ok(())
+}
+
+/// The call of this number fails for this cause: the refusal alone is answered. Then the list is whole.
+fn fails_in_request(
+    rt: &(impl Abort + AllocGlobal),
+    asked: &Asked,
+    call: u64,
+    cause: LookFault,
+) -> Result<(), Fail> {
+    let mut desk = stopping(listed_desk(rt.alloc())?, call, cause);
+    is_served(rt, &mut desk, asked, 503, refusal_of(cause))?;
+    assert!(rt; desk.books.calls() == call);
+    is_served(rt, &mut desk, asked, 200, asked.text)?;
+    assert!(rt; counts(&desk.books) == counts_of(Some(cause)));
+    Ok(())
+}
+
+/// Each call of the list fails in turn, for each cause.
+fn fails_in_turn_in_requests(rt: &(impl Abort + AllocGlobal), asked: &Asked) -> Result<(), Fail> {
+    for call in 1..=asked.calls {
+        for cause in CAUSES {
+            fails_in_request(rt, asked, call, cause)?;
+        }
+    }
+    Ok(())
+}
+
+#[test]
+fn each_call_of_a_list_in_a_request_fails(rt: HostRuntime) -> Result<(), Fail> {
+    for asked in &ASKED {
+        fails_in_turn_in_requests(&rt, asked)?;
     }
     Ok(())
 }

@@ -3,6 +3,8 @@
 #![tactic(auto)]
 
 #[cfg(test)]
+mod causes;
+#[cfg(test)]
 mod chains_and_nights;
 #[cfg(test)]
 mod command_runs;
@@ -17,9 +19,9 @@ mod lists;
 #[cfg(test)]
 mod requests;
 #[cfg(test)]
-mod stopped_imports;
+mod stopped_commands;
 #[cfg(test)]
-mod stopped_refits;
+mod stopped_imports;
 #[cfg(test)]
 mod stops;
 #[cfg(test)]

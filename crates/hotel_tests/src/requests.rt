@@ -1,6 +1,6 @@
 //! The scenario `http-check-in` over books in memory; `.ci/bytes` asks each route, and damages requests, at the built
 //! program.
-use hotel_asks::ListDesk;
+use hotel_core::Walks;
 use hotel_http::{ServeFault, Served, serve_one};
 use hotel_scenarios::desks::Desk;
 use hotel_scenarios::scenarios::OPENED;
@@ -9,8 +9,8 @@ use std::process::Abort;
 use std::test::Fail;
 
 /// The desk answers the reader's request to the writer.
-fn serve(
-    desk: &mut Desk<impl ListDesk>,
+pub(crate) fn serve(
+    desk: &mut Desk<impl Walks>,
     reader: &mut &[u8],
     writer: &mut Vec<u8>,
 ) -> Result<Served, ServeFault> {
@@ -66,7 +66,7 @@ static EXCHANGES: [Exchange; 4] = [
 ];
 
 /// The desk answers the request so.
-fn goes(rt: &(impl Abort + AllocGlobal), desk: &mut Desk<impl ListDesk>, exchange: &Exchange) {
+fn goes(rt: &(impl Abort + AllocGlobal), desk: &mut Desk<impl Walks>, exchange: &Exchange) {
     let mut writer = Vec::new(rt.alloc());
     let mut reader = exchange.request;
     let ended = serve(desk, &mut reader, &mut writer);

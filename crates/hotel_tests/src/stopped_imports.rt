@@ -1,5 +1,6 @@
 //! Imports that are stopped by a call of the books that fails, and the same file sent again.
 
+use crate::causes::{CAUSES, counts, counts_of};
 use hotel_audit::{AuditFault, ImportFault, LineAnswer, import};
 use hotel_core::StoppingBooks;
 use hotel_scenarios::sent_again::{
@@ -28,23 +29,6 @@ fn lines_answered<A: Abort>(
             assert!(rt; sent.stops_behind(answered, taken));
             answered
         }
-    }
-}
-
-/// Which failures were counted: of memory, of the store.
-fn counts(books: &StoppingBooks) -> (u64, u64) {
-    (
-        books.failures(LookFault::Memory),
-        books.failures(LookFault::Store),
-    )
-}
-
-/// Which failures are counted where the import ended by this cause, or by none.
-fn counts_of(ended: Option<LookFault>) -> (u64, u64) {
-    match ended {
-        None => (0, 0),
-        Some(LookFault::Memory) => (1, 0),
-        Some(LookFault::Store) => (0, 1),
     }
 }
 
@@ -107,8 +91,9 @@ fn stops_at_call(
 /// sent again.
 fn stops_in_turn(rt: &(impl Abort + AllocGlobal), sent: &Sent) -> Result<(), Fail> {
     for call in 1..=MOST_CALLS {
-        stops_at_call(rt, sent, LookFault::Memory, call)?;
-        stops_at_call(rt, sent, LookFault::Store, call)?;
+        for cause in CAUSES {
+            stops_at_call(rt, sent, cause, call)?;
+        }
     }
     Ok(())
 }

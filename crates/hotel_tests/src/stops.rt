@@ -1,8 +1,11 @@
 //! Books of which a call fails: which one it is, how it is counted, and where a walk then ends.
 
+use crate::causes::{CAUSES, counts, counts_of};
 use hotel_core::{Books, ChainRow, ListBooks, Sink, Stop, StoppingBooks, WalkFault, Walks};
+use hotel_nights::KindCode;
 use hotel_scenarios::desks::{Desk, room};
-use keycard_rules::{Code, LookFault};
+use hotel_scenarios::scenarios::{CHECKED_IN, OPENED, TWO_ENTRIES};
+use keycard_rules::{Code, FitNo, LookFault, RoomNo};
 use std::process::Abort;
 use std::test::Fail;
 
@@ -24,24 +27,86 @@ impl Sink<ChainRow> for Counted {
 }
 
 /// The second call fails, and no other one.
-fn second_fails<A: Abort>(rt: &A, books: &mut StoppingBooks, cause: LookFault, other: LookFault) {
+fn second_fails<A: Abort>(rt: &A, books: &mut StoppingBooks, cause: LookFault) {
     assert!(rt; books.day() == Ok(None));
     assert!(rt; books.day() == Err(cause));
     assert!(rt; books.day() == Ok(None));
     assert!(rt; books.calls() == 3);
-    assert!(rt; books.failures(cause) == 1 && books.failures(other) == 0);
-}
-
-/// Empty books of which the second call fails.
-fn fails_second(rt: &(impl Abort + AllocGlobal), cause: LookFault, other: LookFault) {
-    let mut books = StoppingBooks::new(ListBooks::empty(rt.alloc()), 2, cause);
-    second_fails(rt, &mut books, cause, other);
+    assert!(rt; counts(books) == counts_of(Some(cause)));
 }
 
 #[test]
 fn one_call_fails(rt: HostRuntime) {
-    fails_second(&rt, LookFault::Memory, LookFault::Store);
-    fails_second(&rt, LookFault::Store, LookFault::Memory);
+    for cause in CAUSES {
+        let mut books = StoppingBooks::new(ListBooks::empty(rt.alloc()), 2, cause);
+        second_fails(&rt, &mut books, cause);
+    }
+}
+
+/// The look-ups that no command makes.
+#[derive(Clone, Copy)]
+enum LookUp {
+    StaysOfKind,
+    Inside,
+    Fit,
+    RoomsOfKind,
+}
+
+static LOOK_UPS: [LookUp; 4] = [
+    LookUp::StaysOfKind,
+    LookUp::Inside,
+    LookUp::Fit,
+    LookUp::RoomsOfKind,
+];
+
+impl LookUp {
+    /// How many stays or rooms of this kind there are, or cards inside this room, or locks of it with this number.
+    fn count(
+        &self,
+        books: &mut StoppingBooks,
+        kind: &KindCode,
+        room: RoomNo,
+        fit: FitNo,
+    ) -> Result<usize, LookFault> {
+        match self {
+            LookUp::StaysOfKind => Ok(books.stays_of_kind(kind)?.len()),
+            LookUp::Inside => Ok(books.inside(room)?.len()),
+            LookUp::Fit => Ok(usize::from(books.fit(room, fit)?.is_some())),
+            LookUp::RoomsOfKind => Ok(books.rooms_of_kind(kind)? as usize),
+        }
+    }
+}
+
+/// The look-up fails, and then it finds one.
+fn look_up_fails(
+    rt: &(impl Abort + AllocGlobal),
+    look_up: LookUp,
+    cause: LookFault,
+) -> Result<(), Fail> {
+    let kind = KindCode::read(b"DBL").ok_or("a kind")?;
+    let fit = FitNo::new(1).ok_or("a fit")?;
+    let room = room(101)?;
+    let desk = Desk::behind(
+        rt.alloc(),
+        &[0xa0, 0xa1],
+        &[OPENED, CHECKED_IN, TWO_ENTRIES],
+    )?;
+    let mut books = StoppingBooks::new(desk.books, 1, cause);
+    assert!(rt; look_up.count(&mut books, &kind, room, fit) == Err(cause));
+    assert!(rt; look_up.count(&mut books, &kind, room, fit) == Ok(1));
+    assert!(rt; books.calls() == 2);
+    assert!(rt; counts(&books) == counts_of(Some(cause)));
+    Ok(())
+}
+
+#[test]
+fn look_ups_of_no_command_fail(rt: HostRuntime) -> Result<(), Fail> {
+    for look_up in LOOK_UPS {
+        for cause in CAUSES {
+            look_up_fails(&rt, look_up, cause)?;
+        }
+    }
+    Ok(())
 }
 
 /// A walk over the two codes of the room ends so, after so many rows.
@@ -56,8 +121,8 @@ fn walk_ends<A: Abort>(
     let ended = books.walk_chain(room, &mut counted);
     assert!(rt; ended == end);
     assert!(rt; counted.rows == rows);
-    let failed = if end.is_err() { 1 } else { 0 };
-    assert!(rt; books.failures(LookFault::Store) == failed);
+    let failed = end.err().map(|_| LookFault::Store);
+    assert!(rt; counts(books) == counts_of(failed));
     Ok(())
 }
 

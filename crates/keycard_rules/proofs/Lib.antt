@@ -1,6 +1,6 @@
 pub mod NumeralLemmas
 pub mod Sinces
-pub mod Calls
+pub mod CallsTogether
 pub mod Drawing
 pub mod ListedLemmas
 pub mod ChainLemmas

@@ -5,7 +5,8 @@ pub mod Numbers
 pub mod Lock
 pub mod Rise
 pub mod Since
-pub mod Called
+pub mod Leaves
+pub mod Calls
 pub mod Draw
 pub mod Note
 pub mod Chain

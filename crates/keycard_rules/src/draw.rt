@@ -1,9 +1,8 @@
 //! Drawing a code that was never issued.
-ghost use Rattle.std.specs.Prelude.{◌≡◌, false, Err, IfOk, IfSome, None};
+ghost use Rattle.std.specs.Prelude.{◌≡◌, false, Err, IfOk, None};
 ghost use Rattle.keycard_rules.specs.{Words.is_one_of, Draw.words, Draw.past, Draw.MovedAtMost, Draw.Draws};
-ghost use Rattle.keycard_rules.specs.{Since.Since, Called.WasCalled};
 ghost use Rattle.keycard_rules.specs.declared.draw.TheConstants.{MOST_WORDS};
-ghost use Rattle.keycard_rules.specs.{Draw.AllIssued, Draw.fault_in, Rise.HasRisen};
+ghost use Rattle.keycard_rules.specs.{Draw.AllIssued, Draw.fault_in, Leaves.Leaves, Leaves.Rose};
 
 use crate::code::Code;
 use crate::issued::{Issued, LookFault};
@@ -31,8 +30,8 @@ pub enum DrawFault {
 pub fn draw_fresh<R: Rng, I: Issued>(source: &mut R, issued: &mut I) -> Result<Code, DrawFault>
     ensures drawn { I.is_honest issued.new → Draws (I.issued issued.old) (R.stream source.old) result
         (R.stream source.new) }
-    ensures fresh { I.is_clean issued.new → IfOk result (λ code. is_one_of code (I.issued issued.old) ≡ false) }
-    ensures none_fresh { I.is_clean issued.new → result ≡ Err DrawFault.NoFreshCode
+    ensures fresh { I.is_honest issued.new → IfOk result (λ code. is_one_of code (I.issued issued.old) ≡ false) }
+    ensures none_fresh { I.is_honest issued.new → result ≡ Err DrawFault.NoFreshCode
         → AllIssued (I.issued issued.old) (words MOST_WORDS (R.stream source.old)) }
 
     ensures moved { MovedAtMost MOST_WORDS (R.stream source.old) (R.stream source.new) }
@@ -40,10 +39,8 @@ pub fn draw_fresh<R: Rng, I: Issued>(source: &mut R, issued: &mut I) -> Result<C
         ≡ past MOST_WORDS (R.stream source.old) }
 
     ensures kept { I.is_clean issued.new → I.is_kept issued.old issued.new }
-    ensures since { Since I.is_clean I.is_honest I.failures issued.old issued.new }
-    ensures vouched { I.is_honest issued.new → fault_in result ≡ None → I.is_clean issued.new }
-    ensures called { fault_in result ≡ None → WasCalled I.Issued issued.old issued.new }
-    ensures fault { IfSome (fault_in result) (λ why. HasRisen (I.failures issued.old why) (I.failures issued.new why)) }
+    ensures leaves { Leaves I.Kept issued.old (fault_in result) issued.new }
+    ensures rose { Rose I.Kept issued.old (fault_in result) issued.new }
     ensures sure { I.never_fails → fault_in result ≡ None }
 {
     for _ in 0..MOST_WORDS {

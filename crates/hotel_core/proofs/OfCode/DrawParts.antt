@@ -1,18 +1,20 @@
 -- A draw as a part of a step.
 use Rattle.std.proofs.Common.{ℕ, ◌≡◌, Bool, true, false, Some, None, Result, Ok, Err, IsErrAnd, List, refl, ap, sym}
-use Rattle.std.proofs.Common.{◌∙◌, arith, subst, option_map, IfSome, inr}
-use Rattle.hotel_core.proofs.Names.{false≢true, LookFault, Stream, HasRisen, Since, since_then, Draw, Draws, fault_in}
-use Rattle.hotel_core.proofs.Names.{called_before, called_then}
+use Rattle.std.proofs.Common.{◌∙◌, arith, subst, option_map, inr}
+use Rattle.hotel_core.proofs.Names.{false≢true, Stream, since_then, Draw, Draws, fault_in}
+use Rattle.keycard_rules.proofs.Sinces.{stays_then}
+use Rattle.keycard_rules.specs.Leaves.{Leaves}
 use Rattle.hotel_core.proofs.Names.{draw_from, drawn, words, past, Change, Reply, Refused, Refusal, NoFreshCode}
 use Rattle.hotel_core.proofs.Names.{said_of, Rows, codes_in, is_failed, Outcome, accepted, by_draw, made, GoesIf}
 use Rattle.hotel_core.proofs.Names.{made_by, AreWhole, StepsAs, DrawsCode, Drew, DrewNone, drawn_or, has_failed}
-use Rattle.hotel_core.proofs.Names.{refusal_of, reply_of}
+use Rattle.hotel_core.proofs.Names.{failure_at, failure_in, reply_of}
 use Rattle.hotel_core.proofs.Names.{Ghosts as BooksOf}
 use Rattle.keycard_rules.specs.Draw.{MovedAtMost}
-use Rattle.keycard_rules.specs.declared.issued.LookFault.TheVariants as look
-use Rattle.keycard_rules.specs.{declared.draw.DrawFault.DrawFault, declared.issued.Issued.Ghosts as IssuedOf}
+use Rattle.keycard_rules.specs.{declared.draw.DrawFault.DrawFault, declared.kept.Kept.Ghosts as KeptOf}
 use Rattle.keycard_rules.specs.declared.draw.DrawFault.TheVariants as fault
-use Rattle.hotel_core.proofs.OfCode.Parts.{SoFar, passed_on, risen_since}
+use Rattle.hotel_core.proofs.OfCode.Parts.{SoFar, passed_on, stayed}
+use Rattle.hotel_core.proofs.OfCode.Counting.{untold}
+use Rattle.keycard_rules.proofs.CallsTogether.{counted_none, counted_told}
 
 drew : (found : Result ℕ DrawFault) (issued : List ℕ) (source rest : Stream)
     → Draws issued source found rest → Drew (draw_from issued (words 64 source)) source rest (drawn_or found)
@@ -22,27 +24,11 @@ drew (Err fault.NoFreshCode) issued source rest d = (refl, d.0, d.1)
 drew (Err fault.Memory) issued source rest d = d
 drew (Err fault.Store) issued source rest d = d
 
-risen_of : (P : LookFault → Type 0) (found : Result ℕ DrawFault) (cause : LookFault)
-    → IfSome (fault_in found) P → drawn_or found ≡ Err (refusal_of cause) → P cause
-risen_of P (Ok code) cause p e = cc
-risen_of P (Err fault.NoFreshCode) look.Memory p e = cc
-risen_of P (Err fault.NoFreshCode) look.Store p e = cc
-risen_of P (Err fault.Memory) look.Memory p e = p
-risen_of P (Err fault.Memory) look.Store p e = cc
-risen_of P (Err fault.Store) look.Memory p e = cc
-risen_of P (Err fault.Store) look.Store p e = p
-
-unfailed : (found : Result ℕ DrawFault) → fault_in found ≡ None → has_failed (drawn_or found) ≡ false
-unfailed (Ok code) e = refl
-unfailed (Err fault.NoFreshCode) e = refl
-unfailed (Err fault.Memory) e = cc
-unfailed (Err fault.Store) e = cc
-
-unfaulted : (found : Result ℕ DrawFault) → has_failed (drawn_or found) ≡ false → fault_in found ≡ None
-unfaulted (Ok code) e = refl
-unfaulted (Err fault.NoFreshCode) e = refl
-unfaulted (Err fault.Memory) e = cc
-unfaulted (Err fault.Store) e = cc
+told_by_draw : (found : Result ℕ DrawFault) → fault_in found ≡ failure_at (drawn_or found)
+told_by_draw (Ok code) = refl
+told_by_draw (Err fault.NoFreshCode) = refl
+told_by_draw (Err fault.Memory) = refl
+told_by_draw (Err fault.Store) = refl
 
 failed_moves : (found : Result ℕ DrawFault) (issued : List ℕ) (source rest : Stream)
     → has_failed (drawn_or found) ≡ true → Draws issued source found rest
@@ -54,26 +40,23 @@ failed_moves (Err fault.Memory) issued source rest e d = d
 failed_moves (Err fault.Store) issued source rest e d = d
 
 -- a draw over books
-pub draws : {S : Type 0} {I : IssuedOf S} {B : BooksOf S} {is_kept : S → S → Type 0} {issued : S → List ℕ} {old new : S}
+pub draws : {S : Type 0} {K : KeptOf S} {B : BooksOf S} {is_kept : S → S → Type 0} {issued : S → List ℕ} {old new : S}
     {source rest : Stream} (found : Result ℕ DrawFault) (result : Result ℕ Refusal) → result ≡ drawn_or found
     → ((a b : S) → is_kept a b → B.rows b ≡ B.rows a) → ((a : S) → issued a ≡ codes_in (B.rows a))
-    → (I.is_clean new → I.is_honest new) → (I.is_honest new → Draws (issued old) source found rest)
-    → (I.is_clean new → is_kept old new)
-    → Since I.is_clean I.is_honest I.failures old new → (I.is_honest new → fault_in found ≡ None → I.is_clean new)
-    → IfSome (fault_in found) (λ cause. HasRisen (I.failures old cause) (I.failures new cause))
-    → (I.never_fails → fault_in found ≡ None)
-    → DrawsCode I B old new source rest result
-draws {I = I} {B = B} {old = old} {new = new} {source = source} {rest = rest} found result e kept_rows issued_are ch d k
-    since v risen sure = subst (λ r. DrawsCode I B old new source rest r) (sym e) (record {
+    → (K.is_honest new → Draws (issued old) source found rest)
+    → (K.is_clean new → is_kept old new)
+    → Leaves K old (fault_in found) new
+    → (K.never_fails → fault_in found ≡ None)
+    → DrawsCode K B old new source rest result
+draws {K = K} {B = B} {old = old} {new = new} {source = source} {rest = rest} found result e kept_rows issued_are d k
+    l sure = subst (λ r. DrawsCode K B old new source rest r) (sym e) (record {
       answer = λ clean. drew found _ source rest
-          (subst (λ codes. Draws codes source found rest) (issued_are old) (d (ch clean)));
+          (subst (λ codes. Draws codes source found rest) (issued_are old) (d (K.clean_honest new clean)));
       same = λ clean. kept_rows old new (k clean);
-      since = since;
-      vouched = λ honest k. v honest (unfaulted found k);
       moved = λ honest k. failed_moves found _ source rest k
           (subst (λ codes. Draws codes source found rest) (issued_are old) (d honest));
-      fault = λ cause e. risen_of (λ x. HasRisen (I.failures old x) (I.failures new x)) found cause risen e;
-      sure = λ n e. absurd (false≢true (sym (unfailed found (sure n)) ∙ e));
+      leaves = subst (λ told. Leaves K old told new) (told_by_draw found) l;
+      sure = λ n. sym (told_by_draw found) ∙ sure n;
     })
 
 undrawn_at : (b : Bool) (o : Outcome Change) (draw : Draw) (rows later : Rows) (source rest : Stream) (why : Refusal)
@@ -98,28 +81,28 @@ examined_by o mid draw source rest reply_with change_with e same m =
     (ap (λ (x : Draw). x.examined) same ∙ ap (λ (x : Outcome Change). x.examined) (sym e)) m
 
 -- no code was drawn
-pub undrawn : {S : Type 0} {I : IssuedOf S} {B : BooksOf S} {facts : Rows → Type 0} {start old new : S}
+pub undrawn : {S : Type 0} {K : KeptOf S} {B : BooksOf S} {facts : Rows → Type 0} {start old new : S}
     {source rest : Stream} {e : Refusal} {outcome : Rows → Outcome Change} (r : Result Reply Refusal)
     (reply_with : ℕ → Reply) (change_with : ℕ → Change)
-    → IsErrAnd r (λ x. x ≡ e) → SoFar I B true facts start old → DrawsCode I B old new source rest (Err e)
+    → IsErrAnd r (λ x. x ≡ e) → SoFar K B true facts start old → DrawsCode K B old new source rest (Err e)
     → (facts (B.rows start)
     → outcome (B.rows start) ≡ by_draw (draw_from (codes_in (B.rows start)) (words 64 source)) reply_with change_with)
-    → StepsAs I B outcome start new source rest (reply_of r)
-undrawn {I = I} {B = B} {start = start} {old = old} {new = new} {source = source} {rest = rest} {e = e}
+    → StepsAs K B outcome start new source rest (reply_of r)
+undrawn {K = K} {B = B} {start = start} {old = old} {new = new} {source = source} {rest = rest} {e = e}
     {outcome = outcome} r reply_with change_with p s d h =
-    subst (λ answer. StepsAs I B outcome start new source rest answer) (sym (passed_on r e p)) (record {
+    subst (λ answer. StepsAs K B outcome start new source rest answer) (sym (passed_on r e p)) (record {
       goes = λ clean.
-          let before = d.since.was_clean clean in
+          let before = d.leaves.since.was_clean clean in
           undrawn_at (is_failed (Refused e)) (outcome (B.rows start)) (draw_from (codes_in (B.rows start))
           (words 64 source)) (B.rows start) (B.rows new) source rest e reply_with change_with
           (h (s.facts_hold before)) (d.same clean ∙ s.same before)
           (subst (λ rs. DrewNone (is_failed (Refused e)) (draw_from (codes_in rs) (words 64 source)) source rest e)
           (s.same before) (d.answer clean));
-      since = since_then s.since d.since;
-      vouched = λ honest k. d.vouched honest k;
-      called = λ _. called_before (s.called refl) d.since;
+      since = since_then s.since d.leaves.since;
+      vouched = λ honest k. d.leaves.vouched honest (untold (Refused e) k);
+      stays = stayed s d.leaves.since d.leaves.stays;
       moved = λ honest k.
-          let before = s.vouched refl (d.since.was_honest honest) in
+          let before = s.vouched refl (d.leaves.since.was_honest honest) in
           inr (
             s.since.was_clean before,
             examined_by (outcome (B.rows start)) (draw_from (codes_in (B.rows old)) (words 64 source))
@@ -127,7 +110,8 @@ undrawn {I = I} {B = B} {start = start} {old = old} {new = new} {source = source
                 (h (s.facts_hold before)) (ap (λ rs. draw_from (codes_in rs) (words 64 source)) (s.same before))
                 (d.moved honest k),
           );
-      fault = λ clean w cause k. risen_since cause s.since d.since (d.fault cause (cc));
+      counted = λ honest w why. counted_told (failure_in (Refused e)) why _ _ _
+          (s.counted (d.leaves.since.was_honest honest) why) (d.leaves.counted honest why);
     })
 
 made_after : (b : Bool) (o : Outcome Change) (draw : Draw) (code : ℕ) (reply_with : ℕ → Reply)
@@ -147,19 +131,19 @@ made_after false o draw code reply_with change_with rows mid later source rest a
 )
 
 -- a code was drawn, and the change with it ended the step
-pub drawn_ends : {S : Type 0} {I : IssuedOf S} {B : BooksOf S} {v : Bool} {facts : Rows → Type 0}
+pub drawn_ends : {S : Type 0} {K : KeptOf S} {B : BooksOf S} {v : Bool} {facts : Rows → Type 0}
     {start old mid new : S} {source rest : Stream} {code : ℕ} {outcome : Rows → Outcome Change} {answer : Reply}
     (reply_with : ℕ → Reply) (change_with : ℕ → Change)
-    → SoFar I B v facts start old → DrawsCode I B old mid source rest (Ok code)
-    → StepsAs I B (λ _. accepted (reply_with code) (change_with code)) mid new rest rest answer
+    → SoFar K B v facts start old → DrawsCode K B old mid source rest (Ok code)
+    → StepsAs K B (λ _. accepted (reply_with code) (change_with code)) mid new rest rest answer
     → (facts (B.rows start)
     → outcome (B.rows start) ≡ by_draw (draw_from (codes_in (B.rows start)) (words 64 source)) reply_with change_with)
-    → StepsAs I B outcome start new source rest answer
-drawn_ends {I = I} {B = B} {start = start} {old = old} {mid = mid} {new = new} {source = source} {rest = rest}
+    → StepsAs K B outcome start new source rest answer
+drawn_ends {K = K} {B = B} {start = start} {old = old} {mid = mid} {new = new} {source = source} {rest = rest}
     {code = code} {outcome = outcome} {answer = answer} reply_with change_with s d t h = record {
       goes = λ clean.
           let then = t.since.was_clean clean in
-          let before = d.since.was_clean then in
+          let before = d.leaves.since.was_clean then in
           let drawn = d.answer then in
           made_after (is_failed answer) (outcome (B.rows start)) (draw_from (codes_in (B.rows start)) (words 64 source))
           code reply_with change_with (B.rows start) (B.rows mid) (B.rows new) source rest answer
@@ -167,12 +151,14 @@ drawn_ends {I = I} {B = B} {start = start} {old = old} {mid = mid} {new = new} {
           (ap (λ rs. (draw_from (codes_in rs) (words 64 source)).code) (sym (s.same before)) ∙ drawn.0)
           (drawn.1 ∙ ap (λ rs. past (draw_from (codes_in rs) (words 64 source)).examined source) (s.same before))
           (d.same then ∙ s.same before) (t.goes clean);
-      since = since_then s.since (since_then d.since t.since);
+      since = since_then s.since (since_then d.leaves.since t.since);
       vouched = t.vouched;
-      called = λ k. called_then (since_then s.since d.since) (t.called k);
+      stays = λ honest.
+          let then = t.since.was_honest honest in
+          stays_then (stayed s d.leaves.since d.leaves.stays then) t.since (t.stays honest) (since_then s.since d.leaves.since);
       moved = λ honest k.
-          let then = d.vouched (t.since.was_honest honest) refl in
-          let before = d.since.was_clean then in
+          let then = d.leaves.vouched (t.since.was_honest honest) refl in
+          let before = d.leaves.since.was_clean then in
           inr (
             s.since.was_clean before,
             examined_by (outcome (B.rows start)) (draw_from (codes_in (B.rows old)) (words 64 source))
@@ -180,8 +166,10 @@ drawn_ends {I = I} {B = B} {start = start} {old = old} {mid = mid} {new = new} {
                 (h (s.facts_hold before)) (ap (λ rs. draw_from (codes_in rs) (words 64 source)) (s.same before))
                 (_, omega arith, (d.answer then).1),
           );
-      fault = λ clean w cause e.
-          let then = t.since.was_clean clean in
-          let here = subst AreWhole (sym (d.same then ∙ s.same (d.since.was_clean then))) w in
-          risen_since cause (since_then s.since d.since) t.since (t.fault clean here cause e);
+      counted = λ honest w why.
+          let then = t.since.was_honest honest in
+          counted_told (failure_in answer) why _ _ _
+          (counted_none why _ _ _ (s.counted (d.leaves.since.was_honest then) why) (d.leaves.counted then why))
+          (t.counted honest (λ then. subst AreWhole (sym (d.same then ∙ s.same (d.leaves.since.was_clean then)))
+          (w (s.since.was_clean (d.leaves.since.was_clean then)))) why);
     }

@@ -9,11 +9,12 @@ use Rattle.hotel_core.proofs.Names.{is_fit_on, present_fit_on, reported_on, outc
 use Rattle.hotel_core.proofs.Names.{StepsAs, Outcome, said, refused, needs, unless, is_failed, Ghosts as BooksOf}
 use Rattle.keycard_rules.proofs.Drawing.{past-zero}
 use Rattle.hotel_model.specs.declared.command.Command.TheVariants as command
-use Rattle.hotel_core.proofs.OfCode.Parts.{SoFar, faults, passed_on, refuses}
+use Rattle.hotel_core.proofs.OfCode.Parts.{SoFar, passed_on, refuses}
+use Rattle.hotel_core.proofs.OfCode.Counting.{none_more, untold}
 use Rattle.hotel_core.specs.Refinement.NextNote.{next_checked}
 use Rattle.hotel_core.proofs.Names.{IsUntaken, Refusal, reply_of}
 use Rattle.hotel_model.proofs.OfTables.Tests.{eq_from, le_from, lt_from, not_lt_from}
-use Rattle.keycard_rules.specs.declared.issued.Issued.{Ghosts as IssuedOf}
+use Rattle.keycard_rules.specs.declared.kept.Kept.{Ghosts as KeptOf}
 
 pub not_false : (b : Bool) → not b ≡ false → b ≡ true
 not_false true e = refl
@@ -37,33 +38,34 @@ pub link_is_there : (rows : Rows) (number : ℕ) (link : Link)
 link_is_there rows number link w h = there_at rows number link (card_at rows number) refl w h
 
 -- a failure that whole rows exclude
-pub excluded : {S : Type 0} {I : IssuedOf S} {B : BooksOf S} {v : Bool} {facts : Rows → Type 0} {start now : S}
+pub excluded : {S : Type 0} {K : KeptOf S} {B : BooksOf S} {facts : Rows → Type 0} {start now : S}
     {outcome : Rows → Outcome Change} {source : Stream}
-    → SoFar I B v facts start now → (AreWhole (B.rows start) → facts (B.rows start) → ⊥)
-    → StepsAs I B outcome start now source source (Refused Store)
+    → SoFar K B true facts start now → (AreWhole (B.rows start) → facts (B.rows start) → ⊥)
+    → StepsAs K B outcome start now source source (Refused Store)
 excluded {source = source} s h = record {
   goes = λ clean. (s.same clean, (0, omega arith, sym (past-zero source)));
   since = s.since;
   vouched = λ honest k. absurd (false≢true (sym k));
-  called = λ k. absurd (false≢true (sym k));
+  stays = s.stays;
   moved = λ honest k. inl refl;
-  fault = λ clean w cause e. absurd (h w (s.facts_hold clean));
+  counted = λ honest w why.
+      let clean = s.vouched refl honest in absurd (h (w (s.since.was_clean clean)) (s.facts_hold clean));
 }
 
 -- an answer that changes nothing, where the checks come to it
-pub says : {S : Type 0} {I : IssuedOf S} {B : BooksOf S} {facts : Rows → Type 0} {start now : S}
+pub says : {S : Type 0} {K : KeptOf S} {B : BooksOf S} {facts : Rows → Type 0} {start now : S}
     {outcome : Rows → Outcome Change} {source : Stream} (answer : Reply)
-    → is_failed answer ≡ false → SoFar I B true facts start now
+    → is_failed answer ≡ false → SoFar K B true facts start now
     → (facts (B.rows start) → outcome (B.rows start) ≡ said answer)
-    → StepsAs I B outcome start now source source answer
+    → StepsAs K B outcome start now source source answer
 says {B = B} {start = start} {now = now} {outcome = outcome} {source = source} answer k s h = record {
   goes = λ clean. said_at (is_failed answer) answer (outcome (B.rows start)) (B.rows start) (B.rows now) source k
       (h (s.facts_hold clean)) (s.same clean);
   since = s.since;
   vouched = λ honest _. s.vouched refl honest;
-  called = λ _. s.called refl;
+  stays = s.stays;
   moved = λ honest e. absurd (false≢true (sym k ∙ e));
-  fault = λ clean w cause e. absurd (false≢true (sym k ∙ (ap is_failed e ∙ faults cause)));
+  counted = λ honest w why. none_more _ why _ _ (untold answer k) (s.counted honest why);
 }
   where
     said_at : (b : Bool) (answer : Reply) (o : Outcome Change) (rows later : Rows) (source : Stream)
@@ -144,29 +146,29 @@ only_err : {A : Type 0} {a b : Refusal} → ◌≡◌ {A = Result A Refusal} (Er
 only_err e = cc
 
 -- a note that wasn't taken and isn't the next one of its room's present lock
-pub not_next : {S : Type 0} {I : IssuedOf S} {B : BooksOf S} {facts : Rows → Type 0} {start now : S}
+pub not_next : {S : Type 0} {K : KeptOf S} {B : BooksOf S} {facts : Rows → Type 0} {start now : S}
     {outcome : Rows → Outcome Change} {source : Stream} {why : Refusal} (r : Result Reply Refusal)
     → IsErrAnd r (λ x. x ≡ why) → (note : Note) (row : RoomRow)
-    → next_checked note row ≡ Err why → 1 ≤ note.count → SoFar I B true facts start now
+    → next_checked note row ≡ Err why → 1 ≤ note.count → SoFar K B true facts start now
     → (facts (B.rows start) → IsUntaken note row (B.rows start)
     × (outcome (B.rows start) ≡ reported_on (B.rows start) note None))
-    → StepsAs I B outcome start now source source (reply_of r)
-not_next {I = I} {B = B} {start = start} {now = now} {outcome = outcome} {source = source} {why = why} r p note row is
-    least s known = subst (λ answer. StepsAs I B outcome start now source source answer) (sym (passed_on r why p))
+    → StepsAs K B outcome start now source source (reply_of r)
+not_next {K = K} {B = B} {start = start} {now = now} {outcome = outcome} {source = source} {why = why} r p note row is
+    least s known = subst (λ answer. StepsAs K B outcome start now source source answer) (sym (passed_on r why p))
     (by (note.fit == row.fit) (nat_le note.count (row.notes - row.before))
     (nat_lt (row.notes - row.before + 1) note.count) refl refl refl is)
   where
     taken : ℕ
     taken = row.notes - row.before
 
-    so : {other : Refusal} → other ≡ why → StepsAs I B outcome start now source source (Refused other)
-        → StepsAs I B outcome start now source source (Refused why)
-    so e t = subst (λ x. StepsAs I B outcome start now source source (Refused x)) e t
+    so : {other : Refusal} → other ≡ why → StepsAs K B outcome start now source source (Refused other)
+        → StepsAs K B outcome start now source source (Refused why)
+    so e t = subst (λ x. StepsAs K B outcome start now source source (Refused x)) e t
 
     by : (present taken_before gap : Bool) → (note.fit == row.fit) ≡ present → nat_le note.count taken ≡ taken_before
         → nat_lt (taken + 1) note.count ≡ gap
         → next_by present taken_before gap (taken + 1) ≡ Err why
-        → StepsAs I B outcome start now source source (Refused why)
+        → StepsAs K B outcome start now source source (Refused why)
     by false taken_before gap f p g e = so (only_err e) (refuses OldFit refl s
         (λ k. (known k).1 ∙ old_told (B.rows start) note row (known k).0.0 f))
     by true true gap f p g e = so (only_err e) (excluded s (λ w k. false≢true

@@ -14,6 +14,8 @@ use Rattle.hotel_model.specs.declared.command.Command.TheVariants as command
 use Rattle.hotel_model.specs.declared.reply.Reply.TheVariants as reply
 use Rattle.hotel_model.specs.declared.reply.Refusal.TheVariants as refusal
 use Rattle.hotel_model.specs.Refinement.GoesOnRows as step
+use Rattle.hotel_core.proofs.Names.{StepsAs, Ghosts as BooksOf}
+use Rattle.keycard_rules.specs.declared.kept.Kept.{Ghosts as KeptOf}
 
 -- the first refusal of some checks is one, and so is what comes otherwise
 unless_reply : (checks : List (Option Refusal)) (o : Outcome Change)
@@ -78,3 +80,16 @@ note_reply given rows ahead note later source rest g = by (is_failed given) refl
         → step.GoesIf b (outcome_on rows ahead (command.Reported note)) rows source given later rest → IsNoteReply given
     by true e went = failed_is given e
     by false e went = subst (λ r. IsNoteReply r) (sym went.0) (outcome_reply rows ahead note)
+
+-- and of one that takes a note over books
+pub taken_reply : {S : Type 0} {K : KeptOf S} {B : BooksOf S} {old new : S} {source rest : Stream} {answer : Reply}
+    (ahead : List ℕ) (note : Note)
+    → StepsAs K B (λ rows. outcome_on rows ahead (command.Reported note)) old new source rest answer
+    → K.is_honest new → IsNoteReply answer
+taken_reply {B = B} {old = old} {new = new} {source = source} {rest = rest} {answer = answer} ahead note t honest =
+    by (is_failed answer) refl
+  where
+    by : (b : Bool) → is_failed answer ≡ b → IsNoteReply answer
+    by true e = failed_is answer e
+    by false e = note_reply answer (B.rows old) ahead note (B.rows new) source rest
+        (t.goes (t.vouched honest e))

@@ -1,89 +1,86 @@
 -- The parts of a step, one after the other.
-use Rattle.std.proofs.Common.{ℕ, ◌≡◌, ◌≤◌, Bool, true, false, Option, Some, None, Result, Ok, Err, refl, ap, sym, ◌∙◌}
+use Rattle.std.proofs.Common.{ℕ, ◌≡◌, Bool, true, false, Option, Some, None, Result, Ok, Err, refl, ap, sym, ◌∙◌}
 use Rattle.std.proofs.Common.{arith, subst, IsErrAnd, List, [], ◌∷◌, ◌++◌, ◌+◌, ◌⊎◌, inl, inr, nat_lt, cond}
-use Rattle.hotel_core.proofs.Names.{false≢true, Stream, past, HasRisen, LookFault, Since, since_refl, since_then}
+use Rattle.hotel_core.proofs.Names.{false≢true, Stream, past, Counts, LookFault, Since, since_refl, since_then, one_of}
 use Rattle.hotel_core.proofs.Names.{Change, Reply, Refused, Refusal, Store, Rows, number_after, is_failed, Outcome}
 use Rattle.hotel_core.proofs.Names.{refused, accepted, unless, made, GoesIf, Goes, made_by, AreWhole, StepsAs, Finds}
-use Rattle.hotel_core.proofs.Names.{FindsGiven, WasCalled, called_then, called_before}
-use Rattle.hotel_core.proofs.Names.{AnyRows, reply_of, refusal_of, first_refusal, Ghosts as BooksOf}
+use Rattle.keycard_rules.proofs.{Sinces.stays_then, CallsTogether.counted_told, CallsTogether.counted_none}
+use Rattle.hotel_core.proofs.OfCode.Counting.{faults, none_more, tells, untold}
+use Rattle.keycard_rules.specs.{Leaves.Leaves, Leaves.StaysClean}
+use Rattle.hotel_core.proofs.Names.{AnyRows, failure_in, reply_of, refusal_of, first_refusal, Ghosts as BooksOf}
 use Rattle.keycard_rules.proofs.Drawing.{past-zero}
 use Rattle.keycard_rules.specs.Draw.{MovedAtMost}
-use Rattle.keycard_rules.specs.declared.issued.LookFault.TheVariants as look
-use Rattle.keycard_rules.specs.declared.issued.Issued.{Ghosts as IssuedOf}
+use Rattle.keycard_rules.specs.declared.kept.Kept.{Ghosts as KeptOf}
 
 -- From the state start to now no row changed, and this is known of the rows at the start, if the state is clean now;
--- and where v is true the books were asked, and it is clean now if it is honest.
-pub record SoFar {S : Type 0} (I : IssuedOf S) (B : BooksOf S) (v : Bool) (facts : Rows → Type 0)
+-- no failure was counted; and where v is true the books were asked, and it is clean now if it is honest.
+pub record SoFar {S : Type 0} (K : KeptOf S) (B : BooksOf S) (v : Bool) (facts : Rows → Type 0)
     (start now : S) : Type 0 where
-  pub facts_hold : I.is_clean now → facts (B.rows start)
-  pub same : I.is_clean now → B.rows now ≡ B.rows start
-  pub since : Since I.is_clean I.is_honest I.failures start now
-  pub vouched : v ≡ true → I.is_honest now → I.is_clean now
-  pub called : v ≡ true → WasCalled I start now
-
--- a fault's refusal is a failure
-pub faults : (fault : LookFault) → is_failed (Refused (refusal_of fault)) ≡ true
-faults look.Memory = refl
-faults look.Store = refl
+  pub facts_hold : K.is_clean now → facts (B.rows start)
+  pub same : K.is_clean now → B.rows now ≡ B.rows start
+  pub since : Since K start now
+  pub vouched : v ≡ true → K.is_honest now → K.is_clean now
+  pub stays : K.is_honest now → StaysClean K start now
+  pub counted : K.is_honest now → (why : LookFault) → K.failures now why ≡ K.failures start why
 
 -- at the start this is known
-pub given : {S : Type 0} {I : IssuedOf S} {B : BooksOf S} (facts : Rows → Type 0) {start : S}
-    → (I.is_clean start → facts (B.rows start)) → SoFar I B false facts start start
+pub given : {S : Type 0} {K : KeptOf S} {B : BooksOf S} (facts : Rows → Type 0) {start : S}
+    → (K.is_clean start → facts (B.rows start)) → SoFar K B false facts start start
 given facts h = record {
   facts_hold = h;
   same = λ _. refl;
   since = since_refl;
   vouched = λ e. absurd (false≢true e);
-  called = λ e. absurd (false≢true e);
+  stays = λ _ clean. inl clean;
+  counted = λ honest why. refl;
 }
 
 -- at the start nothing is known
-pub begun : {S : Type 0} {I : IssuedOf S} {B : BooksOf S} {start : S} → SoFar I B false AnyRows start start
+pub begun : {S : Type 0} {K : KeptOf S} {B : BooksOf S} {start : S} → SoFar K B false AnyRows start start
 begun = given AnyRows (λ _. tt)
 
 -- the facts, in the rows as they are now
-pub at_now : {S : Type 0} {I : IssuedOf S} {B : BooksOf S} {v : Bool} {facts : Rows → Type 0} {start now : S}
-    → SoFar I B v facts start now → I.is_clean now → facts (B.rows now)
+pub at_now : {S : Type 0} {K : KeptOf S} {B : BooksOf S} {v : Bool} {facts : Rows → Type 0} {start now : S}
+    → SoFar K B v facts start now → K.is_clean now → facts (B.rows now)
 at_now {facts = facts} s clean = subst facts (sym (s.same clean)) (s.facts_hold clean)
 
--- something was found, and this is known of calls before it or in it
-known_by : {S A : Type 0} {I : IssuedOf S} {B : BooksOf S} {v : Bool} {facts : Rows → Type 0}
-    {are_whole : Rows → Type 0} {why : Refusal} {wanted : Rows → Option A} {start old new : S} {a : A}
-    → SoFar I B v facts start old → FindsGiven I B are_whole why wanted old new (Ok a) → WasCalled I start new
-    → SoFar I B true (λ rs. facts rs × (wanted rs ≡ Some a)) start new
-known_by {wanted = wanted} s f called = record {
-  facts_hold = λ clean.
-      (s.facts_hold (f.since.was_clean clean), ap wanted (sym (s.same (f.since.was_clean clean))) ∙ f.answer clean);
-  same = λ clean. f.same clean ∙ s.same (f.since.was_clean clean);
-  since = since_then s.since f.since;
-  vouched = λ _ honest. f.vouched honest refl;
-  called = λ _. called;
+-- what stayed clean up to a call stays so after it
+pub stayed : {S : Type 0} {K : KeptOf S} {B : BooksOf S} {v : Bool} {facts : Rows → Type 0} {start old new : S}
+    → SoFar K B v facts start old → Since K old new → (K.is_honest new → StaysClean K old new)
+    → K.is_honest new → StaysClean K start new
+stayed s since stays honest = stays_then (s.stays (since.was_honest honest)) since (stays honest) s.since
+
+-- something more is known, by a call that told no failure
+pub then_asked : {S : Type 0} {K : KeptOf S} {B : BooksOf S} {v : Bool} {facts more : Rows → Type 0} {start old new : S}
+    → SoFar K B v facts start old → (K.is_clean new → B.rows new ≡ B.rows old) → Leaves K old None new
+    → (K.is_clean old → K.is_clean new → more (B.rows start)) → SoFar K B true more start new
+then_asked s same l known = record {
+  facts_hold = λ clean. known (l.since.was_clean clean) clean;
+  same = λ clean. same clean ∙ s.same (l.since.was_clean clean);
+  since = since_then s.since l.since;
+  vouched = λ _ honest. l.vouched honest refl;
+  stays = stayed s l.since l.stays;
+  counted = λ honest why. counted_none why _ _ _ (s.counted (l.since.was_honest honest) why) (l.counted honest why);
+}
+
+-- what a search leaves that found something
+pub leaves_found : {S A : Type 0} {K : KeptOf S} {B : BooksOf S} {are_whole : Rows → Type 0} {why : Refusal}
+    {wanted : Rows → Option A} {old new : S} {a : A} → Finds K B are_whole why wanted old new (Ok a)
+    → Leaves K old None new
+leaves_found f = record {
+  since = f.since;
+  counted = λ honest. f.counted honest (λ k. absurd (false≢true k));
+  vouched = λ honest _. f.vouched honest refl;
+  stays = f.stays;
 }
 
 -- something was found
-pub then_found : {S A : Type 0} {I : IssuedOf S} {B : BooksOf S} {v : Bool} {facts : Rows → Type 0}
+pub then_found : {S A : Type 0} {K : KeptOf S} {B : BooksOf S} {v : Bool} {facts : Rows → Type 0}
     {are_whole : Rows → Type 0} {why : Refusal} {wanted : Rows → Option A} {start old new : S} {a : A}
-    → SoFar I B v facts start old → Finds I B are_whole why wanted old new (Ok a)
-    → SoFar I B true (λ rs. facts rs × (wanted rs ≡ Some a)) start new
-then_found s f = known_by s f.found (called_then s.since (f.called refl))
-
--- something was found, maybe by what was answered before
-pub then_known : {S A : Type 0} {I : IssuedOf S} {B : BooksOf S} {facts : Rows → Type 0}
-    {are_whole : Rows → Type 0} {why : Refusal} {wanted : Rows → Option A} {start old new : S} {a : A}
-    → SoFar I B true facts start old → FindsGiven I B are_whole why wanted old new (Ok a)
-    → SoFar I B true (λ rs. facts rs × (wanted rs ≡ Some a)) start new
-then_known s f = known_by s f (called_before (s.called refl) f.since)
-
--- a count that rose later has risen
-pub risen_later : (a b c : ℕ) → a ≤ b → HasRisen b c → b ≤ c → HasRisen a c
-risen_later a b c h r k = grind arith
-
--- a failure that was counted later was counted
-pub risen_since : {S : Type 0} {is_clean is_honest : S → Type 0} {failures : S → LookFault → ℕ}
-    {start old new : S} (cause : LookFault)
-    → Since is_clean is_honest failures start old → Since is_clean is_honest failures old new
-    → HasRisen (failures old cause) (failures new cause) → HasRisen (failures start cause) (failures new cause)
-risen_since cause first second risen = risen_later _ _ _ (first.counted cause) risen (second.counted cause)
+    → SoFar K B v facts start old → Finds K B are_whole why wanted old new (Ok a)
+    → SoFar K B true (λ rs. facts rs × (wanted rs ≡ Some a)) start new
+then_found {wanted = wanted} s f = then_asked s f.same (leaves_found f)
+    (λ before clean. (s.facts_hold before, ap wanted (sym (s.same before)) ∙ f.answer clean))
 
 goes_at : (b : Bool) (o : Outcome Change) (rows later : Rows) (source : Stream) (why : Refusal)
     → (b ≡ false → o ≡ refused why) → later ≡ rows → GoesIf b o rows source (Refused why) later source
@@ -95,18 +92,17 @@ goes_at false o rows later source why h same =
       sym (past-zero source) ∙ ap (λ x. past x.examined source) (sym e),
     )
 
--- nothing was found, or the search failed, and this is known of the calls of one that didn't
-stopped_by : {S A : Type 0} {I : IssuedOf S} {B : BooksOf S} {v : Bool} {facts : Rows → Type 0}
+-- nothing was found, or the search failed
+stopped_by : {S A : Type 0} {K : KeptOf S} {B : BooksOf S} {v : Bool} {facts : Rows → Type 0}
     {are_whole : Rows → Type 0} {why : Refusal} {wanted : Rows → Option A} {start old new : S} {e : Refusal}
     {outcome : Rows → Outcome Change} {source : Stream}
-    → SoFar I B v facts start old → FindsGiven I B are_whole why wanted old new (Err e)
-    → (is_failed (Refused e) ≡ false → WasCalled I start new)
+    → SoFar K B v facts start old → Finds K B are_whole why wanted old new (Err e)
     → (AreWhole (B.rows start) → facts (B.rows start) → are_whole (B.rows start))
     → (facts (B.rows start) → wanted (B.rows start) ≡ None → is_failed (Refused why) ≡ false
     → outcome (B.rows start) ≡ refused why)
-    → StepsAs I B outcome start new source source (Refused e)
-stopped_by {I = I} {B = B} {are_whole = are_whole} {wanted = wanted} {start = start} {old = old} {new = new} {e = e}
-    {outcome = outcome} {source = source} s f called whole h = record {
+    → StepsAs K B outcome start new source source (Refused e)
+stopped_by {K = K} {B = B} {are_whole = are_whole} {wanted = wanted} {start = start} {old = old} {new = new} {e = e}
+    {outcome = outcome} {source = source} s f whole h = record {
       goes = λ clean. goes_at (is_failed (Refused e)) (outcome (B.rows start)) (B.rows start) (B.rows new) source e
           (λ k. let a = f.answer clean k in
           h (s.facts_hold (f.since.was_clean clean)) (ap wanted (sym (s.same (f.since.was_clean clean)))
@@ -114,12 +110,11 @@ stopped_by {I = I} {B = B} {are_whole = are_whole} {wanted = wanted} {start = st
           (f.same clean ∙ s.same (f.since.was_clean clean));
       since = since_then s.since f.since;
       vouched = λ honest k. f.vouched honest k;
-      called = called;
+      stays = stayed s f.since f.stays;
       moved = λ honest k. inl refl;
-      fault = λ clean w cause k.
-          let before = f.since.was_clean clean in
-          risen_since cause s.since f.since
-          (f.fault clean (subst are_whole (sym (s.same before)) (whole w (s.facts_hold before))) cause (cc));
+      counted = λ honest w why. counted_told (failure_in (Refused e)) why _ _ _
+          (s.counted (f.since.was_honest honest) why) (f.counted honest (λ k before. subst are_whole
+          (sym (s.same before)) (whole (w (s.since.was_clean before)) (s.facts_hold before))) why);
     }
 
 -- the reply of a refusal that was passed on
@@ -127,61 +122,50 @@ pub passed_on : (r : Result Reply Refusal) (why : Refusal) → IsErrAnd r (λ e.
 passed_on (Ok answer) why h = absurd h
 passed_on (Err e) why h = ap Refused h
 
-pub stopped_whole : {S A : Type 0} {I : IssuedOf S} {B : BooksOf S} {v : Bool} {facts : Rows → Type 0}
+pub stopped_whole : {S A : Type 0} {K : KeptOf S} {B : BooksOf S} {v : Bool} {facts : Rows → Type 0}
     {are_whole : Rows → Type 0} {why : Refusal} {wanted : Rows → Option A} {start old new : S} {e : Refusal}
     {outcome : Rows → Outcome Change} {source : Stream} (r : Result Reply Refusal)
-    → IsErrAnd r (λ x. x ≡ e) → SoFar I B v facts start old → Finds I B are_whole why wanted old new (Err e)
+    → IsErrAnd r (λ x. x ≡ e) → SoFar K B v facts start old → Finds K B are_whole why wanted old new (Err e)
     → (AreWhole (B.rows start) → facts (B.rows start) → are_whole (B.rows start))
     → (facts (B.rows start) → wanted (B.rows start) ≡ None → is_failed (Refused why) ≡ false
     → outcome (B.rows start) ≡ refused why)
-    → StepsAs I B outcome start new source source (reply_of r)
-stopped_whole {I = I} {B = B} {start = start} {new = new} {e = e} {outcome = outcome}
+    → StepsAs K B outcome start new source source (reply_of r)
+stopped_whole {K = K} {B = B} {start = start} {new = new} {e = e} {outcome = outcome}
     {source = source} r p s f whole h =
-    subst (λ answer. StepsAs I B outcome start new source source answer)
-    (sym (passed_on r e p)) (stopped_by s f.found (λ k. called_then s.since (f.called k)) whole h)
-
--- a search failed that may rest on what was answered before
-pub stopped_known : {S A : Type 0} {I : IssuedOf S} {B : BooksOf S} {facts : Rows → Type 0} {why : Refusal}
-    {wanted : Rows → Option A} {start old new : S} {e : Refusal} {outcome : Rows → Outcome Change} {source : Stream}
-    (r : Result Reply Refusal)
-    → IsErrAnd r (λ x. x ≡ e) → SoFar I B true facts start old → FindsGiven I B AnyRows why wanted old new (Err e)
-    → (facts (B.rows start) → wanted (B.rows start) ≡ None → outcome (B.rows start) ≡ refused why)
-    → StepsAs I B outcome start new source source (reply_of r)
-stopped_known {I = I} {B = B} {start = start} {new = new} {e = e} {outcome = outcome} {source = source} r p s f h =
-    subst (λ answer. StepsAs I B outcome start new source source answer) (sym (passed_on r e p))
-    (stopped_by s f (λ k. called_before (s.called refl) f.since) (λ w k. tt) (λ k n x. h k n))
+    subst (λ answer. StepsAs K B outcome start new source source answer)
+    (sym (passed_on r e p)) (stopped_by s f whole h)
 
 -- what sound books have wasn't there, or the search failed
-pub halted : {S A : Type 0} {I : IssuedOf S} {B : BooksOf S} {v : Bool} {facts : Rows → Type 0}
+pub halted : {S A : Type 0} {K : KeptOf S} {B : BooksOf S} {v : Bool} {facts : Rows → Type 0}
     {are_whole : Rows → Type 0} {wanted : Rows → Option A} {start old new : S} {e : Refusal}
     {outcome : Rows → Outcome Change} {source : Stream} (r : Result Reply Refusal)
-    → IsErrAnd r (λ x. x ≡ e) → SoFar I B v facts start old → Finds I B are_whole Store wanted old new (Err e)
+    → IsErrAnd r (λ x. x ≡ e) → SoFar K B v facts start old → Finds K B are_whole Store wanted old new (Err e)
     → (AreWhole (B.rows start) → facts (B.rows start) → are_whole (B.rows start))
-    → StepsAs I B outcome start new source source (reply_of r)
+    → StepsAs K B outcome start new source source (reply_of r)
 halted r p s f whole = stopped_whole r p s f whole (λ k n x. absurd (false≢true (sym x)))
 
-pub stopped : {S A : Type 0} {I : IssuedOf S} {B : BooksOf S} {v : Bool} {facts : Rows → Type 0} {why : Refusal}
+pub stopped : {S A : Type 0} {K : KeptOf S} {B : BooksOf S} {v : Bool} {facts : Rows → Type 0} {why : Refusal}
     {wanted : Rows → Option A} {start old new : S} {e : Refusal} {outcome : Rows → Outcome Change}
     {source : Stream} (r : Result Reply Refusal)
-    → IsErrAnd r (λ x. x ≡ e) → SoFar I B v facts start old → Finds I B AnyRows why wanted old new (Err e)
+    → IsErrAnd r (λ x. x ≡ e) → SoFar K B v facts start old → Finds K B AnyRows why wanted old new (Err e)
     → (facts (B.rows start) → wanted (B.rows start) ≡ None → outcome (B.rows start) ≡ refused why)
-    → StepsAs I B outcome start new source source (reply_of r)
+    → StepsAs K B outcome start new source source (reply_of r)
 stopped r p s f h = stopped_whole r p s f (λ w k. tt) (λ k n x. h k n)
 
 -- a refusal, where the checks come to it
-pub refuses : {S : Type 0} {I : IssuedOf S} {B : BooksOf S} {facts : Rows → Type 0} {start now : S}
+pub refuses : {S : Type 0} {K : KeptOf S} {B : BooksOf S} {facts : Rows → Type 0} {start now : S}
     {outcome : Rows → Outcome Change} {source : Stream} (why : Refusal)
-    → is_failed (Refused why) ≡ false → SoFar I B true facts start now
+    → is_failed (Refused why) ≡ false → SoFar K B true facts start now
     → (facts (B.rows start) → outcome (B.rows start) ≡ refused why)
-    → StepsAs I B outcome start now source source (Refused why)
+    → StepsAs K B outcome start now source source (Refused why)
 refuses {B = B} {start = start} {now = now} {outcome = outcome} {source = source} why k s h = record {
   goes = λ clean. goes_at (is_failed (Refused why)) (outcome (B.rows start)) (B.rows start) (B.rows now) source why
       (λ _. h (s.facts_hold clean)) (s.same clean);
   since = s.since;
   vouched = λ honest _. s.vouched refl honest;
-  called = λ _. s.called refl;
+  stays = s.stays;
   moved = λ honest e. absurd (false≢true (sym k ∙ e));
-  fault = λ clean w cause e. absurd (false≢true (sym k ∙ (ap is_failed e ∙ faults cause)));
+  counted = λ honest w cause. none_more _ cause _ _ (untold (Refused why) k) (s.counted honest cause);
 }
 
 -- where the source moved by what a step examines, it did by what an equal one does
@@ -194,12 +178,12 @@ moved_as mid was n m source rest h (inl e) = inl e
 moved_as mid was n m source rest h (inr (c, k)) = let d = h c in inr (d.0, subst (λ x. MovedAtMost x source rest) d.1 k)
 
 -- the step goes on as one that ends it
-pub ends : {S : Type 0} {I : IssuedOf S} {B : BooksOf S} {v : Bool} {facts : Rows → Type 0} {start old new : S}
+pub ends : {S : Type 0} {K : KeptOf S} {B : BooksOf S} {v : Bool} {facts : Rows → Type 0} {start old new : S}
     {outcome last : Rows → Outcome Change} {source rest : Stream} {answer : Reply}
-    → SoFar I B v facts start old → StepsAs I B last old new source rest answer
+    → SoFar K B v facts start old → StepsAs K B last old new source rest answer
     → (facts (B.rows start) → outcome (B.rows start) ≡ last (B.rows start))
-    → StepsAs I B outcome start new source rest answer
-ends {I = I} {B = B} {start = start} {old = old} {new = new} {outcome = outcome} {last = last} {source = source}
+    → StepsAs K B outcome start new source rest answer
+ends {K = K} {B = B} {start = start} {old = old} {new = new} {outcome = outcome} {last = last} {source = source}
     {rest = rest} {answer = answer} s t h = record {
       goes = λ clean.
           let before = t.since.was_clean clean in
@@ -208,17 +192,16 @@ ends {I = I} {B = B} {start = start} {old = old} {new = new} {outcome = outcome}
           subst (λ o. Goes o (B.rows start) source answer (B.rows new) rest) (sym (h (s.facts_hold before))) g;
       since = since_then s.since t.since;
       vouched = t.vouched;
-      called = λ k. called_then s.since (t.called k);
-      moved = λ honest k. moved_as (I.is_clean old) (I.is_clean start) (last (B.rows old)).examined
+      stays = stayed s t.since t.stays;
+      moved = λ honest k. moved_as (K.is_clean old) (K.is_clean start) (last (B.rows old)).examined
           (outcome (B.rows start)).examined source rest
           (λ before. (
             s.since.was_clean before,
             ap (λ rs. (last rs).examined) (s.same before)
                 ∙ ap (λ (o : Outcome Change). o.examined) (sym (h (s.facts_hold before))),
           )) (t.moved honest k);
-      fault = λ clean w cause e.
-          risen_since cause s.since t.since
-          (t.fault clean (subst AreWhole (sym (s.same (t.since.was_clean clean))) w) cause e);
+      counted = λ honest w why. counted_told (failure_in answer) why _ _ _ (s.counted (t.since.was_honest honest) why)
+          (t.counted honest (λ before. subst AreWhole (sym (s.same before)) (w (s.since.was_clean before))) why);
     }
 
 pub only : {A : Type 0} {x y : A} → Some x ≡ Some y → x ≡ y
@@ -230,52 +213,45 @@ made_at true answer change rows later source k same = cc
 made_at false answer change rows later source k same = (refl, same, sym (past-zero source))
 
 -- the change was made
-pub makes : {S : Type 0} {I : IssuedOf S} {B : BooksOf S} {old new : S} (answer : Reply)
+pub makes : {S : Type 0} {K : KeptOf S} {B : BooksOf S} {old new : S} (answer : Reply)
     (change : Change) (source : Stream)
-    → is_failed answer ≡ false → (I.is_clean new → B.rows new ≡ made change (B.rows old))
-    → Since I.is_clean I.is_honest I.failures old new → (I.is_honest new → I.is_clean new) → WasCalled I old new
-    → StepsAs I B (λ _. accepted answer change) old new source source answer
-makes {B = B} {old = old} {new = new} answer change source k m since v called = record {
+    → is_failed answer ≡ false → (K.is_clean new → B.rows new ≡ made change (B.rows old))
+    → Leaves K old None new → StepsAs K B (λ _. accepted answer change) old new source source answer
+makes {K = K} {B = B} {old = old} {new = new} answer change source k m l = record {
   goes = λ clean. made_at (is_failed answer) answer change (B.rows old) (B.rows new) source k (m clean);
-  since = since;
-  vouched = λ honest _. v honest;
-  called = λ _. called;
+  since = l.since;
+  vouched = λ honest _. l.vouched honest refl;
+  stays = l.stays;
   moved = λ honest e. absurd (false≢true (sym k ∙ e));
-  fault = λ clean whole cause e. absurd (false≢true (sym k ∙ (ap is_failed e ∙ faults cause)));
+  counted = λ honest whole. subst (λ told. Counts (λ why. one_of why told) (K.failures old) (K.failures new))
+      (sym (untold answer k)) (l.counted honest);
 }
 
-pub same_fault : (fault other : LookFault) → Refused (refusal_of fault) ≡ Refused (refusal_of other) → fault ≡ other
-same_fault look.Memory look.Memory e = refl
-same_fault look.Memory look.Store e = cc
-same_fault look.Store look.Memory e = cc
-same_fault look.Store look.Store e = refl
-
 -- a change that was not made
-pub fails : {S : Type 0} {I : IssuedOf S} {B : BooksOf S} {old new : S} (o : Outcome Change) (fault : LookFault)
+pub fails : {S : Type 0} {K : KeptOf S} {B : BooksOf S} {old new : S} (o : Outcome Change) (fault : LookFault)
     (why : Refusal) (source : Stream)
-    → why ≡ refusal_of fault → (I.is_clean new → B.rows new ≡ B.rows old)
-    → Since I.is_clean I.is_honest I.failures old new → HasRisen (I.failures old fault) (I.failures new fault)
-    → StepsAs I B (λ _. o) old new source source (Refused why)
-fails {I = I} {B = B} {old = old} {new = new} o fault why source e m since risen =
-    subst (λ r. StepsAs I B (λ _. o) old new source source (Refused r)) (sym e) (record {
+    → why ≡ refusal_of fault → (K.is_clean new → B.rows new ≡ B.rows old)
+    → Leaves K old (Some fault) new → StepsAs K B (λ _. o) old new source source (Refused why)
+fails {K = K} {B = B} {old = old} {new = new} o fault why source e m l =
+    subst (λ r. StepsAs K B (λ _. o) old new source source (Refused r)) (sym e) (record {
       goes = λ clean. goes_at (is_failed (Refused (refusal_of fault))) o (B.rows old) (B.rows new) source
           (refusal_of fault) (λ k. absurd (false≢true (sym k ∙ faults fault))) (m clean);
-      since = since;
+      since = l.since;
       vouched = λ honest k. absurd (false≢true (sym k ∙ faults fault));
-      called = λ k. absurd (false≢true (sym k ∙ faults fault));
+      stays = l.stays;
       moved = λ honest k. inl refl;
-      fault = λ clean whole cause k. subst (λ x. HasRisen (I.failures old x) (I.failures new x))
-          (same_fault fault cause k) risen;
+      counted = λ honest whole. subst (λ told. Counts (λ why. one_of why told) (K.failures old) (K.failures new))
+          (sym (tells fault)) (l.counted honest);
     })
 
 -- a refusal of the checks, passed on
-pub barred : {S : Type 0} {I : IssuedOf S} {B : BooksOf S} {facts : Rows → Type 0} {start now : S} {e : Refusal}
+pub barred : {S : Type 0} {K : KeptOf S} {B : BooksOf S} {facts : Rows → Type 0} {start now : S} {e : Refusal}
     {outcome : Rows → Outcome Change} {source : Stream} (r : Result Reply Refusal)
-    → IsErrAnd r (λ x. x ≡ e) → is_failed (Refused e) ≡ false → SoFar I B true facts start now
+    → IsErrAnd r (λ x. x ≡ e) → is_failed (Refused e) ≡ false → SoFar K B true facts start now
     → (facts (B.rows start) → outcome (B.rows start) ≡ refused e)
-    → StepsAs I B outcome start now source source (reply_of r)
-barred {I = I} {B = B} {start = start} {now = now} {e = e} {outcome = outcome} {source = source} r p k s h =
-    subst (λ answer. StepsAs I B outcome start now source source answer) (sym (passed_on r e p)) (refuses e k s h)
+    → StepsAs K B outcome start now source source (reply_of r)
+barred {K = K} {B = B} {start = start} {now = now} {e = e} {outcome = outcome} {source = source} r p k s h =
+    subst (λ answer. StepsAs K B outcome start now source source answer) (sym (passed_on r e p)) (refuses e k s h)
 
 -- the first of these checks that refuses, and others after them
 pub bars_refuse : {X : Type 0} (checks later : List (Option Refusal)) (o : Outcome X) (why : Refusal)

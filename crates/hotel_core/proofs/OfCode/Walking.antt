@@ -2,7 +2,7 @@
 use Rattle.std.proofs.Common.{ℕ, suc, ◌≡◌, ◌<◌, ◌+◌, ◌-◌, ◌++◌, Bool, true, false, cond, Option, Some, None, List, []}
 use Rattle.std.proofs.Common.{◌∷◌, Result, Ok, Err, filter, append_assoc, refl, ap, sym, ◌∙◌, subst, arith, filter_map}
 use Rattle.hotel_core.proofs.Names.{range_with_len, cons_option, Passes, TakesFront, StopsAt, failure_of}
-use Rattle.hotel_core.proofs.OfCode.Passes.{passes_push}
+use Rattle.keycard_rules.proofs.CallsTogether.{passes_push}
 use Rattle.std.proofs.lemmas.List.{append-nil}
 use Rattle.keycard_rules.specs.declared.issued.LookFault.TheVariants as look
 use Rattle.hotel_core.specs.declared.books.walks.WalkFault.{WalkFault}

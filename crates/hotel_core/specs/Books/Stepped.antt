@@ -1,38 +1,56 @@
--- What a command or a note that was carried out promises.
-use Rattle.std.specs.Prelude.{◌≡◌, true, false}
+-- What a command, a note or several commands that were carried out promise.
+use Rattle.std.specs.Prelude.{◌≡◌, true, None, List, length, map, zip}
 use Rattle.rand_core.specs.Stream.{Stream}
-use Rattle.keycard_rules.specs.{Since.Since, Note.Note, declared.issued.Issued.Ghosts as IssuedOf}
-use Rattle.hotel_core.specs.Books.Failures.{AreCounted, failure_in}
-use Rattle.hotel_model.specs.{declared.command.Command.Command, declared.reply.Reply.Reply, Leads.Leads, Leads.LeadsOn}
-use Rattle.hotel_model.specs.{NoteReplies.IsNoteReply, Ranges.IsReply, Refinement.Fits.takes_none, Rows.Rows}
-use Rattle.hotel_model.specs.Run.{Steps, is_failed}
+use Rattle.keycard_rules.specs.{Note.Note, Leaves.Leaves, Calls.LeaveAll, Calls.Passes}
+use Rattle.keycard_rules.specs.{declared.kept.Kept.Ghosts as KeptOf}
+use Rattle.hotel_core.specs.{Books.Failures.failure_in, Books.Happens.Happens}
+use Rattle.hotel_model.specs.{declared.command.Command.Command, declared.reply.Reply.Reply, Rows.Rows, Leads.Leads}
+use Rattle.hotel_model.specs.{Ranges.IsReply, Refinement.Fits.takes_none, Run.Steps, Run.Runs, Run.is_failed}
+use Rattle.hotel_model.specs.Sound.{IsSound}
 use Rattle.hotel_model.specs.declared.command.Command.TheVariants.{Reported}
 
--- A command went over books from old to new with this reply, and took words of a source: it is a step of the model, and
--- the failure of memory or the store that the reply tells was counted. Where the books are only honest as it ends, it
--- went so too, and a reply that tells no failure vouches that they are clean. In memory a command that takes none
--- doesn't fail.
-pub record Stepped {S : Type 0} (I : IssuedOf S) (rows : S → Rows) (command : Command) (old new : S)
-    (source later : Stream) (reply : Reply) : Type 0 where
-  pub step : I.is_clean new → Leads (rows old) (λ h h'. Steps h source command reply h' later) (rows new)
-  pub failed : I.is_clean new → AreCounted (I.failures old) (I.failures new) (failure_in reply)
-  pub happened : I.is_honest new → LeadsOn (I.is_clean old) (rows old)
-      (λ h h'. Steps h source command reply h' later) (I.is_clean new) (rows new)
-  pub vouched : I.is_honest new → is_failed reply ≡ false → I.is_clean new
-  pub since : Since I.is_clean I.is_honest I.failures old new
-  pub range : IsReply reply
-  pub sure : I.never_fails → takes_none command ≡ true → is_failed reply ≡ false
+-- A command was carried out with this reply, over books and a source of words from old to new: it is a step of the
+-- model, and leaves what any call does. In memory a command that takes none doesn't fail.
+pub record Stepped {S : Type 0} (K : KeptOf S) (rows : S → Rows) (old : S × Stream) (asked : Command × Reply)
+    (new : S × Stream) : Type 0 where
+  pub happened : Happens K rows old.0 (λ h h'. Steps h old.1 asked.0 asked.1 h' new.1) new.0
+  pub leaves : Leaves K old.0 (failure_in asked.1) new.0
+  pub range : IsReply asked.1
+  pub sure : K.never_fails → takes_none asked.0 ≡ true → failure_in asked.1 ≡ None
 
--- A note was reported: the same of each source, of which it takes no word. Its reply is one to a note, and a failure
--- left the rows.
-pub record Noted {S : Type 0} (I : IssuedOf S) (rows : S → Rows) (given : Note) (old new : S) (reply : Reply)
-    : Type 0 where
-  pub step : I.is_clean new → (source : Stream) → Leads (rows old)
-      (λ h h'. Steps h source (Reported given) reply h' source) (rows new)
-  pub note : I.is_clean new → IsNoteReply reply
-  pub unchanged : I.is_clean new → is_failed reply ≡ true → rows new ≡ rows old
-  pub failed : I.is_clean new → AreCounted (I.failures old) (I.failures new) (failure_in reply)
-  pub happened : I.is_honest new → (source : Stream) → LeadsOn (I.is_clean old) (rows old)
-      (λ h h'. Steps h source (Reported given) reply h' source) (I.is_clean new) (rows new)
-  pub vouched : I.is_honest new → is_failed reply ≡ false → I.is_clean new
-  pub since : Since I.is_clean I.is_honest I.failures old new
+-- Over books that are clean as it ends, a step led from a history that they stood for to one that they stand for.
+abbrev pub StepsLead : {S : Type 0} → KeptOf S → (S → Rows) → Type 0
+StepsLead {S = S} K rows = (old new : S × Stream) (asked : Command × Reply)
+    → Stepped K rows old asked new → K.is_clean new.0
+    → Leads (rows old.0) (λ h h'. Steps h old.1 asked.0 asked.1 h' new.1) (rows new.0)
+
+-- A command that failed changed no row of sound books that are clean as it ends.
+abbrev pub FailuresKeep : {S : Type 0} → KeptOf S → (S → Rows) → Type 0
+FailuresKeep {S = S} K rows = (old new : S × Stream) (asked : Command × Reply)
+    → Stepped K rows old asked new → K.is_clean new.0 → IsSound (rows old.0) → is_failed asked.1 ≡ true
+    → rows new.0 ≡ rows old.0
+
+-- A note was reported: whatever the source, the command that reports it, which takes no word of it.
+abbrev pub Noted : {S : Type 0} → KeptOf S → (S → Rows) → Note → S → S → Reply → Type 0
+Noted K rows note old new reply = (source : Stream) → Stepped K rows (old, source) (Reported note, reply) (new, source)
+
+-- Commands were carried out with these replies, each in the state that the one before it left.
+pub record RunThrough {S : Type 0} (K : KeptOf S) (rows : S → Rows) (old : S × Stream) (commands : List Command)
+    (replies : List Reply) (new : S × Stream) : Type 0 where
+  pub each : length replies ≡ length commands
+  pub through : Passes (Stepped K rows) old (zip commands replies) new
+
+-- They are a run of the model, over clean books from a history that they stood for to one that they stand for; and
+-- they leave together what their calls do.
+pub record RanOver {S : Type 0} (K : KeptOf S) (rows : S → Rows) (old : S × Stream) (commands : List Command)
+    (replies : List Reply) (new : S × Stream) : Type 0 where
+  pub happened : Happens K rows old.0 (λ h h'. Runs h old.1 commands replies h' new.1) new.0
+  pub led : K.is_clean new.0
+      → Leads (rows old.0) (λ h h'. Runs h old.1 commands replies h' new.1) (rows new.0)
+  pub calls : Passes (Leaves K) old.0 (map failure_in replies) new.0
+  pub leaves : LeaveAll K old.0 (map failure_in replies) new.0
+
+-- commands that were carried out in turn are such a run
+abbrev pub RunsFollow : {S : Type 0} → KeptOf S → (S → Rows) → Type 0
+RunsFollow {S = S} K rows = (old new : S × Stream) (commands : List Command) (replies : List Reply)
+    → RunThrough K rows old commands replies new → RanOver K rows old commands replies new

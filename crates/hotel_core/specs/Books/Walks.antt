@@ -1,10 +1,8 @@
 -- What a walk over the rows of a list hands to a sink.
-use Rattle.std.specs.Prelude.{◌≡◌, Bool, false, List, ◌∷◌, ◌++◌, Result, Ok, Err, Option, Some, None, IfSome}
-use Rattle.keycard_rules.specs.{declared.issued.LookFault.LookFault, Rise.HasRisen}
-use Rattle.keycard_rules.specs.{Since.Since}
-use Rattle.keycard_rules.specs.{declared.issued.Issued.Ghosts as IssuedOf}
+use Rattle.std.specs.Prelude.{◌≡◌, Bool, List, ◌∷◌, ◌++◌, Result, Ok, Err, Option, Some, None}
+use Rattle.keycard_rules.specs.{declared.issued.LookFault.LookFault, Leaves.Looks, Calls.Passes}
+use Rattle.keycard_rules.specs.{declared.kept.Kept.Ghosts as KeptOf}
 use Rattle.keycard_rules.specs.declared.issued.LookFault.TheVariants as look
-use Rattle.hotel_core.specs.Books.Passes.{Passes}
 use Rattle.hotel_core.specs.declared.books.walks.WalkFault.{WalkFault}
 use Rattle.hotel_core.specs.declared.books.walks.WalkFault.TheVariants as why
 
@@ -35,18 +33,8 @@ failure_of (Err why.Memory) = Some look.Memory
 failure_of (Err why.Store) = Some look.Store
 
 -- A walk over these rows, of books from old to new and a sink from its meaning to that at the end: it hands over some
--- rows, which are these where the state is honest at its end, and leaves what a look-up may leave where the test of the
--- state holds then; memory or the store fails only where a failure of that cause was counted, and the store only for a
--- cause of its own. In memory no store fails, and a walk that takes no memory doesn't fail at all. Where the state is
--- honest at its end and neither failed, the test holds; and the walk was answered.
-pub record WalksOver {B S R : Type 0} (I : IssuedOf B) (takes_memory : Bool) (after after_stop : S → R → S → Type 0)
+-- rows, which are these where the state is honest at its end, and leaves what a look-up does.
+pub record WalksOver {B S R : Type 0} (K : KeptOf B) (takes_memory : Bool) (after after_stop : S → R → S → Type 0)
     (rows : List R) (old new : B) (sink end : S) (result : Result (Unit {0}) WalkFault) : Type 0 where
-  pub hands : (handed : List R) × Hands after after_stop handed sink end result × (I.is_honest new → handed ≡ rows)
-  pub kept : I.is_clean new → I.is_kept old new
-  pub since : Since I.is_clean I.is_honest I.failures old new
-  pub vouched : I.is_honest new → failure_of result ≡ None → I.is_clean new
-  pub called : failure_of result ≡ None → I.has_answered old new
-  pub stop : I.leaves_no_more old new
-  pub fault : IfSome (failure_of result) (λ cause. HasRisen (I.failures old cause) (I.failures new cause))
-  pub cause : I.is_honest new → failure_of result ≡ Some look.Store → I.look_up_fails old new
-  pub sure : I.never_fails → takes_memory ≡ false → failure_of result ≡ None
+  pub hands : (handed : List R) × Hands after after_stop handed sink end result × (K.is_honest new → handed ≡ rows)
+  pub looks : Looks K takes_memory old (failure_of result) new

@@ -2,17 +2,19 @@
 use Rattle.std.specs.Prelude.{ℕ, ◌≡◌, Bool, true, false, List, [], ◌∷◌, Option, Some, None, Result, Ok, Err}
 use Rattle.rand_core.specs.Stream.{Stream}
 use Rattle.keycard_rules.specs.declared.draw.TheConstants.{MOST_WORDS}
-use Rattle.keycard_rules.specs.{Draw.Draw, Draw.words, Draw.past, Draw.draw_from, Draw.MovedAtMost, Rise.HasRisen}
-use Rattle.keycard_rules.specs.{Since.Since, Called.WasCalled}
+use Rattle.keycard_rules.specs.{Draw.Draw, Draw.words, Draw.past, Draw.draw_from, Draw.MovedAtMost}
+use Rattle.keycard_rules.specs.{Rise.Counts, Rise.one_of}
+use Rattle.keycard_rules.specs.{Since.Since, Leaves.Leaves, Leaves.StaysClean}
 use Rattle.keycard_rules.specs.{declared.issued.LookFault.LookFault}
-use Rattle.keycard_rules.specs.{declared.draw.DrawFault.DrawFault, declared.issued.Issued.Ghosts as IssuedOf}
+use Rattle.keycard_rules.specs.{declared.draw.DrawFault.DrawFault, declared.kept.Kept.Ghosts as KeptOf}
 use Rattle.keycard_rules.specs.declared.draw.DrawFault.TheVariants as draw
 use Rattle.hotel_model.specs.{declared.reply.Reply.Reply, declared.reply.Refusal.Refusal}
 use Rattle.hotel_model.specs.declared.reply.Reply.TheVariants as reply
 use Rattle.hotel_model.specs.{declared.reply.Refusal.TheVariants.Memory, declared.reply.Refusal.TheVariants.Store}
 use Rattle.hotel_model.specs.{declared.reply.Refusal.TheVariants.NoFreshCode, Rows.Rows}
 use Rattle.hotel_model.specs.{Refinement.Lookups.codes_in, Run.is_failed}
-use Rattle.hotel_core.specs.{Books.Failures.refusal_of, declared.books.Books.Ghosts as BooksOf}
+use Rattle.hotel_core.specs.{Books.Failures.failure_in, Books.Failures.refusal_of}
+use Rattle.hotel_core.specs.{declared.books.Books.Ghosts as BooksOf}
 
 -- what was looked up, with its fault as a refusal
 abbrev pub known : {A : Type 0} → Result A LookFault → Result A Refusal
@@ -35,27 +37,27 @@ abbrev pub has_failed : {A : Type 0} → Result A Refusal → Bool
 has_failed (Ok a) = false
 has_failed (Err why) = is_failed (reply.Refused why)
 
+-- the failure of memory or of the store, if it was one
+abbrev pub failure_at : {A : Type 0} → Result A Refusal → Option LookFault
+failure_at (Ok a) = None
+failure_at (Err why) = failure_in (reply.Refused why)
+
 -- what is wanted was found; or it isn't there and this is the refusal, unless memory or the store failed
 abbrev pub Found : {A : Type 0} → Refusal → Option A → Result A Refusal → Type 0
 Found why wanted (Ok a) = wanted ≡ Some a
 Found why wanted (Err other) = is_failed (reply.Refused other) ≡ false → (wanted ≡ None) × (other ≡ why)
 
--- A search from the state old to new, which changes no row; for whole rows, it fails only where a failure of that cause
--- was counted, and in memory no store fails. It may rest on what was answered before it.
-pub record FindsGiven {S A : Type 0} (I : IssuedOf S) (B : BooksOf S) (are_whole : Rows → Type 0) (why : Refusal)
+-- A search from the state old to new, which changes no row and leaves what a call does; a failure that it tells is
+-- counted, for whole rows, and no other one.
+pub record Finds {S A : Type 0} (K : KeptOf S) (B : BooksOf S) (are_whole : Rows → Type 0) (why : Refusal)
     (wanted : Rows → Option A) (old new : S) (result : Result A Refusal) : Type 0 where
-  pub answer : I.is_clean new → Found why (wanted (B.rows old)) result
-  pub same : I.is_clean new → B.rows new ≡ B.rows old
-  pub since : Since I.is_clean I.is_honest I.failures old new
-  pub vouched : I.is_honest new → has_failed result ≡ false → I.is_clean new
-  pub fault : I.is_clean new → are_whole (B.rows old) → (cause : LookFault) → result ≡ Err (refusal_of cause)
-      → HasRisen (I.failures old cause) (I.failures new cause)
-
--- The same of a search that asks the books itself.
-pub record Finds {S A : Type 0} (I : IssuedOf S) (B : BooksOf S) (are_whole : Rows → Type 0) (why : Refusal)
-    (wanted : Rows → Option A) (old new : S) (result : Result A Refusal) : Type 0 where
-  pub found : FindsGiven I B are_whole why wanted old new result
-  pub called : has_failed result ≡ false → WasCalled I old new
+  pub answer : K.is_clean new → Found why (wanted (B.rows old)) result
+  pub same : K.is_clean new → B.rows new ≡ B.rows old
+  pub since : Since K old new
+  pub vouched : K.is_honest new → has_failed result ≡ false → K.is_clean new
+  pub stays : K.is_honest new → StaysClean K old new
+  pub counted : K.is_honest new → (has_failed result ≡ true → K.is_clean old → are_whole (B.rows old))
+      → Counts (λ why. one_of why (failure_at result)) (K.failures old) (K.failures new)
 
 -- all rows are whole enough
 abbrev pub AnyRows : Rows → Type 0
@@ -80,17 +82,14 @@ Drew draw source rest (Ok code) = (draw.code ≡ Some code) × (rest ≡ past dr
 Drew draw source rest (Err why) = DrewNone (is_failed (reply.Refused why)) draw source rest why
 
 -- A draw over books, which changes no row.
-pub record DrawsCode {S : Type 0} (I : IssuedOf S) (B : BooksOf S) (old new : S) (source rest : Stream)
+pub record DrawsCode {S : Type 0} (K : KeptOf S) (B : BooksOf S) (old new : S) (source rest : Stream)
     (result : Result ℕ Refusal) : Type 0 where
-  pub answer : I.is_clean new → Drew (draw_from (codes_in (B.rows old)) (words MOST_WORDS source)) source rest result
-  pub same : I.is_clean new → B.rows new ≡ B.rows old
-  pub since : Since I.is_clean I.is_honest I.failures old new
-  pub vouched : I.is_honest new → has_failed result ≡ false → I.is_clean new
-  pub moved : I.is_honest new → has_failed result ≡ true
+  pub answer : K.is_clean new → Drew (draw_from (codes_in (B.rows old)) (words MOST_WORDS source)) source rest result
+  pub same : K.is_clean new → B.rows new ≡ B.rows old
+  pub moved : K.is_honest new → has_failed result ≡ true
       → MovedAtMost (draw_from (codes_in (B.rows old)) (words MOST_WORDS source)).examined source rest
-  pub fault : (cause : LookFault) → result ≡ Err (refusal_of cause)
-      → HasRisen (I.failures old cause) (I.failures new cause)
-  pub sure : I.never_fails → has_failed result ≡ true → ⊥
+  pub leaves : Leaves K old (failure_at result) new
+  pub sure : K.never_fails → failure_at result ≡ None
 
 -- the first refusal of these checks
 abbrev pub first_refusal : List (Option Refusal) → Option Refusal

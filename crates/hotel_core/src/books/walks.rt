@@ -65,26 +65,26 @@ pub trait Sink<Row> {
 pub trait Walks: Books {
     /// The booked stays that take the night of a day, by party.
     fn walk_arrivals<S: Sink<Stay>>(&mut self, day: Day, sink: &mut S) -> Result<(), WalkFault>
-        ensures { WalksOver Self.Issued false S.after S.after_stop
+        ensures { WalksOver Self.Kept false S.after S.after_stop
             (arrivals_on (Self.rows self.old) day) self.old self.new sink.old sink.new result };
 
     /// The rooms with a registered party, by room.
     fn walk_in_house<S: Sink<HouseRow>>(&mut self, sink: &mut S) -> Result<(), WalkFault>
-        ensures { WalksOver Self.Issued true S.after S.after_stop
+        ensures { WalksOver Self.Kept true S.after S.after_stop
             (in_house_on (Self.rows self.old)) self.old self.new sink.old sink.new result };
 
     /// The codes of a room in order of issue; none where the room isn't there.
     fn walk_chain<S: Sink<ChainRow>>(&mut self, room: RoomNo, sink: &mut S) -> Result<(), WalkFault>
-        ensures { WalksOver Self.Issued false S.after S.after_stop
+        ensures { WalksOver Self.Kept false S.after S.after_stop
             (chain_on (Self.rows self.old) room) self.old self.new sink.old sink.new result };
 
     /// The rooms with two awaited codes or more, by room.
     fn walk_left_behind<S: Sink<BehindRow>>(&mut self, sink: &mut S) -> Result<(), WalkFault>
-        ensures { WalksOver Self.Issued false S.after S.after_stop
+        ensures { WalksOver Self.Kept false S.after S.after_stop
             (left_behind_on (Self.rows self.old)) self.old self.new sink.old sink.new result };
 
     /// The notes of a room, in the order in which they were taken; none where the room isn't there.
     fn walk_audit<S: Sink<LockNote>>(&mut self, room: RoomNo, sink: &mut S) -> Result<(), WalkFault>
-        ensures { WalksOver Self.Issued false S.after S.after_stop
+        ensures { WalksOver Self.Kept false S.after S.after_stop
             (notes_at (Self.rows self.old).notes room) self.old self.new sink.old sink.new result };
 }

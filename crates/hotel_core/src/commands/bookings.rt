@@ -21,7 +21,7 @@ fn first_full<B: Books>(
     arrive: Day,
     depart: Day,
 ) -> Result<Option<Day>, Refusal>
-    ensures { Finds B.Issued B.Books.own AnyRows Store
+    ensures { Finds B.Kept B.Books.own AnyRows Store
         (λ rows. Some (first_full_on rows kind.now arrive (depart - arrive))) books.old books.new result }
 {
     let night = books.full_night(kind, arrive, depart);
@@ -30,7 +30,7 @@ fn first_full<B: Books>(
 
 /// Gives up a booking.
 pub(crate) fn cancel<B: Books>(books: &mut B, party: PartyNo) -> Result<Reply, Refusal>
-    ensures { CarriesOutWithoutWords B.Issued B.Books.own (command.Cancel party) books.old books.new (reply_of result) }
+    ensures { CarriesOutWithoutWords B.Kept B.Books.own (command.Cancel party) books.old books.new (reply_of result) }
 {
     today(books)?;
     let stay = stay_there(books, party)?;
@@ -42,7 +42,7 @@ pub(crate) fn cancel<B: Books>(books: &mut B, party: PartyNo) -> Result<Reply, R
 
 /// A copy of a guest's name.
 fn copied<B: Books>(books: &mut B, guest: &Guest) -> Result<Guest, Refusal>
-    ensures { Finds B.Issued B.Books.own AnyRows Store (λ _. Some guest.now) books.old books.new result }
+    ensures { Finds B.Kept B.Books.own AnyRows Store (λ _. Some guest.now) books.old books.new result }
 {
     let copy = books.copy_guest(guest);
     known(copy)
@@ -57,7 +57,7 @@ pub(crate) fn reserve<B: Books>(
     nights: Nights,
 ) -> Result<Reply, Refusal>
     requires { IsCommand (command.Reserve guest.now kind.now arrive nights) }
-    ensures { CarriesOutWithoutWords B.Issued B.Books.own (command.Reserve guest.now kind.now arrive nights)
+    ensures { CarriesOutWithoutWords B.Kept B.Books.own (command.Reserve guest.now kind.now arrive nights)
         books.old books.new (reply_of result) }
 {
     let today = today(books)?;

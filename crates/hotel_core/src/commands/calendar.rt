@@ -13,7 +13,7 @@ use hotel_nights::Day;
 /// Sets the first business day.
 pub(crate) fn begin<B: Books>(books: &mut B, day: Day) -> Result<Reply, Refusal>
     requires { IsCommand (command.Begin day) }
-    ensures steps { CarriesOutWithoutWords B.Issued B.Books.own (command.Begin day) books.old books.new
+    ensures steps { CarriesOutWithoutWords B.Kept B.Books.own (command.Begin day) books.old books.new
         (reply_of result) }
     ensures sure { B.never_fails → is_failed (reply_of result) ≡ false }
 {
@@ -25,7 +25,7 @@ pub(crate) fn begin<B: Books>(books: &mut B, day: Day) -> Result<Reply, Refusal>
 
 /// Moves the business day on by one.
 pub(crate) fn next_day<B: Books>(books: &mut B) -> Result<Reply, Refusal>
-    ensures steps { CarriesOutWithoutWords B.Issued B.Books.own command.NextDay books.old books.new (reply_of result) }
+    ensures steps { CarriesOutWithoutWords B.Kept B.Books.own command.NextDay books.old books.new (reply_of result) }
     ensures sure { B.never_fails → is_failed (reply_of result) ≡ false }
 {
     let day = today(books)?;

@@ -14,7 +14,7 @@ use hotel_model::{Change, Refusal, Reply};
 pub(crate) fn make<B: Books>(books: &mut B, change: Change, reply: Reply) -> Result<Reply, Refusal>
     requires answered { B.is_clean books.old → IsAnswered (B.rows books.old) change reply }
     requires is_answer { is_failed reply ≡ false }
-    ensures steps { StepsWithoutWords B.Issued B.Books.own (λ _. accepted reply change) books.old books.new
+    ensures steps { StepsWithoutWords B.Kept B.Books.own (λ _. accepted reply change) books.old books.new
         (reply_of result) }
     ensures sure { B.never_fails → takes_memory change ≡ false → is_failed (reply_of result) ≡ false }
 {

@@ -3,7 +3,7 @@ ghost use Rattle.std.specs.Prelude.{◌≡◌, ◌+◌, true, is_some, Some};
 ghost use Rattle.keycard_rules.specs.Lock.{turn};
 ghost use Rattle.keycard_rules.specs.declared.note.Act.TheVariants as act;
 ghost use Rattle.hotel_model.specs.{Refinement.Answered.IsOutcome, Refinement.Lookups.inside_at};
-ghost use Rattle.hotel_core.specs.Refinement.Finds.{FindsGiven, AnyRows, reply_of};
+ghost use Rattle.hotel_core.specs.Refinement.Finds.{Finds, AnyRows, reply_of};
 ghost use Rattle.hotel_model.specs.{Guests.are_none, declared.reply.Refusal.TheVariants.Store};
 ghost use Rattle.hotel_model.specs.{Refinement.NotesOnRows.IsUntaken, Refinement.OnRows.opened_on};
 ghost use Rattle.hotel_model.specs.{Refinement.NotesOnRows.secured_by, Refinement.ChangeOf.comes};
@@ -33,7 +33,7 @@ fn secured_after<B: Books>(
     place: u32,
 ) -> Result<bool, Refusal>
     requires vouched { B.is_honest books.old → B.is_clean books.old }
-    ensures { FindsGiven B.Issued B.Books.own AnyRows Store (λ rows. Some
+    ensures { Finds B.Kept B.Books.own AnyRows Store (λ rows. Some
         (secured_by row.now place (are_none (inside_at rows room)))) books.old books.new result }
 {
     let is_current = u64::from(place) + 1 == u64::from(row.codes);
@@ -67,7 +67,7 @@ fn open<B: Books>(
         × (has_link_on (B.rows books.old) number link.now ≡ true) }
     requires outcome { B.is_clean books.old → IsOutcome (B.rows books.old)
         (opened_on (B.rows books.old) note.now number link.now) }
-    ensures { StepsWithoutWords B.Issued B.Books.own (λ rows. opened_on rows note.now number link.now)
+    ensures { StepsWithoutWords B.Kept B.Books.own (λ rows. opened_on rows note.now number link.now)
         books.old books.new (reply_of result) }
 {
     let lock_place = issued_place(books, link.new_code)?.place;
@@ -98,7 +98,7 @@ pub(crate) fn enter<B: Books>(
     requires untaken { B.is_clean books.old → IsUntaken note.now row.now (B.rows books.old) }
     requires outcome { B.is_clean books.old → IsOutcome (B.rows books.old)
         (told_on (B.rows books.old) note.now (act.Entered number link.now)) }
-    ensures { StepsWithoutWords B.Issued B.Books.own (λ rows. told_on rows note.now (act.Entered number link.now))
+    ensures { StepsWithoutWords B.Kept B.Books.own (λ rows. told_on rows note.now (act.Entered number link.now))
         books.old books.new (reply_of result) }
 {
     noted_card(books, number, link)?;

@@ -21,7 +21,7 @@ pub(crate) fn leave<B: Books>(
     requires untaken { B.is_clean books.old → IsUntaken note.now row.now (B.rows books.old) }
     requires outcome { B.is_clean books.old → IsOutcome (B.rows books.old)
         (told_on (B.rows books.old) note.now (act.Left number link.now)) }
-    ensures { StepsWithoutWords B.Issued B.Books.own (λ rows. told_on rows note.now (act.Left number link.now))
+    ensures { StepsWithoutWords B.Kept B.Books.own (λ rows. told_on rows note.now (act.Left number link.now))
         books.old books.new (reply_of result) }
 {
     noted_card(books, number, link)?;

@@ -20,7 +20,7 @@ fn drawn_or(drawn: Result<Code, DrawFault>) -> Result<Code, Refusal>
 
 /// The first code of the source's next words that wasn't issued.
 pub(crate) fn fresh<B: Books, R: Rng>(books: &mut B, source: &mut R) -> Result<Code, Refusal>
-    ensures { DrawsCode B.Issued B.Books.own books.old books.new (R.stream source.old) (R.stream source.new) result }
+    ensures { DrawsCode B.Kept B.Books.own books.old books.new (R.stream source.old) (R.stream source.new) result }
 {
     let drawn = draw_fresh(source, books);
     drawn_or(drawn)

@@ -78,7 +78,7 @@ pub(crate) fn check_in<B: Books, R: Rng>(
     party: PartyNo,
     room: RoomNo,
 ) -> Result<Reply, Refusal>
-    ensures { CarriesOut B.Issued B.Books.own (command.CheckIn party room) books.old books.new
+    ensures { CarriesOut B.Kept B.Books.own (command.CheckIn party room) books.old books.new
         (R.stream source.old) (R.stream source.new) (reply_of result) }
 {
     let day = today(books)?;
@@ -95,7 +95,7 @@ pub(crate) fn transfer<B: Books, R: Rng>(
     party: PartyNo,
     room: RoomNo,
 ) -> Result<Reply, Refusal>
-    ensures { CarriesOut B.Issued B.Books.own (command.Transfer party room) books.old books.new
+    ensures { CarriesOut B.Kept B.Books.own (command.Transfer party room) books.old books.new
         (R.stream source.old) (R.stream source.new) (reply_of result) }
 {
     today(books)?;
@@ -110,7 +110,7 @@ pub(crate) fn transfer<B: Books, R: Rng>(
 
 /// Gives a party in house one more card of its last link.
 pub(crate) fn spare<B: Books>(books: &mut B, party: PartyNo) -> Result<Reply, Refusal>
-    ensures { CarriesOutWithoutWords B.Issued B.Books.own (command.Spare party) books.old books.new (reply_of result) }
+    ensures { CarriesOutWithoutWords B.Kept B.Books.own (command.Spare party) books.old books.new (reply_of result) }
 {
     today(books)?;
     let stay = stay_there(books, party)?;
@@ -133,7 +133,7 @@ pub(crate) fn reissue<B: Books, R: Rng>(
     source: &mut R,
     party: PartyNo,
 ) -> Result<Reply, Refusal>
-    ensures { CarriesOut B.Issued B.Books.own (command.Reissue party) books.old books.new
+    ensures { CarriesOut B.Kept B.Books.own (command.Reissue party) books.old books.new
         (R.stream source.old) (R.stream source.new) (reply_of result) }
 {
     today(books)?;
@@ -147,7 +147,7 @@ pub(crate) fn reissue<B: Books, R: Rng>(
 
 /// Ends the stay of a party in house.
 pub(crate) fn check_out<B: Books>(books: &mut B, party: PartyNo) -> Result<Reply, Refusal>
-    ensures { CarriesOutWithoutWords B.Issued B.Books.own (command.CheckOut party) books.old books.new
+    ensures { CarriesOutWithoutWords B.Kept B.Books.own (command.CheckOut party) books.old books.new
         (reply_of result) }
 {
     today(books)?;

@@ -16,7 +16,7 @@ use rand_core::Rng;
 /// Adds a kind.
 pub(crate) fn add_kind<B: Books>(books: &mut B, kind: &KindCode) -> Result<Reply, Refusal>
     requires { IsCommand (command.AddKind kind.now) }
-    ensures { CarriesOutWithoutWords B.Issued B.Books.own (command.AddKind kind.now) books.old books.new
+    ensures { CarriesOutWithoutWords B.Kept B.Books.own (command.AddKind kind.now) books.old books.new
         (reply_of result) }
 {
     today(books)?;
@@ -34,7 +34,7 @@ pub(crate) fn add_room<B: Books, R: Rng>(
     kind: &KindCode,
 ) -> Result<Reply, Refusal>
     requires { IsCommand (command.AddRoom room kind.now) }
-    ensures { CarriesOut B.Issued B.Books.own (command.AddRoom room kind.now) books.old books.new
+    ensures { CarriesOut B.Kept B.Books.own (command.AddRoom room kind.now) books.old books.new
         (R.stream source.old) (R.stream source.new) (reply_of result) }
 {
     today(books)?;

@@ -1,6 +1,6 @@
 //! What a note of a lock is compared with in the books.
 ghost use Rattle.std.specs.Prelude.{◌≡◌, ◌-◌, ◌==◌, ◌&&◌, nat_lt, Option, Some, None, IsSome, not, is_some, [], ◌∷◌};
-ghost use Rattle.hotel_core.specs.{Refinement.Finds.Finds, Refinement.Finds.FindsGiven, Refinement.Finds.AnyRows};
+ghost use Rattle.hotel_core.specs.{Refinement.Finds.Finds, Refinement.Finds.AnyRows};
 ghost use Rattle.hotel_core.specs.{Refinement.FindsChecked.FindsChecked};
 ghost use Rattle.hotel_model.specs.{Refinement.Lookups.room_at, Refinement.Lookups.code_place};
 ghost use Rattle.hotel_model.specs.{Refinement.Lookups.inside_at, Refinement.Lookups.note_at, Guests.are_none};
@@ -45,7 +45,7 @@ pub(crate) fn kept_note<B: Books>(
 ) -> Result<Option<LockNote>, Refusal>
     requires there { B.is_clean books.old → room_at (B.rows books.old) note.now.room ≡ Some row.now }
     requires vouched { B.is_honest books.old → B.is_clean books.old }
-    ensures { FindsGiven B.Issued B.Books.own AnyRows Store (λ rows. Some
+    ensures { Finds B.Kept B.Books.own AnyRows Store (λ rows. Some
         (note_at rows note.now.room note.now.fit note.now.count)) books.old books.new result }
 {
     books.known_sound();
@@ -58,7 +58,7 @@ pub(crate) fn kept_note<B: Books>(
 
 /// Where a card's new code stands, which sound books have.
 pub(crate) fn issued_place<B: Books>(books: &mut B, code: Code) -> Result<CodeRow, Refusal>
-    ensures { Finds B.Issued B.Books.own (λ rows. IsSome (code_place rows code)) Store
+    ensures { Finds B.Kept B.Books.own (λ rows. IsSome (code_place rows code)) Store
         (λ rows. code_place rows code) books.old books.new result }
 {
     let row = books.code_place(code);
@@ -67,7 +67,7 @@ pub(crate) fn issued_place<B: Books>(books: &mut B, code: Code) -> Result<CodeRo
 
 /// Where a code stands to which a lock was recoded.
 pub(crate) fn awaited_place<B: Books>(books: &mut B, code: Code) -> Result<CodeRow, Refusal>
-    ensures { Finds B.Issued B.Books.own AnyRows NotAwaited (λ rows. code_place rows code) books.old books.new result }
+    ensures { Finds B.Kept B.Books.own AnyRows NotAwaited (λ rows. code_place rows code) books.old books.new result }
 {
     let row = books.code_place(code);
     there_or(row, Refusal::NotAwaited)
@@ -79,7 +79,7 @@ pub(crate) fn is_inside<B: Books>(
     room: RoomNo,
     number: CardNo,
 ) -> Result<bool, Refusal>
-    ensures { Finds B.Issued B.Books.own AnyRows Store (λ rows. Some (is_one_of number (inside_at rows room)))
+    ensures { Finds B.Kept B.Books.own AnyRows Store (λ rows. Some (is_one_of number (inside_at rows room)))
         books.old books.new result }
 {
     let answer = books.is_inside(room, number);
@@ -88,7 +88,7 @@ pub(crate) fn is_inside<B: Books>(
 
 /// Whether any card is inside a room.
 pub(crate) fn has_inside<B: Books>(books: &mut B, room: RoomNo) -> Result<bool, Refusal>
-    ensures { Finds B.Issued B.Books.own AnyRows Store (λ rows. Some (not (are_none (inside_at rows room))))
+    ensures { Finds B.Kept B.Books.own AnyRows Store (λ rows. Some (not (are_none (inside_at rows room))))
         books.old books.new result }
 {
     let answer = books.has_inside(room);
@@ -107,7 +107,7 @@ pub(crate) fn noted_card<B: Books>(
     number: CardNo,
     link: &Link,
 ) -> Result<(), Refusal>
-    ensures { FindsChecked B.Issued B.Books.own (λ rows. needs (is_some (card_at rows number)) NoCard
+    ensures { FindsChecked B.Kept B.Books.own (λ rows. needs (is_some (card_at rows number)) NoCard
         ∷ needs (has_link_on rows number link.now) CardDiffers ∷ []) books.old books.new result }
 {
     let card = card_there(books, number)?;

@@ -42,7 +42,7 @@ pub(crate) fn there_or<A>(answer: Result<Option<A>, LookFault>, why: Refusal) ->
 
 /// The business day.
 pub(crate) fn today<B: Books>(books: &mut B) -> Result<Day, Refusal>
-    ensures finds { Finds B.Issued B.Books.own AnyRows NotBegun (λ rows. rows.day) books.old books.new result }
+    ensures finds { Finds B.Kept B.Books.own AnyRows NotBegun (λ rows. rows.day) books.old books.new result }
     ensures sure { B.never_fails → has_failed result ≡ false }
 {
     let day = books.day();
@@ -51,7 +51,7 @@ pub(crate) fn today<B: Books>(books: &mut B) -> Result<Day, Refusal>
 
 /// The business day, where one is set.
 pub(crate) fn day_if_set<B: Books>(books: &mut B) -> Result<Option<Day>, Refusal>
-    ensures finds { Finds B.Issued B.Books.own AnyRows Store (λ rows. Some rows.day) books.old books.new result }
+    ensures finds { Finds B.Kept B.Books.own AnyRows Store (λ rows. Some rows.day) books.old books.new result }
     ensures sure { B.never_fails → has_failed result ≡ false }
 {
     let day = books.day();
@@ -59,7 +59,7 @@ pub(crate) fn day_if_set<B: Books>(books: &mut B) -> Result<Option<Day>, Refusal
 }
 
 pub(crate) fn is_kind<B: Books>(books: &mut B, kind: &KindCode) -> Result<bool, Refusal>
-    ensures { Finds B.Issued B.Books.own AnyRows Store (λ rows. Some (has_kind rows kind.now))
+    ensures { Finds B.Kept B.Books.own AnyRows Store (λ rows. Some (has_kind rows kind.now))
         books.old books.new result }
 {
     let answer = books.kind(kind);
@@ -67,14 +67,14 @@ pub(crate) fn is_kind<B: Books>(books: &mut B, kind: &KindCode) -> Result<bool, 
 }
 
 pub(crate) fn room_there<B: Books>(books: &mut B, room: RoomNo) -> Result<RoomRow, Refusal>
-    ensures { Finds B.Issued B.Books.own AnyRows NoRoom (λ rows. room_at rows room) books.old books.new result }
+    ensures { Finds B.Kept B.Books.own AnyRows NoRoom (λ rows. room_at rows room) books.old books.new result }
 {
     let row = books.room(room);
     there_or(row, Refusal::NoRoom)
 }
 
 pub(crate) fn stay_there<B: Books>(books: &mut B, party: PartyNo) -> Result<Stay, Refusal>
-    ensures { Finds B.Issued B.Books.own AnyRows NoParty (λ rows. stay_at rows party) books.old books.new result }
+    ensures { Finds B.Kept B.Books.own AnyRows NoParty (λ rows. stay_at rows party) books.old books.new result }
 {
     let stay = books.stay(party);
     there_or(stay, Refusal::NoParty)
@@ -82,7 +82,7 @@ pub(crate) fn stay_there<B: Books>(books: &mut B, party: PartyNo) -> Result<Stay
 
 /// The row of a room in which a party is in house, which sound books have.
 pub(crate) fn row_of<B: Books>(books: &mut B, room: RoomNo) -> Result<RoomRow, Refusal>
-    ensures { Finds B.Issued B.Books.own (λ rows. IsSome (room_at rows room)) Store
+    ensures { Finds B.Kept B.Books.own (λ rows. IsSome (room_at rows room)) Store
         (λ rows. room_at rows room) books.old books.new result }
 {
     let row = books.room(room);
@@ -94,7 +94,7 @@ pub(crate) fn room_if_there<B: Books>(
     books: &mut B,
     room: RoomNo,
 ) -> Result<Option<RoomRow>, Refusal>
-    ensures { Finds B.Issued B.Books.own AnyRows Store (λ rows. Some (room_at rows room)) books.old books.new result }
+    ensures { Finds B.Kept B.Books.own AnyRows Store (λ rows. Some (room_at rows room)) books.old books.new result }
 {
     let row = books.room(room);
     known(row)
@@ -102,7 +102,7 @@ pub(crate) fn room_if_there<B: Books>(
 
 /// The number of the next party.
 pub(crate) fn next_party<B: Books>(books: &mut B) -> Result<PartyNo, Refusal>
-    ensures { Finds B.Issued B.Books.own AnyRows NumbersUsedUp
+    ensures { Finds B.Kept B.Books.own AnyRows NumbersUsedUp
         (λ rows. number_after (length rows.stays)) books.old books.new result }
 {
     let numbers = books.next_numbers();
@@ -112,7 +112,7 @@ pub(crate) fn next_party<B: Books>(books: &mut B) -> Result<PartyNo, Refusal>
 
 /// The number of the next card.
 pub(crate) fn next_card<B: Books>(books: &mut B) -> Result<CardNo, Refusal>
-    ensures { Finds B.Issued B.Books.own AnyRows NumbersUsedUp
+    ensures { Finds B.Kept B.Books.own AnyRows NumbersUsedUp
         (λ rows. number_after (length rows.cards)) books.old books.new result }
 {
     let numbers = books.next_numbers();
@@ -121,7 +121,7 @@ pub(crate) fn next_card<B: Books>(books: &mut B) -> Result<CardNo, Refusal>
 }
 
 pub(crate) fn card_there<B: Books>(books: &mut B, number: CardNo) -> Result<Card, Refusal>
-    ensures { Finds B.Issued B.Books.own AnyRows NoCard (λ rows. card_at rows number) books.old books.new result }
+    ensures { Finds B.Kept B.Books.own AnyRows NoCard (λ rows. card_at rows number) books.old books.new result }
 {
     let card = books.card(number);
     there_or(card, Refusal::NoCard)

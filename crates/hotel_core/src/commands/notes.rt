@@ -55,7 +55,7 @@ fn take_next<B: Books>(books: &mut B, note: &LockNote, row: &RoomRow) -> Result<
     requires untaken { B.is_clean books.old → IsUntaken note.now row.now (B.rows books.old) }
     requires outcome { B.is_clean books.old → IsOutcome (B.rows books.old)
         (reported_on (B.rows books.old) note.now None) }
-    ensures { StepsWithoutWords B.Issued B.Books.own (λ rows. reported_on rows note.now None) books.old books.new
+    ensures { StepsWithoutWords B.Kept B.Books.own (λ rows. reported_on rows note.now None) books.old books.new
         (reply_of result) }
 {
     match note.act() {
@@ -68,7 +68,7 @@ fn take_next<B: Books>(books: &mut B, note: &LockNote, row: &RoomRow) -> Result<
 /// Takes a note of a lock.
 pub(crate) fn take_note<B: Books>(books: &mut B, note: &LockNote) -> Result<Reply, Refusal>
     requires { IsCommand (command.Reported note.now) }
-    ensures { CarriesOutWithoutWords B.Issued B.Books.own (command.Reported note.now) books.old books.new
+    ensures { CarriesOutWithoutWords B.Kept B.Books.own (command.Reported note.now) books.old books.new
         (reply_of result) }
 {
     today(books)?;

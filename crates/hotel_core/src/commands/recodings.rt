@@ -30,7 +30,7 @@ pub(crate) fn recode<B: Books>(
     requires untaken { B.is_clean books.old → IsUntaken note.now row.now (B.rows books.old) }
     requires outcome { B.is_clean books.old → IsOutcome (B.rows books.old)
         (told_on (B.rows books.old) note.now (act.Recoded from to)) }
-    ensures { StepsWithoutWords B.Issued B.Books.own (λ rows. told_on rows note.now (act.Recoded from to))
+    ensures { StepsWithoutWords B.Kept B.Books.own (λ rows. told_on rows note.now (act.Recoded from to))
         books.old books.new (reply_of result) }
 {
     let room = note.room();

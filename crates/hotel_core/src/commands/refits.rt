@@ -18,7 +18,7 @@ pub(crate) fn refit<B: Books, R: Rng>(
     room: RoomNo,
 ) -> Result<Reply, Refusal>
     requires { IsCommand (command.Refit room) }
-    ensures { CarriesOut B.Issued B.Books.own (command.Refit room) books.old books.new
+    ensures { CarriesOut B.Kept B.Books.own (command.Refit room) books.old books.new
         (R.stream source.old) (R.stream source.new) (reply_of result) }
 {
     today(books)?;

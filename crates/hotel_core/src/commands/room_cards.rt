@@ -18,7 +18,7 @@ use rand_core::Rng;
 
 /// The code at a place of a room, which sound books have.
 pub(crate) fn code_in<B: Books>(books: &mut B, room: RoomNo, place: u32) -> Result<Code, Refusal>
-    ensures { Finds B.Issued B.Books.own (λ rows. IsSome (code_at rows room place)) Store
+    ensures { Finds B.Kept B.Books.own (λ rows. IsSome (code_at rows room place)) Store
         (λ rows. code_at rows room place) books.old books.new result }
 {
     let code = books.code_at(room, place);
@@ -27,7 +27,8 @@ pub(crate) fn code_in<B: Books>(books: &mut B, room: RoomNo, place: u32) -> Resu
 
 /// A room's current code, where the room can have one more.
 fn current_code<B: Books>(books: &mut B, room: RoomNo, row: &RoomRow) -> Result<Code, Refusal>
-    ensures finds { Finds B.Issued B.Books.own (HasCurrent room row.now) Store
+    requires vouched { B.is_honest books.old → B.is_clean books.old }
+    ensures finds { Finds B.Kept B.Books.own (HasCurrent room row.now) Store
         (λ rows. code_at rows room (row.now.codes - 1)) books.old books.new result }
     ensures few { OnOk result (row.now.codes < 2 ^ 32 - 1) }
 {
@@ -39,7 +40,7 @@ fn current_code<B: Books>(books: &mut B, room: RoomNo, row: &RoomRow) -> Result<
 
 /// The link of the last two codes of a room in which a party is in house.
 pub(crate) fn last_link<B: Books>(books: &mut B, room: RoomNo) -> Result<Link, Refusal>
-    ensures { Finds B.Issued B.Books.own (HasLink room) Store
+    ensures { Finds B.Kept B.Books.own (HasLink room) Store
         (λ rows. Some (last_link_on rows room)) books.old books.new result }
 {
     let row = row_of(books, room)?;
@@ -60,7 +61,7 @@ pub(crate) fn issue<B: Books, R: Rng>(
     requires there { B.is_clean books.old → room_at (B.rows books.old) room ≡ Some row.now }
     requires outcome { B.is_clean books.old → IsOutcome (B.rows books.old)
         (issued_on (B.rows books.old) (words MOST_WORDS (R.stream source.old)) party room leaves) }
-    ensures { StepsAs B.Issued B.Books.own
+    ensures { StepsAs B.Kept B.Books.own
         (λ rows. issued_on rows (words MOST_WORDS (R.stream source.old)) party room leaves)
         books.old books.new (R.stream source.old) (R.stream source.new) (reply_of result) }
 {

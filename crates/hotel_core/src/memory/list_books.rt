@@ -1,7 +1,7 @@
 //! Books in memory.
-ghost use Rattle.std.specs.Prelude.{◌≡◌, Err, IfSome, refl};
+ghost use Rattle.std.specs.Prelude.{◌≡◌, Err, IfSome, Some, refl};
 ghost use Rattle.std.proofs.Common.{ap, ◌∙◌};
-ghost use Rattle.keycard_rules.specs.{Rise.HasRisen, Rise.NoFewer, Rise.of_memory};
+ghost use Rattle.keycard_rules.specs.Rise.{Counts, HasRisen, NoFewer, of_memory, one_of};
 ghost use Rattle.keycard_rules.specs.{declared.issued.LookFault.TheVariants.Memory};
 ghost use Rattle.hotel_model.specs.{Rows.no_rows, Refinement.Lookups.codes_in};
 ghost use Rattle.hotel_core.specs.{Books.Walks.failure_of, declared.books.walks.WalkFault.TheVariants.Store};
@@ -12,7 +12,7 @@ use crate::memory::tables::Tables;
 use hotel_model::{BehindRow, ChainRow, Change, CodeRow, FitRow, HouseRow, NextNumbers, RoomRow};
 use hotel_nights::{Day, Guest, KindCode, Stay};
 use keycard_rules::{
-    Card, CardNo, Code, Count, FitNo, Issued, LockNote, LookFault, PartyNo, RoomNo,
+    Card, CardNo, Code, Count, FitNo, Issued, Kept, LockNote, LookFault, PartyNo, RoomNo,
 };
 use std::alloc::Global;
 use std::marker::Model;
@@ -52,8 +52,10 @@ impl ListBooks {
     fn wanting(&mut self) -> LookFault
         ensures fault { result ≡ Memory }
         ensures rows { self.new.rows ≡ self.old.rows }
-        ensures counted { NoFewer (of_memory self.old.failures) (of_memory self.new.failures) }
-        ensures risen { HasRisen self.old.failures self.new.failures }
+        ensures no_fewer { NoFewer (of_memory self.old.failures) (of_memory self.new.failures) }
+        ensures counted { Counts (λ why. one_of why (Some result)) (of_memory self.old.failures)
+            (of_memory self.new.failures) }
+        ensures rose { HasRisen self.old.failures self.new.failures }
     {
         self.failures = self.failures.saturating_add(1);
         LookFault::Memory
@@ -64,9 +66,11 @@ impl ListBooks {
         requires { end ≡ Err Store → ⊥ }
         ensures same { result ≡ end }
         ensures rows { self.new.rows ≡ self.old.rows }
-        ensures counted { NoFewer (of_memory self.old.failures) (of_memory self.new.failures) }
-        ensures risen { IfSome (failure_of end) (λ cause. HasRisen (of_memory self.old.failures cause)
-            (of_memory self.new.failures cause)) }
+        ensures no_fewer { NoFewer (of_memory self.old.failures) (of_memory self.new.failures) }
+        ensures counted { Counts (λ why. one_of why (failure_of result)) (of_memory self.old.failures)
+            (of_memory self.new.failures) }
+        ensures rose { IfSome (failure_of result) (λ why. HasRisen (of_memory self.old.failures why)
+            (of_memory self.new.failures why)) }
     {
         if matches!(end, Err(WalkFault::Memory)) {
             self.wanting();
@@ -75,7 +79,7 @@ impl ListBooks {
     }
 }
 
-impl Issued for ListBooks {
+impl Kept for ListBooks {
     ghost issued = { λ b. codes_in b.rows };
 
     ghost is_clean = { λ _. Unit {0} };
@@ -90,15 +94,9 @@ impl Issued for ListBooks {
 
     ghost failures = { λ b. of_memory b.failures };
 
+    ghost disk_failures = { λ _. 0 };
+
     ghost never_fails = { Unit {0} };
-
-    ghost has_answered = { λ _ _. Unit {0} };
-
-    ghost was_asked = { λ _ _ _ _. Unit {0} };
-
-    fn is_issued(&mut self, code: Code) -> Result<bool, LookFault> {
-        Ok(self.tables.is_issued(code))
-    }
 
     ghost never_store = { λ a never. refl };
 
@@ -111,10 +109,16 @@ impl Issued for ListBooks {
     ghost kept_issued = { λ a b h. ap (λ rows. codes_in rows) h };
 }
 
+impl Issued for ListBooks {
+    fn is_issued(&mut self, code: Code) -> Result<bool, LookFault> {
+        Ok(self.tables.is_issued(code))
+    }
+}
+
 impl Books for ListBooks {
     ghost rows = { λ b. b.rows };
 
-    ghost leaves_change = { λ _ _ _ _. Unit {0} };
+    ghost leaves_change = { λ _ _ _. Unit {0} };
 
     ghost change_fails = { λ _ _ _. ⊥ };
 

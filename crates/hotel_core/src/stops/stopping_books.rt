@@ -1,7 +1,7 @@
 //! Books in memory of which one call fails.
-ghost use Rattle.std.specs.Prelude.{◌≡◌, IfErr, refl};
+ghost use Rattle.std.specs.Prelude.{◌≡◌, Some, IfErr, refl};
 ghost use Rattle.std.proofs.Common.{ap, ◌∙◌};
-ghost use Rattle.keycard_rules.specs.Rise.{HasRisen, NoFewer};
+ghost use Rattle.keycard_rules.specs.{Leaves.told_by, Rise.Counts, Rise.HasRisen, Rise.NoFewer, Rise.one_of};
 ghost use Rattle.hotel_core.specs.Stops.{counts, FailsAtNumber, MakesCall, MakesNoCall};
 ghost use Rattle.hotel_model.specs.Refinement.Lookups.{codes_in};
 
@@ -11,7 +11,7 @@ use crate::stops::calls::Calls;
 use hotel_model::{Change, CodeRow, FitRow, NextNumbers, RoomRow};
 use hotel_nights::{Day, Guest, KindCode, Stay};
 use keycard_rules::{
-    Card, CardNo, Code, Count, FitNo, Issued, LockNote, LookFault, PartyNo, RoomNo,
+    Card, CardNo, Code, Count, FitNo, Issued, Kept, LockNote, LookFault, PartyNo, RoomNo,
 };
 use std::marker::Model;
 
@@ -94,8 +94,9 @@ impl StoppingBooks {
     pub(crate) fn count(&mut self, cause: LookFault)
         ensures rows { self.new.rows ≡ self.old.rows }
         ensures calls { MakesNoCall self.old self.new }
-        ensures counted { NoFewer (counts self.old) (counts self.new) }
-        ensures risen { HasRisen (counts self.old cause) (counts self.new cause) }
+        ensures no_fewer { NoFewer (counts self.old) (counts self.new) }
+        ensures counted { Counts (λ why. one_of why (Some cause)) (counts self.old) (counts self.new) }
+        ensures rose { HasRisen (counts self.old cause) (counts self.new cause) }
     {
         match cause {
             LookFault::Memory => self.memory = self.memory.saturating_add(1),
@@ -108,8 +109,9 @@ impl StoppingBooks {
         ensures rows { self.new.rows ≡ self.old.rows }
         ensures calls { MakesCall self.old self.new }
         ensures fails { FailsAtNumber self.old self.new result }
-        ensures counted { NoFewer (counts self.old) (counts self.new) }
-        ensures fault { IfErr result (λ why. HasRisen (counts self.old why) (counts self.new why)) }
+        ensures no_fewer { NoFewer (counts self.old) (counts self.new) }
+        ensures counted { Counts (λ why. one_of why (told_by result)) (counts self.old) (counts self.new) }
+        ensures rose { IfErr result (λ why. HasRisen (counts self.old why) (counts self.new why)) }
     {
         if self.calls.fails() {
             let cause = self.cause;
@@ -124,8 +126,9 @@ impl StoppingBooks {
         ensures same { result ≡ found }
         ensures rows { self.new.rows ≡ self.old.rows }
         ensures calls { MakesNoCall self.old self.new }
-        ensures counted { NoFewer (counts self.old) (counts self.new) }
-        ensures fault { IfErr result (λ why. HasRisen (counts self.old why) (counts self.new why)) }
+        ensures no_fewer { NoFewer (counts self.old) (counts self.new) }
+        ensures counted { Counts (λ why. one_of why (told_by result)) (counts self.old) (counts self.new) }
+        ensures rose { IfErr result (λ why. HasRisen (counts self.old why) (counts self.new why)) }
     {
         match found {
             Ok(answer) => Ok(answer),
@@ -137,7 +140,7 @@ impl StoppingBooks {
     }
 }
 
-impl Issued for StoppingBooks {
+impl Kept for StoppingBooks {
     ghost issued = { λ b. codes_in b.rows };
 
     ghost is_clean = { λ _. Unit {0} };
@@ -152,17 +155,9 @@ impl Issued for StoppingBooks {
 
     ghost failures = { counts };
 
+    ghost disk_failures = { λ _. 0 };
+
     ghost never_fails = { ⊥ };
-
-    ghost has_answered = { λ _ _. Unit {0} };
-
-    ghost was_asked = { λ _ _ _ _. Unit {0} };
-
-    fn is_issued(&mut self, code: Code) -> Result<bool, LookFault> {
-        self.begin()?;
-        let found = self.books.is_issued(code);
-        self.found(found)
-    }
 
     ghost never_store = { λ a never. absurd never };
 
@@ -175,10 +170,18 @@ impl Issued for StoppingBooks {
     ghost kept_issued = { λ a b h. ap (λ rows. codes_in rows) h };
 }
 
+impl Issued for StoppingBooks {
+    fn is_issued(&mut self, code: Code) -> Result<bool, LookFault> {
+        self.begin()?;
+        let found = self.books.is_issued(code);
+        self.found(found)
+    }
+}
+
 impl Books for StoppingBooks {
     ghost rows = { λ b. b.rows };
 
-    ghost leaves_change = { λ _ _ _ _. Unit {0} };
+    ghost leaves_change = { λ _ _ _. Unit {0} };
 
     ghost change_fails = { λ _ _ _. Unit {0} };
 

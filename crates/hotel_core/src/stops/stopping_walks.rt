@@ -1,6 +1,6 @@
 //! Walks over books in memory of which one call fails.
 ghost use Rattle.std.specs.Prelude.{◌≡◌, ◌+◌, ◌-◌, ◌^◌, ◌<◌, Err, IfSome, OnErr, OnOk, Some};
-ghost use Rattle.keycard_rules.specs.Rise.{HasRisen, NoFewer};
+ghost use Rattle.keycard_rules.specs.Rise.{Counts, HasRisen, NoFewer, one_of};
 ghost use Rattle.hotel_core.specs.{Books.Walks.failure_of, Stops.EndsAs, Stops.MakesNoCall, Stops.counts};
 
 use crate::books::walks::{Sink, Stop, WalkFault, Walks};
@@ -58,8 +58,9 @@ impl StoppingBooks {
         ensures same { failure_of (Err result) ≡ Some cause }
         ensures rows { self.new.rows ≡ self.old.rows }
         ensures calls { MakesNoCall self.old self.new }
-        ensures counted { NoFewer (counts self.old) (counts self.new) }
-        ensures risen { HasRisen (counts self.old cause) (counts self.new cause) }
+        ensures no_fewer { NoFewer (counts self.old) (counts self.new) }
+        ensures counted { Counts (λ why. one_of why (failure_of (Err result))) (counts self.old) (counts self.new) }
+        ensures rose { HasRisen (counts self.old cause) (counts self.new cause) }
     {
         self.count(cause);
         match cause {
@@ -79,8 +80,9 @@ impl StoppingBooks {
         ensures rows { self.new.rows ≡ self.old.rows }
         ensures last_call { OnOk end (calls.made < 2 ^ 64 - 1 → self.new.calls ≡ calls.made + 1) }
         ensures no_call { OnErr end (self.new.calls ≡ calls.made) }
-        ensures counted { NoFewer (counts self.old) (counts self.new) }
-        ensures fault { IfSome (failure_of result) (λ cause. HasRisen (counts self.old cause) (counts self.new cause)) }
+        ensures no_fewer { NoFewer (counts self.old) (counts self.new) }
+        ensures counted { Counts (λ why. one_of why (failure_of result)) (counts self.old) (counts self.new) }
+        ensures rose { IfSome (failure_of result) (λ cause. HasRisen (counts self.old cause) (counts self.new cause)) }
     {
         self.calls = calls;
         match end {

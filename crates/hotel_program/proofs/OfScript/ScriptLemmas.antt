@@ -1,35 +1,39 @@
 -- Lines of a script, answered one after the other.
-use Rattle.std.proofs.Common.{◌≡◌, ℕ, zero, suc, ◌+◌, ◌≤◌, List, [], ◌∷◌, ◌++◌, length, take, drop, arith, refl}
+use Rattle.std.proofs.Common.{◌≡◌, ℕ, zero, suc, ◌+◌, ◌≤◌, List, [], ◌∷◌, ◌++◌, length, take, drop, arith, refl, inr}
 use Rattle.std.proofs.Common.{sym, ap, subst, ◌∙◌, append_assoc, append-nil, length-append, take-append-drop, add-one}
 use Rattle.std.proofs.Common.{Option, Some, None, false, Result, Ok, Err}
 use Rattle.std.proofs.Math.Seq.{take-append-add}
 use Rattle.std.proofs.lemmas.List.{length-drop}
 use Rattle.std.specs.List.{concat}
-use Rattle.std.specs.Result.{IfOk, OnOk}
+use Rattle.std.specs.Result.{IfOk, IsErrAnd, OnOk}
+use Rattle.std.specs.Prelude.{◌<◌, IfSome}
 use Rattle.std.specs.Io.KnownBytes.{Appends}
 use Rattle.std.proofs.KnownBytes.{Appends-trans, Appends-nil}
-use Rattle.keycard_rules.specs.declared.issued.Issued.{Ghosts as IssuedOf}
+use Rattle.keycard_rules.specs.{declared.kept.Kept.Ghosts as KeptOf, Leaves.Leaves}
+use Rattle.keycard_rules.proofs.CallsTogether.{passes_join, passes_push, together}
 use Rattle.rand_core.specs.Stream.{Stream}
 use Rattle.keycard_rules.proofs.Drawing.{past-zero}
-use Rattle.hotel_core.proofs.OfCode.Happens.{idle_by, then_by}
-use Rattle.hotel_core.proofs.OfCode.Passes.{passes_push}
-use Rattle.hotel_core.specs.Books.Happens.{Call, HappensBy}
-use Rattle.hotel_core.specs.Books.Passes.{Passes}
 use Rattle.hotel_core.specs.declared.asks.Ask.{Ask}
 use Rattle.hotel_core.specs.declared.asks.Ask.TheVariants as ask
+use Rattle.hotel_model.proofs.Invariants.Assurance.{assured}
 use Rattle.hotel_model.specs.declared.reply.Reply.TheVariants.{Refused}
-use Rattle.hotel_model.specs.declared.reply.Refusal.{Refusal}
 use Rattle.hotel_model.specs.declared.reply.Refusal.TheVariants.{Memory}
 use Rattle.hotel_asks.specs.Asks.{ask_copies}
+use Rattle.keycard_rules.specs.Calls.{Told}
+use Rattle.hotel_core.specs.Books.Happens.{HappensBy}
 use Rattle.hotel_program.specs.Script.Asks.{AsksCopy, ask_in}
 use Rattle.hotel_model.specs.Rows.{Rows}
 use Rattle.hotel_model.specs.History.{History}
 use Rattle.hotel_core.specs.Texts.{reply_text}
 use Rattle.hotel_lists.specs.{Bytes.AppendsFront, declared.calls.WriteFailed.WriteFailed}
 use Rattle.hotel_program.specs.Script.Lines.{lines, without_return, is_silent, answered_lines}
-use Rattle.hotel_program.specs.Script.LineAnswers.{AskEnds, AskGoes, LineGoes, Sure, answered_to, asked_for}
-use Rattle.hotel_program.specs.Script.WholeScript.{ScriptGoes, ScriptAnswered, ScriptCut, LineHappens, LinesAnswered}
-use Rattle.hotel_program.specs.Script.WholeScript.{LinesCut, PassesToCut, IfCut, answers_to}
+use Rattle.hotel_program.specs.Script.LineAnswers.{AskGoes, LineGoes, Sure}
+use Rattle.hotel_program.specs.Script.WholeScript.{ScriptGoes, ScriptAnswered, ScriptCut, ScriptsHappen, LineEnds}
+use Rattle.hotel_program.specs.Script.WholeScript.{LineHappens, LinesAnswered, LinesCut, IfCut, IfUnbegun, IsInput}
+use Rattle.hotel_program.specs.Script.WholeScript.{ScriptRan, fault_of}
+use Rattle.hotel_lists.specs.declared.bytes.WholeFault.{WholeFault}
+use Rattle.hotel_lists.specs.declared.bytes.WholeFault.TheVariants as whole
+use Rattle.hotel_program.specs.declared.script.TheConstants.{SCRIPT_LIMIT}
 use Rattle.hotel_program.specs.declared.script.ScriptEnd.{ScriptEnd}
 use Rattle.hotel_program.specs.declared.script.ScriptFault.{ScriptFault}
 use Rattle.hotel_program.specs.declared.script.ScriptFault.TheVariants.{Read, TooLarge, Write}
@@ -40,20 +44,21 @@ pub ask_without_memory : (sure : List ℕ → Type 0) (wanted : Option Ask) (h :
     → AsksCopy ask_copies wanted → AskGoes sure wanted h s (reply_text (Refused Memory)) [] h s
 ask_without_memory sure None h s p = absurd p
 ask_without_memory sure (Some (ask.Command command)) h s p =
-    (Refused Memory, (refl, (0, omega arith, sym (past-zero s))), refl, rw p refl)
+    (Refused Memory, (refl, (0, omega arith, sym (past-zero s))), refl, inr (refl, p, refl))
 ask_without_memory sure (Some (ask.List its_list)) h s p = cc p
 
 -- what is sure where more is
 pub ask_weaker : (sure sure' : List ℕ → Type 0) (wanted : Option Ask) (h h' : History) (s s' : Stream)
-    (text : List ℕ) (failed : List Refusal)
+    (text : List ℕ) (failed : Told)
     → ((t : List ℕ) → sure' t → sure t) → AskGoes sure wanted h s text failed h' s'
     → AskGoes sure' wanted h s text failed h' s'
 ask_weaker sure sure' None h h' s s' text failed f g = g
 ask_weaker sure sure' (Some (ask.Command command)) h h' s s' text failed f g = g
-ask_weaker sure sure' (Some (ask.List its_list)) h h' s s' text failed f g = ((λ k. g.0 (f text k)), g.1, g.2)
+ask_weaker sure sure' (Some (ask.List its_list)) h h' s s' text failed f g =
+    (g.0, g.1, (λ k. g.2 (f text k)), g.3, g.4)
 
-goes_weaker : (sure sure' : List ℕ → Type 0) (ls texts : List (List ℕ)) (h h' : History)
-    (s s' : Stream) (failed : List Refusal)
+pub goes_weaker : (sure sure' : List ℕ → Type 0) (ls texts : List (List ℕ)) (h h' : History)
+    (s s' : Stream) (failed : Told)
     → ((t : List ℕ) → sure' t → sure t) → ScriptGoes sure h s ls texts failed h' s'
     → ScriptGoes sure' h s ls texts failed h' s'
 unfolding ScriptGoes
@@ -72,7 +77,7 @@ goes_weaker sure sure' (line ∷ later) [] h h' s s' failed f r = absurd r
 
 -- one line more at the end
 script-push : (sure : List ℕ → Type 0) (h mid h' : History) (s source s' : Stream) (before texts : List (List ℕ))
-    (line text : List ℕ) (failed more : List Refusal)
+    (line text : List ℕ) (failed more : Told)
     → ScriptGoes sure h s before texts failed mid source → LineGoes sure mid source line text more h' s'
     → ScriptGoes sure h s (before ++ line ∷ []) (texts ++ text ∷ []) (failed ++ more) h' s'
 unfolding ScriptGoes
@@ -91,38 +96,6 @@ script-push sure h mid h' s source s' (first ∷ before) (one ∷ texts) line te
 )
 script-push sure h mid h' s source s' [] (one ∷ texts) line text failed more r p = absurd r
 script-push sure h mid h' s source s' (first ∷ before) [] line text failed more r p = absurd r
-
--- how the books answered for one line more, and for lines of which the last has no answer yet
-answers_push : (sure : List ℕ → Type 0) (ls texts : List (List ℕ)) (h h' : History) (s s' : Stream)
-    (failed : List Refusal) (line text : List ℕ)
-    → ScriptGoes sure h s ls texts failed h' s'
-    → answers_to (ls ++ line ∷ []) (texts ++ text ∷ []) ≡ answers_to ls texts ++ answered_to (ask_in line) text
-unfolding ScriptGoes answers_to
-answers_push sure [] [] h h' s s' failed line text r = append-nil (answered_to (ask_in line) text)
-answers_push sure (first ∷ later) (one ∷ texts) h h' s s' failed line text r =
-    ap (λ (l : List Call). answered_to (ask_in first) one ++ l)
-    (answers_push sure later texts r.0 h' r.1 s' r.3 line text r.5)
-    ∙ sym (append_assoc (answered_to (ask_in first) one) (answers_to later texts) (answered_to (ask_in line) text))
-answers_push sure [] (one ∷ texts) h h' s s' failed line text r = absurd r
-answers_push sure (first ∷ later) [] h h' s s' failed line text r = absurd r
-
-answers_before : (sure : List ℕ → Type 0) (ls texts : List (List ℕ)) (h h' : History) (s s' : Stream)
-    (failed : List Refusal) (line : List ℕ)
-    → ScriptGoes sure h s ls texts failed h' s'
-    → answers_to (ls ++ line ∷ []) texts ≡ answers_to ls texts ++ asked_for (ask_in line) false
-unfolding ScriptGoes answers_to
-answers_before sure [] [] h h' s s' failed line r = append-nil (asked_for (ask_in line) false)
-answers_before sure (first ∷ later) (one ∷ texts) h h' s s' failed line r =
-    ap (λ (l : List Call). answered_to (ask_in first) one ++ l)
-    (answers_before sure later texts r.0 h' r.1 s' r.3 line r.5)
-    ∙ sym (append_assoc (answered_to (ask_in first) one) (answers_to later texts) (asked_for (ask_in line) false))
-answers_before sure [] (one ∷ texts) h h' s s' failed line r = absurd r
-answers_before sure (first ∷ later) [] h h' s s' failed line r = absurd r
-
-concat-push : (texts : List (List ℕ)) (text : List ℕ) → concat (texts ++ text ∷ []) ≡ concat texts ++ text
-concat-push [] text = append-nil text
-concat-push (one ∷ texts) text =
-    ap (λ (l : List ℕ). one ++ l) (concat-push texts text) ∙ sym (append_assoc one (concat texts) text)
 
 line_after : (all : List (List ℕ)) (done : ℕ) (line : List ℕ) (later : List (List ℕ)) → drop done all ≡ line ∷ later
     → (suc done ≤ length all) × (drop (suc done) all ≡ later) × (take (suc done) all ≡ take done all ++ line ∷ [])
@@ -147,147 +120,118 @@ all_done all done h e =
           ∙ (ap (λ (ls : List (List ℕ)). take done all ++ ls) (sym e) ∙ take-append-drop done all),
     )
 
--- the lines so far and the next one, with their answers
-went_next : (sure : List ℕ → Type 0) (h mid h' : History) (s t u : Stream) (all : List (List ℕ)) (done : ℕ)
-    (line : List ℕ) (later texts : List (List ℕ)) (text : List ℕ) (failed more : List Refusal)
-    → drop done all ≡ line ∷ later → ScriptGoes sure h s (take done all) texts failed mid t
-    → LineGoes sure mid t line text more h' u
-    → ScriptGoes sure h s (take (done + 1) all) (texts ++ text ∷ []) (failed ++ more) h' u
-went_next sure h mid h' s t u all done line later texts text failed more e first next =
-    subst (λ (ls : List (List ℕ)). ScriptGoes sure h s ls (texts ++ text ∷ []) (failed ++ more) h' u)
-    (sym (next_line all done line later e).2)
-    (script-push sure h mid h' s t u (take done all) texts line text failed more first next)
+module _ {S R W : Type 0} (K : KeptOf S) (rows : S → Rows) (stream : R → Stream) (contents : W → Option (List ℕ)) where
+  -- lines that were answered went over the books
+  abbrev Answered : S × R × W → List (List ℕ) → S × R × W → Type 0
+  Answered old ls new = HappensBy K rows old.0 (ScriptAnswered ls (stream old.1) (stream new.1) (contents old.2)
+      (contents new.2) (K.is_clean new.0)) new.0
 
--- one more line is answered
-answered_next : {S : Type 0} {I : IssuedOf S} {rows : S → Rows} {a b c : S} (s t u : Stream) (all : List (List ℕ))
-    (done : ℕ) (line : List ℕ) (later : List (List ℕ)) (old mid new : Option (List ℕ))
-    → HappensBy I rows a (ScriptAnswered (take done all) s t old mid) b → drop done all ≡ line ∷ later
-    → HappensBy I rows b (AskEnds (ask_in line) t u mid new (Ok tt)) c
-    → HappensBy I rows a (ScriptAnswered (take (done + 1) all) s u old new) c
-answered_next s t u all done line later old mid new first e next =
-    then_by (λ before kept told one two h k h' back join f n.
-    let went =
-    goes_weaker (Sure before) (Sure kept) (take done all) f.0 h k s t f.1 (λ text sure tells. back (sure tells)) f.2 in
-    let answers = ap (λ (ls : List (List ℕ)). answers_to ls (f.0 ++ n.0 ∷ [])) (next_line all done line later e).2
-    ∙ answers_push (Sure before) (take done all) f.0 h k s t f.1 line n.0 f.2 in (
-      f.0 ++ n.0 ∷ [],
-      f.1 ++ n.1,
-      went_next (Sure kept) h k h' s t u all done line later f.0 n.0 f.1 n.1 e went n.2,
-      subst (Appends old new) (sym (concat-push f.0 n.0)) (Appends-trans old mid new (concat f.0) n.0 f.3 n.3),
-      subst (λ (l : List Call). told (f.1 ++ n.1) l) (sym answers)
-          (join f.1 n.1 (answers_to (take done all) f.0) (answered_to (ask_in line) n.0) f.4 n.4),
-    )) first next
+  none_answered : (old : S × R × W) → Answered old [] old
+  unfolding ScriptGoes
+  none_answered old = record {
+    told = [];
+    happened = λ honest h reached stands.
+        (h, reached, stands, ([], (refl, refl, refl), Appends-nil (contents old.2)), assured h reached);
+    calls = refl;
+  }
 
--- the next line is cut short
-cut_next : {S : Type 0} {I : IssuedOf S} {rows : S → Rows} {a b c : S} (s t u : Stream) (all : List (List ℕ)) (done : ℕ)
-    (line : List ℕ) (later : List (List ℕ)) (old mid new : Option (List ℕ)) (failed : WriteFailed)
-    → HappensBy I rows a (ScriptAnswered (take done all) s t old mid) b → drop done all ≡ line ∷ later
-    → HappensBy I rows b (AskEnds (ask_in line) t u mid new (Err failed)) c
-    → HappensBy I rows a (ScriptCut (take (done + 1) all) s u old new) c
-cut_next s t u all done line later old mid new failed first e next =
-    then_by (λ before kept told one two h k h' back join f n.
-    let front = n.3 in
-    let went =
-    goes_weaker (Sure before) (λ text. kept) (take done all) f.0 h k s t f.1 (λ text sure tells. back sure) f.2 in
-    let answers = ap (λ (ls : List (List ℕ)). answers_to ls f.0) (next_line all done line later e).2
-    ∙ answers_before (Sure before) (take done all) f.0 h k s t f.1 line f.2 in (
-      f.0,
-      n.0,
-      f.1 ++ n.1,
-      went_next (λ text. kept) h k h' s t u all done line later f.0 n.0 f.1 n.1 e went n.2,
-      front.0,
-      front.1,
-      Appends-trans old mid new (concat f.0) (take front.0 n.0) f.3 front.2,
-      subst (λ (l : List Call). told (f.1 ++ n.1) l) (sym answers)
-          (join f.1 n.1 (answers_to (take done all) f.0) (asked_for (ask_in line) false) f.4 n.4),
-    )) first next
+  answered : (old new : S × R × W) (ls : List (List ℕ)) → LinesAnswered K rows stream contents old ls new
+      → Answered old ls new
+  unfolding ScriptGoes
+  answered old new [] p = subst (λ x. Answered old [] x) (sym p) (none_answered old)
+  answered old new (line ∷ later) p =
+      let mid = p.0 in
+      let one = p.1 in
+      let rest = answered mid new later p.2 in
+      let first = (together K old.0 mid.0 one.told one.calls).since in
+      let back = (together K mid.0 new.0 rest.told rest.calls).since in
+      record {
+        told = one.told ++ rest.told;
+        happened = λ honest h reached stands.
+            let k = one.happened (back.was_honest honest) h reached stands in
+            let l = rest.happened honest k.0 k.1 k.2 in
+            let a = k.3 in
+            let b = l.3 in
+            let goes = ask_weaker (Sure (K.is_clean old.0)) (Sure (K.is_clean new.0)) (ask_in line) h k.0
+            (stream old.1) (stream mid.1) a.0 one.told
+            (λ text sure tells. first.was_clean (back.was_clean (sure tells))) a.1 in (
+              l.0,
+              l.1,
+              l.2,
+              (
+                a.0 ∷ b.0,
+                (k.0, stream mid.1, one.told, rest.told, goes, b.1, refl),
+                Appends-trans (contents old.2) (contents mid.2) (contents new.2) a.0 (concat b.0) a.2.0 b.2,
+              ),
+              l.4,
+            );
+        calls = passes_join (Leaves K) old.0 mid.0 new.0 one.told rest.told one.calls rest.calls;
+      }
 
--- no line is answered yet
-none_answered : {S : Type 0} (I : IssuedOf S) (rows : S → Rows) (a : S) (s : Stream) (known : Option (List ℕ))
-    → HappensBy I rows a (ScriptAnswered [] s s known known) a
-unfolding ScriptGoes answers_to
-none_answered I rows a s known = idle_by I rows a (ScriptAnswered [] s s known known)
-    (λ kept told h none. ([], [], (refl, refl, refl), Appends-nil known, none))
+  -- and those before one that was cut short
+  abbrev Cut : S × R × W → List (List ℕ) → S × R × W → Type 0
+  Cut old ls new = HappensBy K rows old.0 (ScriptCut ls (stream old.1) (stream new.1) (contents old.2)
+      (contents new.2) (K.is_clean new.0)) new.0
 
--- one line is all that is answered
-one_answered : {S : Type 0} {I : IssuedOf S} {rows : S → Rows} {a b : S} (s t : Stream)
-    (line : List ℕ) (old new : Option (List ℕ))
-    → HappensBy I rows a (AskEnds (ask_in line) s t old new (Ok tt)) b
-    → HappensBy I rows a (ScriptAnswered (line ∷ []) s t old new) b
-one_answered {I = I} {rows = rows} {a = a} s t line old new =
-    answered_next s s t (line ∷ []) 0 line [] old old new (none_answered I rows a s old) refl
+  cut_last : (old mid new : S × R × W) (before : List (List ℕ)) (line : List ℕ) (failed : WriteFailed)
+      → Answered old before mid → LineEnds K rows stream contents (Err failed) mid line new
+      → Cut old (before ++ line ∷ []) new
+  cut_last old mid new before line failed first last =
+      let back = (together K mid.0 new.0 last.told last.calls).since in
+      record {
+        told = first.told ++ last.told;
+        happened = λ honest h reached stands.
+            let k = first.happened (back.was_honest honest) h reached stands in
+            let l = last.happened honest k.0 k.1 k.2 in
+            let a = k.3 in
+            let n = l.3 in
+            let went = goes_weaker (Sure (K.is_clean mid.0)) (λ text. K.is_clean new.0) before a.0 h k.0 (stream old.1)
+            (stream mid.1) first.told (λ text sure tells. back.was_clean sure) a.1 in
+            let goes = ask_weaker (λ text. K.is_clean mid.0) (λ text. K.is_clean new.0) (ask_in line) k.0 l.0
+            (stream mid.1) (stream new.1) n.0 last.told (λ text clean. back.was_clean clean) n.1 in (
+              l.0,
+              l.1,
+              l.2,
+              (
+                a.0,
+                n.0,
+                script-push (λ text. K.is_clean new.0) h k.0 l.0 (stream old.1) (stream mid.1) (stream new.1) before
+                    a.0 line n.0 first.told last.told went goes,
+                n.2.0,
+                n.2.1,
+                Appends-trans (contents old.2) (contents mid.2) (contents new.2) (concat a.0) (take n.2.0 n.0) a.2
+                    n.2.2,
+              ),
+              l.4,
+            );
+        calls = passes_join (Leaves K) old.0 mid.0 new.0 first.told last.told first.calls last.calls;
+      }
 
--- one line is cut short
-one_cut : {S : Type 0} {I : IssuedOf S} {rows : S → Rows} {a b : S} (s t : Stream) (line : List ℕ)
-    (old new : Option (List ℕ)) (failed : WriteFailed)
-    → HappensBy I rows a (AskEnds (ask_in line) s t old new (Err failed)) b
-    → HappensBy I rows a (ScriptCut (line ∷ []) s t old new) b
-one_cut {I = I} {rows = rows} {a = a} s t line old new failed =
-    cut_next s s t (line ∷ []) 0 line [] old old new failed (none_answered I rows a s old) refl
+  pub scripts_happen : ScriptsHappen K rows stream contents
+  scripts_happen = record {
+    answered = answered;
+    cut = λ old new ls c. subst (λ (l : List (List ℕ)). Cut old l new) (sym c.2)
+        (cut_last old c.3 new c.0 c.1 c.5 (answered old c.3 c.0 c.4) c.6);
+  }
 
--- one more line is answered, in the state that those before it left
-passes_next : {S R W : Type 0} (I : IssuedOf S) (rows : S → Rows) (stream : R → Stream) (contents : W → Option (List ℕ))
-    (all : List (List ℕ)) (done : ℕ) (line : List ℕ) (later : List (List ℕ)) (old mid new : S × R × W)
-    → Passes (LineHappens I rows stream contents) old (take done all) mid → drop done all ≡ line ∷ later
-    → HappensBy I rows mid.0 (AskEnds (ask_in line) (stream mid.1) (stream new.1) (contents mid.2)
-    (contents new.2) (Ok tt)) new.0
-    → Passes (LineHappens I rows stream contents) old (take (done + 1) all) new
-passes_next I rows stream contents all done line later old mid new before e next =
-    subst (λ (ls : List (List ℕ)). Passes (LineHappens I rows stream contents) old ls new)
-    (sym (next_line all done line later e).2)
-    (passes_push (LineHappens I rows stream contents) old (take done all) before
-    (one_answered (stream mid.1) (stream new.1) line (contents mid.2) (contents new.2) next))
+  -- one more line was answered, in the state that those before it left
+  pub lines_next : (all : List (List ℕ)) (done : ℕ) (line : List ℕ) (later : List (List ℕ)) (old mid new : S × R × W)
+      → LinesAnswered K rows stream contents old (take done all) mid → drop done all ≡ line ∷ later
+      → LineHappens K rows stream contents mid line new
+      → LinesAnswered K rows stream contents old (take (done + 1) all) new
+  lines_next all done line later old mid new before e next =
+      subst (λ (ls : List (List ℕ)). LinesAnswered K rows stream contents old ls new)
+      (sym (next_line all done line later e).2)
+      (passes_push (LineHappens K rows stream contents) old (take done all) before next)
 
--- the next line is cut short, in the state that those before it left
-passes_cut : {S R W : Type 0} (I : IssuedOf S) (rows : S → Rows) (stream : R → Stream)
-    (contents : W → Option (List ℕ)) (all : List (List ℕ)) (done : ℕ) (line : List ℕ) (later : List (List ℕ))
-    (old mid new : S × R × W) (failed : WriteFailed)
-    → Passes (LineHappens I rows stream contents) old (take done all) mid → drop done all ≡ line ∷ later
-    → HappensBy I rows mid.0 (AskEnds (ask_in line) (stream mid.1) (stream new.1) (contents mid.2)
-    (contents new.2) (Err failed)) new.0
-    → PassesToCut I rows stream contents old (take (done + 1) all) new
-passes_cut I rows stream contents all done line later old mid new failed before e next = (
-  take done all,
-  line,
-  (next_line all done line later e).2,
-  mid,
-  before,
-  one_cut (stream mid.1) (stream new.1) line (contents mid.2) (contents new.2) failed next,
-)
-
--- no line is answered yet, in this state
-pub no_lines : {S R W : Type 0} (I : IssuedOf S) (rows : S → Rows) (stream : R → Stream)
-    (contents : W → Option (List ℕ)) (old : S × R × W) → LinesAnswered I rows stream contents old [] old
-no_lines I rows stream contents old =
-    record { went = none_answered I rows old.0 (stream old.1) (contents old.2); through = refl }
-
--- lines were answered, and then one more
-pub lines_next : {S R W : Type 0} (I : IssuedOf S) (rows : S → Rows) (stream : R → Stream)
-    (contents : W → Option (List ℕ)) (all : List (List ℕ)) (done : ℕ) (line : List ℕ)
-    (later : List (List ℕ)) (old mid new : S × R × W)
-    → LinesAnswered I rows stream contents old (take done all) mid → drop done all ≡ line ∷ later
-    → HappensBy I rows mid.0 (AskEnds (ask_in line) (stream mid.1) (stream new.1) (contents mid.2)
-    (contents new.2) (Ok tt)) new.0
-    → LinesAnswered I rows stream contents old (take (done + 1) all) new
-lines_next I rows stream contents all done line later old mid new before e next = record {
-  went = answered_next (stream old.1) (stream mid.1) (stream new.1) all done line later (contents old.2)
-      (contents mid.2) (contents new.2) before.went e next;
-  through = passes_next I rows stream contents all done line later old mid new before.through e next;
-}
-
--- lines were answered, and then one was cut short
-pub lines_cut : {S R W : Type 0} (I : IssuedOf S) (rows : S → Rows) (stream : R → Stream)
-    (contents : W → Option (List ℕ)) (all : List (List ℕ)) (done : ℕ) (line : List ℕ) (later : List (List ℕ))
-    (old mid new : S × R × W) (failed : WriteFailed)
-    → LinesAnswered I rows stream contents old (take done all) mid → drop done all ≡ line ∷ later
-    → HappensBy I rows mid.0 (AskEnds (ask_in line) (stream mid.1) (stream new.1) (contents mid.2)
-    (contents new.2) (Err failed)) new.0
-    → LinesCut I rows stream contents old (take (done + 1) all) new
-lines_cut I rows stream contents all done line later old mid new failed before e next = record {
-  went = cut_next (stream old.1) (stream mid.1) (stream new.1) all done line later (contents old.2) (contents mid.2)
-      (contents new.2) failed before.went e next;
-  through = passes_cut I rows stream contents all done line later old mid new failed before.through e next;
-}
+  -- or cut short
+  pub lines_cut : (all : List (List ℕ)) (done : ℕ) (line : List ℕ) (later : List (List ℕ)) (old mid new : S × R × W)
+      (failed : WriteFailed)
+      → LinesAnswered K rows stream contents old (take done all) mid → drop done all ≡ line ∷ later
+      → LineEnds K rows stream contents (Err failed) mid line new
+      → LinesCut K rows stream contents old (take (done + 1) all) new
+  lines_cut all done line later old mid new failed before e next =
+      (take done all, line, (next_line all done line later e).2, mid, before, failed, next)
 
 -- bytes, and then a front of some more
 pub appends_front : (a b c : Option (List ℕ)) (output text : List ℕ)
@@ -306,17 +250,31 @@ answered_more text later line cut e w h =
     let k : answered_lines text ≡ without_return line ∷ answered_lines later = rw (e, s) refl in
     k ∙ ap (λ (x : List ℕ). x ∷ answered_lines later) (sym w)
 
--- where a write failed, what follows of the number of lines
-pub if_cut : (r : Result ScriptEnd ScriptFault) (P Q : ℕ → Type 0)
-    → ((done : ℕ) → P done → Q done) → IfCut r P → IfCut r Q
-if_cut (Ok end) P Q f p = tt
-if_cut (Err (Write done)) P Q f p = f done p
-if_cut (Err Read) P Q f p = tt
-if_cut (Err TooLarge) P Q f p = tt
-if_cut (Err no.Memory) P Q f p = tt
+module _ {S R W : Type 0} (K : KeptOf S) (rows : S → Rows) (stream : R → Stream) (contents : W → Option (List ℕ))
+    (known : Option (List ℕ)) (old : S × R × W) where
+  -- a script ran as its lines were answered
+  pub script_ran : (new : S × R × W) (script : List ℕ) (end : Result ScriptEnd ScriptFault) → IsInput known script
+      → IfOk end (λ e. e.lines ≡ length (answered_lines script))
+      → OnOk end (LinesAnswered K rows stream contents old (answered_lines script) new)
+      → IfCut end (λ done. (1 ≤ done) × (done ≤ length (answered_lines script))
+      × LinesCut K rows stream contents old (take done (answered_lines script)) new)
+      → IfUnbegun end ⊥ → ScriptRan K rows stream contents known old end new
+  script_ran new script (Ok end) input count ok cut begun = (script, input, count, ok)
+  script_ran new script (Err (Write done)) input count ok cut begun = (script, input, cut.0, cut.1, cut.2)
+  script_ran new script (Err Read) input count ok cut begun = absurd begun
+  script_ran new script (Err TooLarge) input count ok cut begun = absurd begun
+  script_ran new script (Err no.Memory) input count ok cut begun = absurd begun
 
--- where all lines were answered, what follows of how many they are and of what they led to
-pub if_answered : {Led : Type 0} (r : Result ScriptEnd ScriptFault) (P Q : ScriptEnd → Type 0)
-    → ((end : ScriptEnd) → P end → Led → Q end) → IfOk r P → OnOk r Led → IfOk r Q
-if_answered (Ok end) P Q f p led = f end p led
-if_answered (Err fault) P Q f p led = tt
+  -- a script that wasn't read whole
+  pub unread_ran : (end : Result ScriptEnd ScriptFault) (why : WholeFault) → IsErrAnd end (λ e. e ≡ fault_of why)
+      → (why ≡ whole.TooLarge → IfSome known (λ input. SCRIPT_LIMIT < length input))
+      → ScriptRan K rows stream contents known old end old
+  unread_ran (Ok end) why p large = absurd p
+  unread_ran (Err fault) why p large =
+      subst (λ (f : ScriptFault). ScriptRan K rows stream contents known old (Err f) old) (sym p) (by why large)
+    where
+      by : (why : WholeFault) → (why ≡ whole.TooLarge → IfSome known (λ input. SCRIPT_LIMIT < length input))
+          → ScriptRan K rows stream contents known old (Err (fault_of why)) old
+      by whole.Read large = refl
+      by whole.TooLarge large = (refl, large refl)
+      by whole.Memory large = refl

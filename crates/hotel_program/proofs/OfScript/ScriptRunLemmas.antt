@@ -3,51 +3,55 @@ use Rattle.std.proofs.Common.{◌≡◌, ℕ, true, List, [], ◌∷◌, ◌++�
 use Rattle.std.proofs.Common.{Some, None}
 use Rattle.rand_core.specs.Stream.{Stream}
 use Rattle.hotel_model.specs.declared.reply.Reply.{Reply}
-use Rattle.hotel_model.specs.declared.reply.Refusal.{Refusal}
 use Rattle.hotel_model.specs.History.{History}
 use Rattle.hotel_model.specs.Run.{Runs}
-use Rattle.hotel_asks.specs.Asks.{copies}
-use Rattle.hotel_program.specs.Script.Copies.{counted_in}
+use Rattle.keycard_rules.specs.Calls.{Told}
 use Rattle.hotel_program.specs.Script.Asks.{ask_in}
 use Rattle.hotel_core.specs.declared.asks.Ask.{Ask}
 use Rattle.hotel_core.specs.declared.asks.Ask.TheVariants as ask
 use Rattle.hotel_program.specs.Script.LineAnswers.{AskGoes, LineGoes}
 use Rattle.hotel_program.specs.Script.WholeScript.{ScriptGoes}
-use Rattle.hotel_program.specs.Script.ScriptRun.{commands_of, texts_of, failed_of, ScriptsRun, ListsBetween}
+use Rattle.hotel_program.specs.Script.ScriptRun.{ToldIn, commands_of, texts_of, ScriptsRun, ListsBetween}
 
 -- a text and then others
 with_text : {a b : List ℕ} {x y : List (List ℕ)} → a ≡ b → x ≡ y → a ∷ x ≡ b ∷ y
 with_text {a} {b} {x} {y} e f = ap (λ l. a ∷ l) f ∙ ap (λ t. t ∷ y) e
 
 -- what is asked has a run, with the answers and the failures of its replies and lists
-AsksRun : History → Stream → List (Option Ask) → List (List ℕ) → List Refusal → History → Stream → Type 0
+AsksRun : History → Stream → List (Option Ask) → List (List ℕ) → Told → History → Stream → Type 0
 AsksRun h s asks texts failed h' s' =
-    (replies : List Reply) × (lists : List (List ℕ × List Refusal)) × Runs h s (commands_of asks) replies h' s'
-    × (texts ≡ texts_of asks replies lists) × (failed ≡ failed_of asks replies lists)
+    (replies : List Reply) × (lists : List (List ℕ × Told)) × Runs h s (commands_of asks) replies h' s'
+    × (texts ≡ texts_of asks replies lists) × ToldIn asks replies lists failed
 
 asks_more : (sure : List ℕ → Type 0) (wanted : Option Ask) (asks : List (Option Ask)) (h mid h' : History)
-    (s source s' : Stream) (text : List ℕ) (texts : List (List ℕ)) (failed first more : List Refusal)
+    (s source s' : Stream) (text : List ℕ) (texts : List (List ℕ)) (failed first more : Told)
     → AskGoes sure wanted h s text first mid source → AsksRun mid source asks texts more h' s' → failed ≡ first ++ more
     → AsksRun h s (wanted ∷ asks) (text ∷ texts) failed h' s'
 unfolding AsksRun
 asks_more sure None asks h mid h' s source s' text texts failed first more g ran f =
     let run = subst (λ (x : History). Runs x source (commands_of asks) ran.0 h' s') g.2 ran.2 in
-    let run = subst (λ (x : Stream). Runs h x (commands_of asks) ran.0 h' s') g.3 run in
-    (ran.0, ran.1, run, with_text g.0 ran.3, f ∙ ap (λ (t : List Refusal). t ++ more) g.1 ∙ ran.4)
+    let run = subst (λ (x : Stream). Runs h x (commands_of asks) ran.0 h' s') g.3 run in (
+      ran.0,
+      ran.1,
+      run,
+      with_text g.0 ran.3,
+      subst (ToldIn asks ran.0 ran.1) (sym (f ∙ ap (λ (t : Told). t ++ more) g.1))
+          ran.4,
+    )
 asks_more sure (Some (ask.Command command)) asks h mid h' s source s' text texts failed first more g ran f = (
   g.0 ∷ ran.0,
   ran.1,
   (mid, source, g.1, ran.2),
   with_text g.2 ran.3,
-  f ∙ ap (λ (t : List Refusal). t ++ more) g.3 ∙ ap (λ (l : List Refusal). counted_in g.0 (copies command) ++ l) ran.4,
+  (first, more, g.3, ran.4, f),
 )
 asks_more sure (Some (ask.List its_list)) asks h mid h' s source s' text texts failed first more g ran f =
-    let run = subst (λ (x : History). Runs x source (commands_of asks) ran.0 h' s') g.1 ran.2 in
-    let run = subst (λ (x : Stream). Runs h x (commands_of asks) ran.0 h' s') g.2 run in
-    (ran.0, (text, first) ∷ ran.1, run, with_text refl ran.3, f ∙ ap (λ (l : List Refusal). first ++ l) ran.4)
+    let run = subst (λ (x : History). Runs x source (commands_of asks) ran.0 h' s') g.3 ran.2 in
+    let run = subst (λ (x : Stream). Runs h x (commands_of asks) ran.0 h' s') g.4 run in
+    (ran.0, (text, first) ∷ ran.1, run, with_text refl ran.3, (more, ran.4, f))
 
 lines_run : (sure : List ℕ → Type 0) (lines texts : List (List ℕ))
-    (h h' : History) (s s' : Stream) (failed : List Refusal)
+    (h h' : History) (s s' : Stream) (failed : Told)
     → ScriptGoes sure h s lines texts failed h' s' → AsksRun h s (map ask_in lines) texts failed h' s'
 unfolding ScriptGoes AsksRun
 lines_run sure [] [] h h' s s' failed r = ([], [], (r.1, r.2), refl, r.0)
@@ -63,7 +67,7 @@ scripts_run = λ sure h h' s s' lines texts failed r. lines_run (λ text. sure t
 
 -- the lines before a line, the line, and those after it
 record Split (sure : List ℕ → Type 0) (h : History) (s : Stream) (before : List (List ℕ)) (line : List ℕ)
-    (later : List (List ℕ)) (texts : List (List ℕ)) (failed : List Refusal) (h' : History) (s' : Stream) : Type 0 where
+    (later : List (List ℕ)) (texts : List (List ℕ)) (failed : Told) (h' : History) (s' : Stream) : Type 0 where
   mid : History
   then : History
   source : Stream
@@ -71,9 +75,9 @@ record Split (sure : List ℕ → Type 0) (h : History) (s : Stream) (before : L
   first : List (List ℕ)
   text : List ℕ
   rest : List (List ℕ)
-  failed_first : List Refusal
-  failed_text : List Refusal
-  failed_rest : List Refusal
+  failed_first : Told
+  failed_text : Told
+  failed_rest : Told
   went_first : ScriptGoes sure h s before first failed_first mid source
   went_line : LineGoes sure mid source line text failed_text then next
   went_rest : ScriptGoes sure then next later rest failed_rest h' s'
@@ -84,7 +88,7 @@ four_joined : {A : Type 0} (a b c d : List A) → a ++ (b ++ c ++ d) ≡ a ++ b 
 four_joined {A} a b c d = sym (append_assoc a (b ++ c) d) ∙ ap (λ (l : List A). l ++ d) (sym (append_assoc a b c))
 
 split_at : (sure : List ℕ → Type 0) (before texts : List (List ℕ)) (h h' : History) (s s' : Stream) (line : List ℕ)
-    (later : List (List ℕ)) (failed : List Refusal)
+    (later : List (List ℕ)) (failed : Told)
     → ScriptGoes sure h s (before ++ line ∷ later) texts failed h' s'
     → Split sure h s before line later texts failed h' s'
 unfolding ScriptGoes
@@ -122,7 +126,7 @@ split_at sure (one ∷ before) (text ∷ texts) h h' s s' line later failed r =
       went_line = k.went_line;
       went_rest = k.went_rest;
       texts_are = ap (λ (l : List (List ℕ)). text ∷ l) k.texts_are;
-      failed_is = r.6 ∙ ap (λ (l : List Refusal). r.2 ++ l) k.failed_is
+      failed_is = r.6 ∙ ap (λ (l : Told). r.2 ++ l) k.failed_is
           ∙ four_joined r.2 k.failed_first k.failed_text k.failed_rest;
     }
 split_at sure [] [] h h' s s' line later failed r = absurd r
@@ -134,8 +138,8 @@ lists_between = λ sure h h' s s' before later line its_list texts failed r aske
     let k = split_at P before texts h h' s s' line later failed r in
     let goes =
     subst (λ (w : Option Ask). AskGoes P w k.mid k.source k.text k.failed_text k.then k.next) asked k.went_line in
-    let after = subst (λ (x : History). ScriptGoes P x k.next later k.rest k.failed_rest h' s') goes.1 k.went_rest in
-    let after = subst (λ (x : Stream). ScriptGoes P k.mid x later k.rest k.failed_rest h' s') goes.2 after in (
+    let after = subst (λ (x : History). ScriptGoes P x k.next later k.rest k.failed_rest h' s') goes.3 k.went_rest in
+    let after = subst (λ (x : Stream). ScriptGoes P k.mid x later k.rest k.failed_rest h' s') goes.4 after in (
       k.mid,
       k.source,
       k.first,
@@ -146,6 +150,8 @@ lists_between = λ sure h h' s s' before later line its_list texts failed r aske
       k.failed_rest,
       scripts_run sure h k.mid s k.source before k.first k.failed_first k.went_first,
       goes.0,
+      goes.1,
+      goes.2,
       scripts_run sure k.mid h' k.source s' later k.rest k.failed_rest after,
       k.texts_are,
       k.failed_is,

@@ -1,15 +1,9 @@
 -- What an audit file that is imported alone comes to.
-use Rattle.std.specs.Prelude.{◌≡◌, ℕ, Bool, true, false, List, [], ◌∷◌, Option, Result, Ok, Err, IfErr}
+use Rattle.std.specs.Prelude.{◌≡◌, ℕ, Bool, true, false, List, [], ◌∷◌, Option, Result, Ok, Err}
 use Rattle.std.specs.Io.KnownBytes.{Appends}
-use Rattle.keycard_rules.specs.declared.issued.Issued.{Ghosts as IssuedOf}
-use Rattle.keycard_rules.specs.{Since.Since}
 use Rattle.keycard_rules.specs.declared.issued.LookFault.TheVariants as look
-use Rattle.hotel_model.specs.Rows.{Rows}
-use Rattle.hotel_core.specs.Books.Failures.{AreCounted}
 use Rattle.hotel_lists.specs.Bytes.{AppendsFront}
 use Rattle.hotel_audit.specs.Answers.{answers_text}
-use Rattle.hotel_audit.specs.AuditFile.{audit_lines}
-use Rattle.hotel_audit.specs.Import.{Imports, failures_of}
 use Rattle.hotel_audit.specs.declared.answer.LineAnswer.{LineAnswer}
 use Rattle.hotel_audit.specs.declared.answer.LineAnswer.TheVariants.{Taken, Seen, Unread, Refused}
 use Rattle.hotel_audit.specs.declared.audit_file.AuditFault.{AuditFault}
@@ -54,12 +48,3 @@ abbrev pub WritesAnswers : {W : Type 0} → (W → Option (List ℕ)) → W → 
 WritesAnswers contents old new (Ok answers) false = Appends (contents old) (contents new) (answers_text 1 answers)
 WritesAnswers contents old new (Ok answers) true = AppendsFront (contents old) (contents new) (answers_text 1 answers)
 WritesAnswers contents old new (Err why) write_failed = new ≡ old
-
--- An import of the file ended so: the books went by its lines, all of them or those before a fault, or are as they were
--- where it is none; a failure of the store, or of memory after the first line, was counted.
-pub record ImportEnds {B : Type 0} (I : IssuedOf B) (rows : B → Rows) (bytes : List ℕ) (old new : B)
-    (outcome : Result (List LineAnswer) ImportFault) : Type 0 where
-  pub went : Imports I rows (audit_lines bytes) old new outcome
-  pub no_file : IfErr outcome (λ fault. (why : AuditFault) → fault ≡ File why → new ≡ old)
-  pub since : Since I.is_clean I.is_honest I.failures old new
-  pub failed : IfErr outcome (λ why. I.is_clean new → AreCounted (I.failures old) (I.failures new) (failures_of why))

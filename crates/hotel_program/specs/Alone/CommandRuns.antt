@@ -1,12 +1,7 @@
 -- What one command that is carried out alone comes to.
 use Rattle.std.specs.Prelude.{ℕ, Bool, true, false, List, Option, Result, Ok, Err}
 use Rattle.std.specs.Io.KnownBytes.{Appends}
-use Rattle.rand_core.specs.Stream.{Stream}
-use Rattle.keycard_rules.specs.declared.issued.Issued.{Ghosts as IssuedOf}
-use Rattle.hotel_core.specs.Books.Happens.{Happens, StepTold}
-use Rattle.hotel_model.specs.Rows.{Rows}
 use Rattle.hotel_core.specs.Texts.{reply_text}
-use Rattle.hotel_model.specs.declared.command.Command.{Command}
 use Rattle.hotel_model.specs.declared.reply.Reply.{Reply}
 use Rattle.hotel_lists.specs.Bytes.{AppendsFront}
 use Rattle.hotel_program.specs.Statuses.{reply_status}
@@ -22,8 +17,3 @@ command_end reply true = Err Write
 abbrev pub WritesReply : Option (List ℕ) → Option (List ℕ) → Reply → Bool → Type 0
 WritesReply old new reply false = Appends old new (reply_text reply)
 WritesReply old new reply true = AppendsFront old new (reply_text reply)
-
--- The books took one step of the model by the command, with the reply, whose failure was counted, and which vouches for
--- them where it is none.
-abbrev pub CommandEnds : {B : Type 0} → IssuedOf B → (B → Rows) → Command → Reply → B → B → Stream → Stream → Type 0
-CommandEnds I rows command reply old new source later = Happens I rows old (StepTold source command reply later) new

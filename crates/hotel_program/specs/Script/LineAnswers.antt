@@ -1,19 +1,19 @@
 -- What a script's line comes to.
-use Rattle.std.specs.Prelude.{◌≡◌, ℕ, Bool, true, false, not, List, [], ◌∷◌, ◌++◌, Option, Some, None, codes, Result}
-use Rattle.std.specs.Prelude.{Ok, Err}
+use Rattle.std.specs.Prelude.{◌≡◌, ◌≤◌, ◌⊎◌, ℕ, true, false, List, [], ◌∷◌, ◌++◌, Option, Some, None, codes, length}
+use Rattle.std.specs.Prelude.{Result, Ok, Err}
 use Rattle.std.specs.Io.KnownBytes.{Appends}
 use Rattle.rand_core.specs.Stream.{Stream}
-use Rattle.hotel_model.specs.declared.reply.Reply.{Reply}
-use Rattle.hotel_model.specs.declared.reply.Refusal.{Refusal}
-use Rattle.hotel_model.specs.History.{History}
+use Rattle.hotel_model.specs.{declared.command.Command.Command, declared.reply.Reply.Reply, History.History}
+use Rattle.hotel_model.specs.{declared.reply.Reply.TheVariants.Refused, declared.reply.Refusal.TheVariants.Memory}
 use Rattle.hotel_model.specs.Run.{Steps}
 use Rattle.hotel_asks.specs.Asks.{copies}
-use Rattle.hotel_program.specs.Script.Copies.{counted_in}
-use Rattle.hotel_core.specs.{Books.Happens.Call, Books.Happens.Told, Texts.reply_text}
+use Rattle.hotel_core.specs.{Books.Failures.failure_in, Texts.reply_text}
 use Rattle.hotel_program.specs.Script.Asks.{ask_in}
 use Rattle.hotel_lists.specs.{Bytes.AppendsFront, declared.calls.WriteFailed.WriteFailed}
 use Rattle.hotel_program.specs.Script.ListAnswers.{AnswersList, tells_failure}
 use Rattle.hotel_asks.specs.Listings.{listing_over}
+use Rattle.keycard_rules.specs.Calls.{Told}
+use Rattle.hotel_lists.specs.Listings.{Listing}
 use Rattle.hotel_core.specs.declared.asks.Ask.{Ask}
 use Rattle.hotel_core.specs.declared.asks.Ask.TheVariants as ask
 use Rattle.hotel_program.specs.declared.script.line_answers.ScriptAnswer.{ScriptAnswer}
@@ -28,45 +28,47 @@ abbrev pub answer_text : ScriptAnswer → List ℕ
 answer_text (Replied reply) = reply_text reply
 answer_text Unread = unread_text
 
--- What is asked goes with this answer and these failures, which the books counted: a command is a step that gives the
--- reply of that text; a list is answered, surely where the condition holds of its text; and where nothing is asked the
--- line is unread. Of the last two nothing happens.
-abbrev pub AskGoes : (List ℕ → Type 0) → Option Ask → History → Stream → List ℕ → List Refusal → History → Stream
-    → Type 0
-AskGoes sure (Some (ask.Command command)) h s text failed h' s' = (reply : Reply) × Steps h s command reply h' s'
-    × (text ≡ reply_text reply) × (failed ≡ counted_in reply (copies command))
-AskGoes sure (Some (ask.List its_list)) h s text failed h' s' =
-    (sure text → AnswersList (listing_over h its_list) text failed) × (h' ≡ h) × (s' ≡ s)
-AskGoes sure None h s text failed h' s' = (text ≡ unread_text) × (failed ≡ []) × (h' ≡ h) × (s' ≡ s)
+-- What the calls of a command's line told, by its reply: as the command's; or none was made, where there was no memory to
+-- copy a text of the line.
+abbrev pub CommandTold : Command → Reply → Told → Type 0
+CommandTold command reply told =
+    (told ≡ failure_in reply ∷ []) ⊎ ((reply ≡ Refused Memory) × (copies command ≡ true) × (told ≡ []))
+
+-- What is asked goes with this answer, by calls that told this: a command is a step that gives the reply of that text; a
+-- list is answered, and is the history's where the condition holds of its text; and where nothing is asked the line is
+-- unread. Of the last two nothing happens.
+abbrev pub AskGoes : (List ℕ → Type 0) → Option Ask → History → Stream → List ℕ → Told → History → Stream → Type 0
+AskGoes sure (Some (ask.Command command)) h s text told h' s' = (reply : Reply) × Steps h s command reply h' s'
+    × (text ≡ reply_text reply) × CommandTold command reply told
+AskGoes sure (Some (ask.List its_list)) h s text told h' s' =
+    (listing : Option Listing) × AnswersList listing text told × (sure text → listing ≡ listing_over h its_list)
+    × (h' ≡ h) × (s' ≡ s)
+AskGoes sure None h s text told h' s' = (text ≡ unread_text) × (told ≡ []) × (h' ≡ h) × (s' ≡ s)
 
 -- A line goes with this answer as what it asks for does.
-abbrev pub LineGoes : (List ℕ → Type 0) → History → Stream → List ℕ → List ℕ → List Refusal → History → Stream → Type 0
-LineGoes sure h s line text failed h' s' = AskGoes sure (ask_in line) h s text failed h' s'
+abbrev pub LineGoes : (List ℕ → Type 0) → History → Stream → List ℕ → List ℕ → Told → History → Stream → Type 0
+LineGoes sure h s line text told h' s' = AskGoes sure (ask_in line) h s text told h' s'
 
--- the calls where this is asked of the desk, and was answered or wasn't: one, or none where nothing is asked
-abbrev pub asked_for : Option Ask → Bool → List Call
-asked_for None answered = []
-asked_for (Some wanted) answered = (wanted, answered) ∷ []
+-- a list whose answer tells no failure asked the books
+abbrev pub ListAsked : Option Ask → List ℕ → Told → Type 0
+ListAsked (Some (ask.List its_list)) text told = tells_failure text ≡ false → 1 ≤ length told
+ListAsked _ text told = Unit {0}
 
--- the same where this is the text of the answer, which may tell that the books failed
-abbrev pub answered_to : Option Ask → List ℕ → List Call
-answered_to wanted text = asked_for wanted (not (tells_failure text))
+-- What is asked went with an answer that was written so.
+abbrev pub AskAnswered : (List ℕ → Type 0) → (List ℕ → Type 0) → Option Ask → Stream → Stream → Told → History
+    → History → Type 0
+AskAnswered sure written wanted s s' told h h' =
+    (text : List ℕ) × AskGoes sure wanted h s text told h' s' × written text
 
--- What is asked went with an answer that was written so, and this is told of its failures and of what the books were
--- asked.
-abbrev pub AskAnswered : (List ℕ → Type 0) → (List ℕ → Type 0) → (List ℕ → List Call) → Option Ask
-    → Stream → Stream → Told → History → History → Type 0
-AskAnswered sure written answered wanted s s' told h h' =
-    (text : List ℕ) × (failed : List Refusal) × AskGoes sure wanted h s text failed h' s' × written text
-    × told failed (answered text)
-
--- what is surely answered: also over books that failed for good what tells no failure, and the rest where they are kept
+-- what is surely answered: also over books that had failed for good what tells no failure, and the rest where this is
+-- so, as that they were kept where the line began
 abbrev pub Sure : Type 0 → List ℕ → Type 0
 Sure kept text = tells_failure text ≡ true → kept
 
 -- What is asked was answered: the answer was written whole; or a front of it, which vouches for nothing.
 abbrev pub AskEnds : Option Ask → Stream → Stream → Option (List ℕ) → Option (List ℕ) → Result (Unit {0}) WriteFailed
     → Type 0 → Told → History → History → Type 0
-AskEnds wanted s s' old new (Ok done) kept = AskAnswered (Sure kept) (Appends old new) (answered_to wanted) wanted s s'
-AskEnds wanted s s' old new (Err failed) kept =
-    AskAnswered (λ text. kept) (AppendsFront old new) (λ text. asked_for wanted false) wanted s s'
+AskEnds wanted s s' old new (Ok done) kept told h h' =
+    AskAnswered (Sure kept) (λ text. Appends old new text × ListAsked wanted text told) wanted s s' told h h'
+AskEnds wanted s s' old new (Err failed) kept told h h' =
+    AskAnswered (λ text. kept) (AppendsFront old new) wanted s s' told h h'

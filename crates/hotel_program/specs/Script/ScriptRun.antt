@@ -3,18 +3,17 @@ use Rattle.std.specs.Prelude.{◌≡◌, ℕ, Bool, true, List, [], ◌∷◌, �
 use Rattle.rand_core.specs.Stream.{Stream}
 use Rattle.hotel_model.specs.declared.command.Command.{Command}
 use Rattle.hotel_model.specs.declared.reply.Reply.{Reply}
-use Rattle.hotel_model.specs.declared.reply.Refusal.{Refusal}
 use Rattle.hotel_model.specs.History.{History}
 use Rattle.hotel_model.specs.Run.{Runs}
-use Rattle.hotel_asks.specs.Asks.{copies}
-use Rattle.hotel_program.specs.Script.Copies.{counted_in}
+use Rattle.keycard_rules.specs.Calls.{Told}
 use Rattle.hotel_core.specs.Texts.{reply_text}
 use Rattle.hotel_program.specs.Script.Asks.{ask_in}
 use Rattle.hotel_core.specs.declared.asks.Ask.{Ask}
 use Rattle.hotel_core.specs.declared.asks.Ask.TheVariants as ask
 use Rattle.hotel_core.specs.declared.asks.ListAsk.{ListAsk}
-use Rattle.hotel_program.specs.Script.LineAnswers.{unread_text}
+use Rattle.hotel_program.specs.Script.LineAnswers.{CommandTold, unread_text}
 use Rattle.hotel_program.specs.Script.ListAnswers.{AnswersList}
+use Rattle.hotel_lists.specs.Listings.{Listing}
 use Rattle.hotel_asks.specs.Listings.{listing_over}
 use Rattle.hotel_program.specs.Script.WholeScript.{ScriptGoes}
 
@@ -26,7 +25,7 @@ commands_of (Some (ask.Command command) ∷ later) = command ∷ commands_of lat
 commands_of (Some (ask.List its_list) ∷ later) = commands_of later
 
 -- The answers of lines whose commands are given these replies, and whose lists these answers, in order.
-abbrev pub texts_of : List (Option Ask) → List Reply → List (List ℕ × List Refusal) → List (List ℕ)
+abbrev pub texts_of : List (Option Ask) → List Reply → List (List ℕ × Told) → List (List ℕ)
 texts_of [] replies lists = []
 texts_of (None ∷ later) replies lists = unread_text ∷ texts_of later replies lists
 texts_of (Some (ask.Command command) ∷ later) [] lists = []
@@ -34,39 +33,41 @@ texts_of (Some (ask.Command command) ∷ later) (reply ∷ replies) lists = repl
 texts_of (Some (ask.List its_list) ∷ later) replies [] = []
 texts_of (Some (ask.List its_list) ∷ later) replies (answer ∷ lists) = answer.0 ∷ texts_of later replies lists
 
--- The failures that the books counted where these are the replies and the lists' answers, in order.
-abbrev pub failed_of : List (Option Ask) → List Reply → List (List ℕ × List Refusal) → List Refusal
-failed_of [] replies lists = []
-failed_of (None ∷ later) replies lists = failed_of later replies lists
-failed_of (Some (ask.Command command) ∷ later) [] lists = []
-failed_of (Some (ask.Command command) ∷ later) (reply ∷ replies) lists =
-    counted_in reply (copies command) ++ failed_of later replies lists
-failed_of (Some (ask.List its_list) ∷ later) replies [] = []
-failed_of (Some (ask.List its_list) ∷ later) replies (answer ∷ lists) = answer.1 ++ failed_of later replies lists
+-- What the calls told where these are the replies and the lists' answers, in order.
+abbrev pub ToldIn : List (Option Ask) → List Reply → List (List ℕ × Told) → Told → Type 0
+ToldIn [] replies lists told = told ≡ []
+ToldIn (None ∷ later) replies lists told = ToldIn later replies lists told
+ToldIn (Some (ask.Command command) ∷ later) [] lists told = told ≡ []
+ToldIn (Some (ask.Command command) ∷ later) (reply ∷ replies) lists told =
+    (first more : Told) × CommandTold command reply first × ToldIn later replies lists more × (told ≡ first ++ more)
+ToldIn (Some (ask.List its_list) ∷ later) replies [] told = told ≡ []
+ToldIn (Some (ask.List its_list) ∷ later) replies (answer ∷ lists) told =
+    (more : Told) × ToldIn later replies lists more × (told ≡ answer.1 ++ more)
 
--- The commands of lines are a run, and the answers and the failures are those of its replies and of the lists' answers.
-abbrev pub LinesRun : History → Stream → List (List ℕ) → List (List ℕ) → List Refusal → History → Stream → Type 0
-LinesRun h s lines texts failed h' s' =
-    (replies : List Reply) × (lists : List (List ℕ × List Refusal))
+-- The commands of lines are a run, and the answers and what was told are those of its replies and of the lists' answers.
+abbrev pub LinesRun : History → Stream → List (List ℕ) → List (List ℕ) → Told → History → Stream → Type 0
+LinesRun h s lines texts told h' s' =
+    (replies : List Reply) × (lists : List (List ℕ × Told))
     × Runs h s (commands_of (map ask_in lines)) replies h' s'
-    × (texts ≡ texts_of (map ask_in lines) replies lists) × (failed ≡ failed_of (map ask_in lines) replies lists)
+    × (texts ≡ texts_of (map ask_in lines) replies lists) × ToldIn (map ask_in lines) replies lists told
 
 -- The lines of a script are a run of their commands, whatever test of the texts says which lists are surely answered.
 abbrev pub ScriptsRun : Type 0
 ScriptsRun =
-    (sure : List ℕ → Bool) (h h' : History) (s s' : Stream) (lines texts : List (List ℕ)) (failed : List Refusal)
-    → ScriptGoes (λ text. sure text ≡ true) h s lines texts failed h' s' → LinesRun h s lines texts failed h' s'
+    (sure : List ℕ → Bool) (h h' : History) (s s' : Stream) (lines texts : List (List ℕ)) (told : Told)
+    → ScriptGoes (λ text. sure text ≡ true) h s lines texts told h' s' → LinesRun h s lines texts told h' s'
 
--- Where a line asks for a list, the lines before it are a run to some history, the list is answered over that history
--- where that is sure, and the lines after it are a run from there.
+-- Where a line asks for a list, the lines before it are a run to some history, the list that is answered is that
+-- history's where that is sure, and the lines after it are a run from there.
 abbrev pub ListsBetween : Type 0
 ListsBetween = (sure : List ℕ → Bool) (h h' : History) (s s' : Stream) (before later : List (List ℕ)) (line : List ℕ)
-    (its_list : ListAsk) (texts : List (List ℕ)) (failed : List Refusal)
-    → ScriptGoes (λ text. sure text ≡ true) h s (before ++ line ∷ later) texts failed h' s'
+    (its_list : ListAsk) (texts : List (List ℕ)) (told : Told)
+    → ScriptGoes (λ text. sure text ≡ true) h s (before ++ line ∷ later) texts told h' s'
     → ask_in line ≡ Some (ask.List its_list)
     → (mid : History) × (source : Stream) × (first : List (List ℕ)) × (text : List ℕ) × (rest : List (List ℕ))
-    × (failed_first failed_text failed_rest : List Refusal)
-    × LinesRun h s before first failed_first mid source
-    × (sure text ≡ true → AnswersList (listing_over mid its_list) text failed_text)
-    × LinesRun mid source later rest failed_rest h' s'
-    × (texts ≡ first ++ text ∷ rest) × (failed ≡ failed_first ++ failed_text ++ failed_rest)
+    × (told_first told_text told_rest : Told)
+    × LinesRun h s before first told_first mid source
+    × (listing : Option Listing) × AnswersList listing text told_text
+    × (sure text ≡ true → listing ≡ listing_over mid its_list)
+    × LinesRun mid source later rest told_rest h' s'
+    × (texts ≡ first ++ text ∷ rest) × (told ≡ told_first ++ told_text ++ told_rest)

@@ -1,17 +1,17 @@
 -- A script: its answered lines, one after the other.
-use Rattle.std.specs.Prelude.{◌≡◌, ◌≤◌, ℕ, false, length, take, List, [], ◌∷◌, ◌++◌, Option, IfSome, Result, Ok}
+use Rattle.std.specs.Prelude.{◌≡◌, ◌≤◌, ◌<◌, ℕ, length, take, List, [], ◌∷◌, ◌++◌, Option, IfSome, Result, Ok}
 use Rattle.std.specs.Prelude.{Err, ⊤}
 use Rattle.std.specs.List.{concat}
 use Rattle.std.specs.Io.KnownBytes.{Appends}
 use Rattle.rand_core.specs.Stream.{Stream}
-use Rattle.keycard_rules.specs.declared.issued.Issued.{Ghosts as IssuedOf}
-use Rattle.hotel_core.specs.Books.Happens.{Call, HappensBy, Told}
-use Rattle.hotel_core.specs.Books.Passes.{Passes}
-use Rattle.hotel_model.specs.declared.reply.Refusal.{Refusal}
+use Rattle.keycard_rules.specs.{declared.kept.Kept.Ghosts as KeptOf, Calls.Passes}
+use Rattle.keycard_rules.specs.Calls.{Told}
+use Rattle.hotel_core.specs.Books.Happens.{HappensBy}
+use Rattle.hotel_lists.specs.declared.calls.WriteFailed.{WriteFailed}
 use Rattle.hotel_model.specs.History.{History}
 use Rattle.hotel_model.specs.Rows.{Rows}
 use Rattle.hotel_program.specs.Script.Asks.{ask_in}
-use Rattle.hotel_program.specs.Script.LineAnswers.{LineGoes, Sure, answered_to, asked_for}
+use Rattle.hotel_program.specs.Script.{LineAnswers.AskEnds, LineAnswers.LineGoes, LineAnswers.Sure, Lines.answered_lines}
 use Rattle.hotel_program.specs.declared.script.TheConstants.{SCRIPT_LIMIT}
 use Rattle.hotel_program.specs.declared.script.ScriptEnd.{ScriptEnd}
 use Rattle.hotel_program.specs.declared.script.ScriptFault.{ScriptFault}
@@ -19,73 +19,63 @@ use Rattle.hotel_program.specs.declared.script.ScriptFault.TheVariants.{Read, To
 use Rattle.hotel_lists.specs.declared.bytes.WholeFault.{WholeFault}
 use Rattle.hotel_lists.specs.declared.bytes.WholeFault.TheVariants as whole
 
--- The lines go in their order, each with its answer; the failures are theirs, in order.
-unfoldable pub ScriptGoes : (List ℕ → Type 0) → History → Stream → List (List ℕ) → List (List ℕ) → List Refusal
+-- The lines go in their order, each with its answer; what their calls told is theirs, in order.
+unfoldable pub ScriptGoes : (List ℕ → Type 0) → History → Stream → List (List ℕ) → List (List ℕ) → Told
     → History → Stream → Type 0
-ScriptGoes sure h s [] [] failed h' s' = (failed ≡ []) × (h' ≡ h) × (s' ≡ s)
-ScriptGoes sure h s (line ∷ later) (text ∷ texts) failed h' s' =
-    (mid : History) × (source : Stream) × (first : List Refusal) × (more : List Refusal)
+ScriptGoes sure h s [] [] told h' s' = (told ≡ []) × (h' ≡ h) × (s' ≡ s)
+ScriptGoes sure h s (line ∷ later) (text ∷ texts) told h' s' =
+    (mid : History) × (source : Stream) × (first : Told) × (more : Told)
     × LineGoes sure h s line text first mid source × ScriptGoes sure mid source later texts more h' s'
-    × (failed ≡ first ++ more)
-ScriptGoes sure h s [] (text ∷ texts) failed h' s' = ⊥
-ScriptGoes sure h s (line ∷ later) [] failed h' s' = ⊥
+    × (told ≡ first ++ more)
+ScriptGoes sure h s [] (text ∷ texts) told h' s' = ⊥
+ScriptGoes sure h s (line ∷ later) [] told h' s' = ⊥
 
--- what the books were asked for lines with these answers, in order; for a line without an answer they were asked once
--- or not at all
-unfoldable pub answers_to : List (List ℕ) → List (List ℕ) → List Call
-answers_to (line ∷ lines) (text ∷ texts) = answered_to (ask_in line) text ++ answers_to lines texts
-answers_to [] texts = []
-answers_to (line ∷ lines) [] = asked_for (ask_in line) false ++ answers_to lines []
-
--- Lines were answered: they went, their answers were written whole, and this is told of their failures and of what the
--- books were asked.
+-- Lines were answered: they went, and their answers were written whole.
 abbrev pub ScriptAnswered : List (List ℕ) → Stream → Stream → Option (List ℕ) → Option (List ℕ) → Type 0
     → Told → History → History → Type 0
 ScriptAnswered lines s s' old new kept told h h' =
-    (texts : List (List ℕ)) × (failed : List Refusal) × ScriptGoes (Sure kept) h s lines texts failed h' s'
-    × Appends old new (concat texts) × told failed (answers_to lines texts)
+    (texts : List (List ℕ)) × ScriptGoes (Sure kept) h s lines texts told h' s' × Appends old new (concat texts)
 
 -- Lines were cut short at the last one: they went, and their answers were written whole, but for the last one, of which
 -- a front was written, and which vouches for nothing.
 abbrev pub ScriptCut : List (List ℕ) → Stream → Stream → Option (List ℕ) → Option (List ℕ) → Type 0
     → Told → History → History → Type 0
 ScriptCut lines s s' old new kept told h h' =
-    (texts : List (List ℕ)) × (last : List ℕ) × (failed : List Refusal)
-    × ScriptGoes (λ text. kept) h s lines (texts ++ last ∷ []) failed h' s'
+    (texts : List (List ℕ)) × (last : List ℕ) × ScriptGoes (λ text. kept) h s lines (texts ++ last ∷ []) told h' s'
     × (n : ℕ) × (n ≤ length last) × Appends old new (concat texts ++ take n last)
-    × told failed (answers_to lines texts)
 
--- A line was answered, by books, a source of words and a writer.
-abbrev pub LineHappens : {S R W : Type 0} → IssuedOf S → (S → Rows) → (R → Stream) → (W → Option (List ℕ)) → S × R × W
+-- A line was carried out, by books, a source of words and a writer, and its answer was written so.
+abbrev pub LineEnds : {S R W : Type 0} → KeptOf S → (S → Rows) → (R → Stream) → (W → Option (List ℕ))
+    → Result (Unit {0}) WriteFailed → S × R × W → List ℕ → S × R × W → Type 0
+LineEnds K rows stream contents written old line new = HappensBy K rows old.0 (AskEnds (ask_in line) (stream old.1)
+    (stream new.1) (contents old.2) (contents new.2) written (K.is_clean old.0)) new.0
+
+-- A line was answered.
+abbrev pub LineHappens : {S R W : Type 0} → KeptOf S → (S → Rows) → (R → Stream) → (W → Option (List ℕ)) → S × R × W
     → List ℕ → S × R × W → Type 0
-LineHappens I rows stream contents old line new =
-    HappensBy I rows old.0 (ScriptAnswered (line ∷ []) (stream old.1) (stream new.1) (contents old.2) (contents new.2))
-    new.0
+LineHappens K rows stream contents old line new = LineEnds K rows stream contents (Ok tt) old line new
 
--- Lines were answered, by books, a source of words and a writer: they went over the books with their answers, and each
--- was answered in the state that the one before it left.
-pub record LinesAnswered {S R W : Type 0} (I : IssuedOf S) (rows : S → Rows) (stream : R → Stream)
-    (contents : W → Option (List ℕ)) (old : S × R × W) (lines : List (List ℕ)) (new : S × R × W) : Type 0 where
-  pub went : HappensBy I rows old.0 (ScriptAnswered lines (stream old.1) (stream new.1) (contents old.2)
-      (contents new.2)) new.0
-  pub through : Passes (LineHappens I rows stream contents) old lines new
+-- Lines were answered, each in the state that the one before it left.
+abbrev pub LinesAnswered : {S R W : Type 0} → KeptOf S → (S → Rows) → (R → Stream) → (W → Option (List ℕ))
+    → S × R × W → List (List ℕ) → S × R × W → Type 0
+LinesAnswered K rows stream contents old lines new = Passes (LineHappens K rows stream contents) old lines new
 
 -- Those before the last one were answered, each in its turn, and then of the last one's answer a front was written.
-abbrev pub PassesToCut : {S R W : Type 0} → IssuedOf S → (S → Rows) → (R → Stream) → (W → Option (List ℕ)) → S × R × W
+abbrev pub LinesCut : {S R W : Type 0} → KeptOf S → (S → Rows) → (R → Stream) → (W → Option (List ℕ)) → S × R × W
     → List (List ℕ) → S × R × W → Type 0
-PassesToCut {S = S} {R = R} {W = W} I rows stream contents old lines new = (before : List (List ℕ)) × (last : List ℕ)
-    × (lines ≡ before ++ last ∷ [])
-    × (mid : S × R × W) × Passes (LineHappens I rows stream contents) old before mid
-    × HappensBy I rows mid.0 (ScriptCut (last ∷ []) (stream mid.1) (stream new.1) (contents mid.2) (contents new.2))
-    new.0
+LinesCut {S = S} {R = R} {W = W} K rows stream contents old lines new = (before : List (List ℕ)) × (last : List ℕ)
+    × (lines ≡ before ++ last ∷ []) × (mid : S × R × W) × LinesAnswered K rows stream contents old before mid
+    × (failed : WriteFailed) × LineEnds K rows stream contents (Err failed) mid last new
 
--- Lines were cut short at the last one: they went over the books with their answers, and each was carried out in the
--- state that the one before it left.
-pub record LinesCut {S R W : Type 0} (I : IssuedOf S) (rows : S → Rows) (stream : R → Stream)
-    (contents : W → Option (List ℕ)) (old : S × R × W) (lines : List (List ℕ)) (new : S × R × W) : Type 0 where
-  pub went : HappensBy I rows old.0 (ScriptCut lines (stream old.1) (stream new.1) (contents old.2) (contents new.2))
-      new.0
-  pub through : PassesToCut I rows stream contents old lines new
+-- So they went over the books with their answers.
+pub record ScriptsHappen {S R W : Type 0} (K : KeptOf S) (rows : S → Rows) (stream : R → Stream)
+    (contents : W → Option (List ℕ)) : Type 0 where
+  pub answered : (old new : S × R × W) (lines : List (List ℕ)) → LinesAnswered K rows stream contents old lines new
+      → HappensBy K rows old.0 (ScriptAnswered lines (stream old.1) (stream new.1) (contents old.2) (contents new.2)
+      (K.is_clean new.0)) new.0
+  pub cut : (old new : S × R × W) (lines : List (List ℕ)) → LinesCut K rows stream contents old lines new
+      → HappensBy K rows old.0 (ScriptCut lines (stream old.1) (stream new.1) (contents old.2) (contents new.2)
+      (K.is_clean new.0)) new.0
 
 -- The script is what the reader had, where its bytes are known, and no more than a script may have.
 abbrev pub IsInput : Option (List ℕ) → List ℕ → Type 0
@@ -102,9 +92,19 @@ IfUnbegun (Ok end) P = ⊤
 IfUnbegun (Err (Write done)) P = ⊤
 IfUnbegun (Err fault) P = P
 
--- The books, the source and the writer are as they were.
-abbrev pub NothingBegun : {B R W : Type 0} → B → B → R → R → W → W → Type 0
-NothingBegun books books' source source' writer writer' = (books' ≡ books) × (source' ≡ source) × (writer' ≡ writer)
+-- A script ended so, of which these bytes are known: its lines were answered; or the answer of one was cut short, the
+-- last of those that were carried out; or it wasn't read whole, and nothing was begun.
+abbrev pub ScriptRan : {S R W : Type 0} → KeptOf S → (S → Rows) → (R → Stream) → (W → Option (List ℕ))
+    → Option (List ℕ) → S × R × W → Result ScriptEnd ScriptFault → S × R × W → Type 0
+ScriptRan K rows stream contents known old (Ok end) new = (script : List ℕ) × IsInput known script
+    × (end.lines ≡ length (answered_lines script))
+    × LinesAnswered K rows stream contents old (answered_lines script) new
+ScriptRan K rows stream contents known old (Err (Write done)) new = (script : List ℕ) × IsInput known script
+    × (1 ≤ done) × (done ≤ length (answered_lines script))
+    × LinesCut K rows stream contents old (take done (answered_lines script)) new
+ScriptRan K rows stream contents known old (Err TooLarge) new =
+    (new ≡ old) × IfSome known (λ input. SCRIPT_LIMIT < length input)
+ScriptRan K rows stream contents known old (Err why) new = new ≡ old
 
 -- The fault of a script that was not read whole.
 abbrev pub fault_of : WholeFault → ScriptFault

@@ -6,12 +6,13 @@ ghost use Rattle.hotel_audit.specs.declared.answer.LineAnswer.{LineAnswer};
 ghost use Rattle.hotel_audit.specs.declared.imports.ImportFault.{ImportFault};
 ghost use Rattle.hotel_program.specs.Faults.{end_status, IsOfFiles, Tells};
 ghost use Rattle.hotel_program.specs.Alone.AuditRuns.{answers_status, file_fault, import_fault, audit_end};
-ghost use Rattle.hotel_program.specs.Alone.AuditRuns.{WritesAnswers, ImportEnds};
+ghost use Rattle.hotel_program.specs.Alone.AuditRuns.{WritesAnswers};
+ghost use Rattle.hotel_audit.specs.{AuditFile.audit_lines, Import.Imports};
 
 use crate::faults::{Fault, FaultSink, finish};
 use crate::statuses::{DONE, REFUSED};
 use hotel_audit::{AuditFault, ImportFault, LineAnswer, import, write_answers};
-use hotel_core::Desk;
+use hotel_core::Books;
 use hotel_lists::{IoCalls, WriteFailed};
 use keycard_rules::LookFault;
 use std::alloc::Global;
@@ -63,7 +64,7 @@ fn import_fault(fault: ImportFault) -> Fault
 
 /// Imports an audit file and writes the texts of its answers. It answers the exit status, or the
 /// fault that came instead.
-fn import_and_write<B: Desk, W: Write>(
+fn import_and_write<B: Books, W: Write>(
     alloc: Global,
     bytes: &[u8],
     books: &mut B,
@@ -73,7 +74,7 @@ fn import_and_write<B: Desk, W: Write>(
     ensures ends { (outcome : Result (List LineAnswer) ImportFault) × (write_failed : Bool)
         × (result ≡ audit_end outcome write_failed)
         × WritesAnswers W.contents writer.old writer.new outcome write_failed
-        × ImportEnds B.Issued B.rows bytes.now books.old books.new outcome }
+        × Imports B.Kept B.rows (audit_lines bytes.now) books.old books.new outcome }
     ensures no_usage { end_status result ≢ 2 }
     ensures calls { CountsWrites calls.old calls.new (OnErrOf result Fault.Write) }
 {
@@ -90,7 +91,7 @@ fn import_and_write<B: Desk, W: Write>(
 
 /// Imports an audit file: writes the answers to its lines, and tells the fault that came instead. It
 /// answers the exit status. The interrupted writes of the call are counted together, on both writers.
-pub fn run_audit<B: Desk, W: Write, F: FaultSink>(
+pub fn run_audit<B: Books, W: Write, F: FaultSink>(
     alloc: Global,
     bytes: &[u8],
     books: &mut B,
@@ -101,7 +102,7 @@ pub fn run_audit<B: Desk, W: Write, F: FaultSink>(
         × (result ≡ end_status (audit_end outcome write_failed))
         × Tells F.told faults.old (audit_end outcome write_failed) faults.new
         × WritesAnswers W.contents writer.old writer.new outcome write_failed
-        × ImportEnds B.Issued B.rows bytes.now books.old books.new outcome }
+        × Imports B.Kept B.rows (audit_lines bytes.now) books.old books.new outcome }
     ensures no_usage { result ≢ 2 }
 {
     let mut calls = IoCalls::none();

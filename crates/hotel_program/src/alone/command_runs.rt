@@ -3,20 +3,21 @@
 ghost use Rattle.std.specs.Prelude.{◌≡◌, ◌≢◌, Bool};
 ghost use Rattle.hotel_model.specs.declared.reply.Reply.{Reply};
 ghost use Rattle.hotel_lists.specs.Calls.{CountsWrites, OnErrOf};
-ghost use Rattle.hotel_program.specs.Alone.CommandRuns.{command_end, CommandEnds, WritesReply};
+ghost use Rattle.hotel_program.specs.Alone.CommandRuns.{command_end, WritesReply};
+ghost use Rattle.hotel_core.specs.Books.Stepped.{Stepped};
 ghost use Rattle.hotel_program.specs.Faults.{end_status, Tells};
 ghost use Rattle.hotel_program.specs.declared.faults.Fault.{Fault};
 
 use crate::faults::{Fault, FaultSink, finish};
 use crate::statuses::status_of;
-use hotel_core::{Command, Desk, reply_text};
+use hotel_core::{Books, Command, reply_text, step};
 use hotel_lists::{IoCalls, WriteFailed, write_bytes};
 use rand_core::Rng;
 use std::io::Write;
 
 /// Carries out a command and writes its reply. It answers the exit status, or the fault that came
 /// instead.
-fn step_and_write<B: Desk, R: Rng, W: Write>(
+fn step_and_write<B: Books, R: Rng, W: Write>(
     command: &Command,
     books: &mut B,
     source: &mut R,
@@ -25,12 +26,12 @@ fn step_and_write<B: Desk, R: Rng, W: Write>(
 ) -> Result<u8, Fault>
     ensures ends { (reply : Reply) × (write_failed : Bool) × (result ≡ command_end reply write_failed)
         × WritesReply (W.contents writer.old) (W.contents writer.new) reply write_failed
-        × CommandEnds B.Issued B.rows command.now reply books.old books.new (R.stream source.old)
-        (R.stream source.new) }
+        × Stepped B.Kept B.rows (books.old, R.stream source.old) (command.now, reply)
+        (books.new, R.stream source.new) }
     ensures no_usage { end_status result ≢ 2 }
     ensures calls { CountsWrites calls.old calls.new (OnErrOf result Fault.Write) }
 {
-    let reply = books.step(source, command);
+    let reply = step(books, source, command);
     match write_bytes(writer, reply_text(&reply).as_bytes(), calls) {
         Ok(()) => Ok(status_of(&reply)),
         Err(WriteFailed) => Err(Fault::Write),
@@ -40,7 +41,7 @@ fn step_and_write<B: Desk, R: Rng, W: Write>(
 /// Carries out a command and writes its reply, and tells the fault that came instead. It answers the
 /// exit status: 0, 3 where the command was refused, 4 where memory or the store failed, 5 where the
 /// reply couldn't be written. A command that was accepted stands also then.
-pub fn run_one<B: Desk, R: Rng, W: Write, F: FaultSink>(
+pub fn run_one<B: Books, R: Rng, W: Write, F: FaultSink>(
     command: &Command,
     books: &mut B,
     source: &mut R,
@@ -50,8 +51,8 @@ pub fn run_one<B: Desk, R: Rng, W: Write, F: FaultSink>(
     ensures ends { (reply : Reply) × (write_failed : Bool) × (result ≡ end_status (command_end reply write_failed))
         × Tells F.told faults.old (command_end reply write_failed) faults.new
         × WritesReply (W.contents writer.old) (W.contents writer.new) reply write_failed
-        × CommandEnds B.Issued B.rows command.now reply books.old books.new (R.stream source.old)
-        (R.stream source.new) }
+        × Stepped B.Kept B.rows (books.old, R.stream source.old) (command.now, reply)
+        (books.new, R.stream source.new) }
     ensures no_usage { result ≢ 2 }
 {
     let mut calls = IoCalls::none();

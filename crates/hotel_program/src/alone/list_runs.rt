@@ -1,10 +1,8 @@
 //! A list that is asked for alone: its text on one writer, and what went wrong on another.
 
 ghost use Rattle.std.specs.Prelude.{◌≡◌, ◌≢◌, Result};
-ghost use Rattle.hotel_core.specs.Books.Happens.{IsOneCall};
-ghost use Rattle.hotel_core.specs.declared.asks.Ask.TheVariants as ask;
 ghost use Rattle.hotel_lists.specs.Calls.{CountsWrites, OnErrOf};
-ghost use Rattle.hotel_lists.specs.Lines.{LooksAt, is_answer};
+ghost use Rattle.hotel_lists.specs.Lines.{LooksAt};
 ghost use Rattle.hotel_lists.specs.declared.fault.ListFault.{ListFault};
 ghost use Rattle.hotel_program.specs.Faults.{end_status, Tells};
 ghost use Rattle.hotel_program.specs.Alone.ListRuns.{AnswerEnds, AnswerEndsFor, list_end};
@@ -12,14 +10,14 @@ ghost use Rattle.hotel_asks.specs.Listings.{listing_on};
 
 use crate::faults::{Fault, FaultSink, finish};
 use crate::statuses::{DONE, REFUSED};
-use hotel_asks::{ListAsk, ListDesk};
-use hotel_core::{Refusal, Reply, reply_text};
+use hotel_asks::{ListAsk, write_list};
+use hotel_core::{Refusal, Reply, Walks, reply_text};
 use hotel_lists::{IoCalls, ListFault, write_bytes};
 use std::alloc::Global;
 use std::io::Write;
 
 /// Writes a list's text; or, where the room isn't there, the line that says so.
-fn write_list_or_refusal<W: Write, B: ListDesk>(
+fn write_list_or_refusal<W: Write, B: Walks>(
     alloc: Global,
     list: &ListAsk,
     writer: &mut W,
@@ -28,11 +26,10 @@ fn write_list_or_refusal<W: Write, B: ListDesk>(
 ) -> Result<(), ListFault>
     ensures text { B.is_honest books.new → AnswerEnds (listing_on (B.rows books.old) list.now) (W.contents writer.old)
         (W.contents writer.new) result }
-    ensures books { LooksAt B.Issued books.old books.new result }
-    ensures asked { IsOneCall B.Issued books.old (ask.List list.now, is_answer result) books.new }
+    ensures books { LooksAt B.Kept books.old books.new result }
     ensures calls { CountsWrites calls.old calls.new (OnErrOf result ListFault.Write) }
 {
-    match books.write_list(alloc, list, writer, calls) {
+    match write_list(alloc, list, writer, books, calls) {
         Err(ListFault::NoRoom) => {
             let refused = reply_text(&Reply::Refused(Refusal::NoRoom));
             write_bytes(writer, refused.as_bytes(), calls)?;
@@ -59,7 +56,7 @@ fn end_of_list(end: Result<(), ListFault>) -> Result<u8, Fault>
 /// Answers a list: writes its text, or the line that its room isn't there, and tells the fault that
 /// came instead. It answers the exit status. The interrupted writes of the call are counted together,
 /// on both writers.
-pub fn run_list<B: ListDesk, W: Write, F: FaultSink>(
+pub fn run_list<B: Walks, W: Write, F: FaultSink>(
     alloc: Global,
     list: &ListAsk,
     books: &mut B,
@@ -70,8 +67,7 @@ pub fn run_list<B: ListDesk, W: Write, F: FaultSink>(
         × Tells F.told faults.old (list_end end) faults.new
         × (B.is_honest books.new → AnswerEndsFor (B.rows books.old) list.now (W.contents writer.old)
         (W.contents writer.new) end)
-        × LooksAt B.Issued books.old books.new end
-        × IsOneCall B.Issued books.old (ask.List list.now, is_answer end) books.new }
+        × LooksAt B.Kept books.old books.new end }
     ensures no_usage { result ≢ 2 }
 {
     let mut calls = IoCalls::none();

@@ -6,7 +6,7 @@ ghost use Rattle.clap.specs.declared.builder.Command.TheViews.{out-Command as fi
 ghost use Rattle.hotel_asks.specs.Verbs.{texts};
 ghost use Rattle.hotel_program.specs.CommandLine.{leaf, verb_leaf, options, desk};
 
-use super::help::{about_value, about_verb};
+use super::help::{VERSION, about_value, about_verb};
 use clap::{Arg, Command};
 use hotel_asks::{VERBS, ValueName, Verb};
 use std::alloc::{AllocError, Global};
@@ -24,7 +24,7 @@ fn with_values<'a>(
     let mut command = Command::new(alloc, name).about(about);
     for value in values {
         let arg = Arg::new(alloc, value.text())
-            .help(about_value(*value))
+            .help(about_value(name, *value))
             .required(true);
         command = command.arg(arg)?;
     }
@@ -36,13 +36,18 @@ fn with_options<'a>(alloc: Global) -> Result<Command<'a>, AllocError>
     ensures shape { IfOk result (λ c. app_of c ≡ options) }
     ensures globals { IfOk result (λ c. (fields_of c).has_globals ≡ false) }
 {
-    let database = Arg::new(alloc, "db").long("db").help(
+    let database = Arg::new(alloc, "db").long("db").value_name("FILE").help(
         "the file with the books, made where it is missing; without it they are kept in memory",
     );
-    let seed_file = Arg::new(alloc, "seed-file").long("seed-file").help(
-        "for tests: a file of 32 bytes from which codes are drawn, the same codes in each run",
-    );
+    let seed_file = Arg::new(alloc, "seed-file")
+        .long("seed-file")
+        .value_name("FILE")
+        .help(
+            "for tests: a file of 32 bytes from which codes are drawn, the same codes in each run",
+        );
     Command::new(alloc, "hotel_desk")
+        .bin_name("hotel_desk")?
+        .version(VERSION)
         .about(
             "The front desk of a hotel whose locks stand alone. Without words it carries out a script over memory.",
         )

@@ -1,6 +1,9 @@
-//! What help says of each subcommand and value.
+//! What help says of each subcommand and value, and the version.
 
 use hotel_asks::{ValueName, Verb};
+
+/// The program's version, which `--version` answers behind its name.
+pub const VERSION: &str = "1";
 
 /// What a verb does, in a line, with an example.
 pub fn about_verb<'a>(verb: Verb) -> &'a str {
@@ -30,12 +33,12 @@ pub fn about_verb<'a>(verb: Verb) -> &'a str {
     }
 }
 
-/// What a value is, and its range.
-pub fn about_value<'a>(name: ValueName) -> &'a str {
+/// What a value of a subcommand is, its form, and its range.
+pub fn about_value<'a>(subcommand: &str, name: ValueName) -> &'a str {
     match name {
-        ValueName::Day => "a day, 2000-01-01 to 2099-12-31",
+        ValueName::Day => "a day, YYYY-MM-DD: 2000-01-01 to 2099-12-31",
         ValueName::Kind => "a kind of rooms: 1 to 8 of A to Z and 0 to 9",
-        ValueName::Arrive => "the day of arrival, 2000-01-01 to 2099-12-31",
+        ValueName::Arrive => "the day of arrival, YYYY-MM-DD: 2000-01-01 to 2099-12-31",
         ValueName::Nights => "how many nights, 1 to 90",
         ValueName::Guest =>
             "the guest's name: 1 to 60 bytes of UTF-8, no control character, no space at either end",
@@ -44,13 +47,14 @@ pub fn about_value<'a>(name: ValueName) -> &'a str {
             "a room's lock: its room's number, for a later lock with / and its own number, 1 to 99: 101/2",
         ValueName::Party => "a party's number, 1 to 9999999",
         ValueName::Card => "a card's number, 1 to 9999999",
-        ValueName::Count =>
-            "a number: a lock's count, 1 to 9999999; of serve, how many connections, 1 to 1000000",
+        ValueName::Count if subcommand == "serve" => "how many connections, 1 to 1000000",
+        ValueName::Count => "the lock's count, 1 to 9999999",
         ValueName::Old => "the card's old code: 1 to 12 hexadecimal digits",
         ValueName::New => "the card's new code: 1 to 12 hexadecimal digits",
         ValueName::From => "the code that the lock held: 1 to 12 hexadecimal digits",
         ValueName::To => "the code that the lock took: 1 to 12 hexadecimal digits",
-        ValueName::Moment => "a moment: 2031-05-01T15:00:00",
+        ValueName::Moment =>
+            "a moment, YYYY-MM-DDTHH:MM:SS: 2000-01-01T00:00:00 to 2099-12-31T23:59:59",
         ValueName::File => "an audit file",
         ValueName::Port => "a port of 127.0.0.1, 1 to 65535",
     }

@@ -1,12 +1,12 @@
 //! From words to a plan.
 
-ghost use Rattle.std.specs.Prelude.{◌≡◌, ◌<◌, ◌^◌, Some, None, Ok, IfOk, IfErr, codes, option_map};
-ghost use Rattle.std.specs.Prelude.{string_bytes, map, true};
+ghost use Rattle.std.specs.Prelude.{◌≡◌, ◌<◌, ◌^◌, Some, Ok, IfOk, IfErr, codes, option_map};
+ghost use Rattle.std.specs.Prelude.{string_bytes, map, true, []};
 ghost use Rattle.clap.specs.Words.{first_of, found_of, has_subcommand, rows_of, subcommand_rows_of, subcommand_of};
-ghost use Rattle.clap.specs.Words.{matches_of, takes, kind_of};
+ghost use Rattle.clap.specs.Words.{fault_of, matches_of, kind_of};
 ghost use Rattle.hotel_program.specs.CommandLine.{desk};
 ghost use Rattle.hotel_program.specs.Plans.{text_in, texts_in, number_in, verb_act, serve_act, own_act, act_of, act_in};
-ghost use Rattle.hotel_program.specs.Plans.{IsRead, IsRefusalOf, IsValueOrMemory, refused_value};
+ghost use Rattle.hotel_program.specs.Plans.{IsOf, IsRead, IsRefusalOf, IsToldBy, IsValueOrMemory};
 
 use super::command::desk_command;
 use super::plan::{DeskAct, FileName, Plan, UsageFault};
@@ -135,23 +135,17 @@ fn option(alloc: Global, matches: &ArgMatches, id: &str) -> Result<Option<FileNa
     }
 }
 
-/// The text of a fault of the words: help that was asked for, or what is wrong with them.
+/// The text of a fault of the words: help or the version that was asked for, or what is wrong with them.
 fn usage_fault(alloc: Global, error: &Error) -> UsageFault
-    ensures memory { kind_of error.now ≡ ErrorKind.OutOfMemory → result ≡ UsageFault.Memory }
-    ensures unnamed { refused_value result ≡ None }
+    ensures kind { IsOf (kind_of error.now) result }
 {
-    if matches!(error.kind(), ErrorKind::OutOfMemory) {
+    let Ok(text) = error.to_string(alloc) else {
         return UsageFault::Memory;
-    }
-    match error.to_string(alloc) {
-        Err(_) => UsageFault::Memory,
-        Ok(text) => {
-            if error.use_stderr() {
-                UsageFault::Usage(text)
-            } else {
-                UsageFault::Shown(text)
-            }
-        }
+    };
+    match error.kind() {
+        ErrorKind::OutOfMemory => UsageFault::Memory,
+        ErrorKind::DisplayHelp | ErrorKind::DisplayVersion => UsageFault::Shown(text),
+        _ => UsageFault::Usage(text),
     }
 }
 
@@ -174,15 +168,16 @@ fn plan(alloc: Global, matches: &ArgMatches) -> Result<Plan, UsageFault>
 }
 
 /// The meaning of the words after the program's name: what `clap` finds in them, its values read from left to right.
-/// Help that was asked
-/// for, and what `clap` says of words that it doesn't take, come as texts.
+/// Help or the version, where it was asked for, and what `clap` says of words in which its definition finds a fault,
+/// come as texts.
 pub fn parse_words(alloc: Global, words: &[String]) -> Result<Plan, UsageFault>
+    ensures clean { IfOk result (λ _. fault_of desk (map string_bytes words.now) ≡ []) }
     ensures act { IfOk result (λ p. act_in (subcommand_of desk (map string_bytes words.now)) ≡ Some (Ok p.act)) }
     ensures db { IfOk result (λ p. p.db ≡ first_of (codes "db") (matches_of desk (map string_bytes words.now))) }
     ensures seed { IfOk result (λ p. p.seed_file ≡ first_of (codes "seed-file")
         (matches_of desk (map string_bytes words.now))) }
     ensures value { IfErr result (IsRefusalOf (act_in (subcommand_of desk (map string_bytes words.now)))) }
-    ensures takes { takes desk (map string_bytes words.now) ≡ true → IfErr result IsValueOrMemory }
+    ensures told { IfErr result (IsToldBy (fault_of desk (map string_bytes words.now))) }
 {
     let Ok(command) = desk_command(alloc) else {
         return Err(UsageFault::Memory);

@@ -9,8 +9,8 @@ ghost use Rattle.hotel_program.specs.Script.{Asks.ask_in, LineAnswers.AskEnds, L
 
 use crate::script::asks::{LineFault, read_line};
 use crate::script::list_answers::answer_list;
-use hotel_asks::{Ask, ListDesk};
-use hotel_core::{Command, Refusal, Reply, reply_text};
+use hotel_asks::Ask;
+use hotel_core::{Books, Command, Refusal, Reply, Walks, reply_text, step};
 use hotel_lists::{IoCalls, WriteFailed, write_bytes};
 use rand_core::Rng;
 use std::alloc::Global;
@@ -41,26 +41,26 @@ fn write_answer<W: Write>(
 }
 
 /// Carries out a command and writes the reply.
-fn answer_command<W: Write, B: ListDesk, R: Rng>(
+fn answer_command<W: Write, B: Books, R: Rng>(
     command: &Command,
     writer: &mut W,
     books: &mut B,
     source: &mut R,
     calls: &mut IoCalls,
 ) -> Result<(), WriteFailed>
-    ensures went { HappensBy B.Issued B.rows books.old (AskEnds (Some (ask.Command command.now)) (R.stream source.old)
+    ensures went { HappensBy B.Kept B.rows books.old (AskEnds (Some (ask.Command command.now)) (R.stream source.old)
         (R.stream source.new)
-        (W.contents writer.old) (W.contents writer.new) result) books.new }
+        (W.contents writer.old) (W.contents writer.new) result (B.is_clean books.old)) books.new }
     ensures calls { CountsWrites calls.old calls.new (OnErr result) }
 {
-    let answer = ScriptAnswer::Replied(books.step(source, command));
+    let answer = ScriptAnswer::Replied(step(books, source, command));
     write_answer(writer, &answer, calls)
 }
 
 /// Reads a line, which is without its end, carries out its command, and writes the answer; of a list,
 /// the list itself. Where a growth of memory for the line is refused, nothing is done and the answer
 /// says so. After a fault the writer took a front of the answer.
-pub fn answer_line<W: Write, B: ListDesk, R: Rng>(
+pub fn answer_line<W: Write, B: Walks, R: Rng>(
     alloc: Global,
     line: &[u8],
     writer: &mut W,
@@ -68,9 +68,9 @@ pub fn answer_line<W: Write, B: ListDesk, R: Rng>(
     source: &mut R,
     calls: &mut IoCalls,
 ) -> Result<(), WriteFailed>
-    ensures went { HappensBy B.Issued B.rows books.old (AskEnds (ask_in line.now) (R.stream source.old)
+    ensures went { HappensBy B.Kept B.rows books.old (AskEnds (ask_in line.now) (R.stream source.old)
         (R.stream source.new)
-        (W.contents writer.old) (W.contents writer.new) result) books.new }
+        (W.contents writer.old) (W.contents writer.new) result (B.is_clean books.old)) books.new }
     ensures calls { CountsWrites calls.old calls.new (OnErr result) }
 {
     match read_line(alloc, line) {

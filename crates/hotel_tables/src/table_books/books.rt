@@ -1,14 +1,9 @@
 //! The look-ups and the changes, each counted where it fails.
-ghost use Rattle.std.specs.Prelude.{◌≡◌, IfErr, refl};
-ghost use Rattle.keycard_rules.specs.declared.issued.LookFault.TheVariants.{Store};
-ghost use Rattle.keycard_rules.specs.Rise.{HasRisen, NoFewer};
+ghost use Rattle.std.specs.Prelude.{refl};
 ghost use Rattle.sqlite.specs.Held.{state};
-ghost use Rattle.sqlite.specs.State.{HasCleanDisk};
 ghost use Rattle.hotel_statements.specs.Tables.{rows_in};
-ghost use Rattle.hotel_statements.specs.LookUps.{Looks};
 ghost use Rattle.hotel_tables.specs.Applied.{LeavesChange};
-ghost use Rattle.hotel_tables.specs.Causes.{ChangeFails, LookUpFails};
-ghost use Rattle.hotel_tables.specs.TableBooks.{failed};
+ghost use Rattle.hotel_tables.specs.Causes.{ChangeFails};
 
 use crate::table_books::TableBooks;
 use hotel_core::{Books, Change, CodeRow, FitRow, NextNumbers, RoomRow};
@@ -17,70 +12,57 @@ use hotel_statements::look_ups;
 use keycard_rules::{Card, CardNo, Code, Count, FitNo, LockNote, LookFault, PartyNo, RoomNo};
 use sqlite::Alter;
 
-impl<S: Alter> TableBooks<S> {
-    /// Asks the connection for the day, where it did not answer when it was last asked.
-    ///
-    /// It comes before each answer from memory: a connection that a failure shut answers nothing.
-    fn ask(&mut self) -> Result<(), LookFault>
-        ensures looks { Looks (λ a. a) (λ _. tt) (state S.Store self.old.conn) (state S.Store self.new.conn) result }
-        ensures cause { HasCleanDisk (state S.Store self.new.conn) → IfErr result (λ why. why ≡ Store
-            → LookUpFails (state S.Store self.old.conn) (state S.Store self.new.conn)) }
-        ensures counted { NoFewer (failed self.old) (failed self.new) }
-        ensures fault { IfErr result (λ why. HasRisen (failed self.old why) (failed self.new why)) }
-    {
-        if self.answers {
-            return Ok(());
-        }
-        let day = look_ups::day(self.alloc, &mut self.conn);
-        self.counting(day)?;
-        Ok(())
-    }
-}
-
 impl<S: Alter> Books for TableBooks<S> {
     ghost rows = { λ b. rows_in (state S.Store b.conn).now.trees };
 
-    ghost leaves_change = { λ change a b _. LeavesChange change (state S.Store a.conn) (state S.Store b.conn) };
+    ghost leaves_change = { λ change a b. LeavesChange change (state S.Store a.conn) (state S.Store b.conn) };
 
     ghost change_fails = { λ change a b. ChangeFails S.Store change a.conn b.conn };
 
     fn day(&mut self) -> Result<Option<Day>, LookFault> {
+        self.ask()?;
         self.answers = false;
         let day = look_ups::day(self.alloc, &mut self.conn);
         self.counting(day)
     }
 
     fn kind(&mut self, kind: &KindCode) -> Result<bool, LookFault> {
+        self.ask()?;
         self.answers = false;
         let there = look_ups::kind(self.alloc, &mut self.conn, kind);
         self.counting(there)
     }
 
     fn room(&mut self, room: RoomNo) -> Result<Option<RoomRow>, LookFault> {
+        self.ask()?;
         self.answers = false;
         let row = look_ups::room(self.alloc, &mut self.conn, room);
         self.counting(row)
     }
 
     fn code_place(&mut self, code: Code) -> Result<Option<CodeRow>, LookFault> {
+        self.ask()?;
         self.answers = false;
         let place = look_ups::code(self.alloc, &mut self.conn, code);
         self.counting(place)
     }
 
     fn code_at(&mut self, room: RoomNo, place: u32) -> Result<Option<Code>, LookFault> {
+        self.ask()?;
         self.answers = false;
         let code = look_ups::code_at(self.alloc, &mut self.conn, room, place);
         self.counting(code)
     }
 
     fn stay(&mut self, party: PartyNo) -> Result<Option<Stay>, LookFault> {
+        self.ask()?;
         self.answers = false;
         let stay = look_ups::stay(self.alloc, &mut self.conn, party);
         self.counting(stay)
     }
 
     fn stays_of_kind(&mut self, kind: &KindCode) -> Result<Vec<Stay>, LookFault> {
+        self.ask()?;
         self.answers = false;
         let stays = look_ups::stays_of_kind(self.alloc, &mut self.conn, kind);
         self.counting(stays)
@@ -107,24 +89,28 @@ impl<S: Alter> Books for TableBooks<S> {
     }
 
     fn card(&mut self, number: CardNo) -> Result<Option<Card>, LookFault> {
+        self.ask()?;
         self.answers = false;
         let card = look_ups::card(self.alloc, &mut self.conn, number);
         self.counting(card)
     }
 
     fn inside(&mut self, room: RoomNo) -> Result<Vec<CardNo>, LookFault> {
+        self.ask()?;
         self.answers = false;
         let numbers = look_ups::inside(self.alloc, &mut self.conn, room);
         self.counting(numbers)
     }
 
     fn is_inside(&mut self, room: RoomNo, number: CardNo) -> Result<bool, LookFault> {
+        self.ask()?;
         self.answers = false;
         let inside = look_ups::is_inside(self.alloc, &mut self.conn, room, number);
         self.counting(inside)
     }
 
     fn has_inside(&mut self, room: RoomNo) -> Result<bool, LookFault> {
+        self.ask()?;
         self.answers = false;
         let any = look_ups::has_inside(self.alloc, &mut self.conn, room);
         self.counting(any)
@@ -136,12 +122,14 @@ impl<S: Alter> Books for TableBooks<S> {
         fit: FitNo,
         count: Count,
     ) -> Result<Option<LockNote>, LookFault> {
+        self.ask()?;
         self.answers = false;
         let note = look_ups::note(self.alloc, &mut self.conn, room, fit, count);
         self.counting(note)
     }
 
     fn fit(&mut self, room: RoomNo, fit: FitNo) -> Result<Option<FitRow>, LookFault> {
+        self.ask()?;
         self.answers = false;
         let row = look_ups::fit(self.alloc, &mut self.conn, room, fit);
         self.counting(row)
@@ -153,6 +141,7 @@ impl<S: Alter> Books for TableBooks<S> {
     }
 
     fn next_numbers(&mut self) -> Result<NextNumbers, LookFault> {
+        self.ask()?;
         self.answers = false;
         let numbers = look_ups::next_numbers(self.alloc, &mut self.conn);
         self.counting(numbers)
@@ -164,8 +153,13 @@ impl<S: Alter> Books for TableBooks<S> {
     }
 
     fn apply(&mut self, change: Change) -> Result<(), LookFault> {
-        let applied = self.change_tables(&change);
-        self.counting(applied)
+        match self.ask() {
+            Ok(()) => {
+                let applied = self.change_tables(&change);
+                self.counting(applied)
+            }
+            Err(why) => Err(why),
+        }
     }
 
     ghost kept_rows = { λ a b h. h };

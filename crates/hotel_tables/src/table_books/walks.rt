@@ -1,6 +1,6 @@
 //! The walks over the lists' rows, each counted where it fails.
-ghost use Rattle.std.specs.Prelude.{◌≡◌, None, IfSome, IsTrue};
-ghost use Rattle.keycard_rules.specs.Rise.{HasRisen, NoFewer};
+ghost use Rattle.std.specs.Prelude.{◌≡◌, None, Some, Err, IsTrue};
+ghost use Rattle.keycard_rules.specs.Rise.{Counts, NoFewer, one_of};
 ghost use Rattle.sqlite.specs.Held.{state};
 ghost use Rattle.sqlite.specs.State.{HasCleanDisk};
 ghost use Rattle.hotel_core.specs.Books.Walks.{failure_of};
@@ -13,6 +13,16 @@ use hotel_statements::walks;
 use keycard_rules::{LockNote, LookFault, RoomNo};
 use sqlite::Alter;
 
+/// The end of a walk that failed for this cause.
+fn walk_fault(cause: LookFault) -> WalkFault
+    ensures { failure_of (Err result) ≡ Some cause }
+{
+    match cause {
+        LookFault::Memory => WalkFault::Memory,
+        LookFault::Store => WalkFault::Store,
+    }
+}
+
 impl<S: Alter> TableBooks<S> {
     /// How a walk ended; a failure is counted by its cause.
     fn counting_walk(&mut self, end: Result<(), WalkFault>) -> Result<(), WalkFault>
@@ -20,8 +30,8 @@ impl<S: Alter> TableBooks<S> {
             → IsTrue (state S.Store self.old.conn).is_open }
         ensures same { result ≡ end }
         ensures conn { self.new.conn ≡ self.old.conn }
-        ensures counted { NoFewer (failed self.old) (failed self.new) }
-        ensures risen { IfSome (failure_of end) (λ cause. HasRisen (failed self.old cause) (failed self.new cause)) }
+        ensures no_fewer { NoFewer (failed self.old) (failed self.new) }
+        ensures counted { Counts (λ why. one_of why (failure_of result)) (failed self.old) (failed self.new) }
     {
         match end {
             Err(WalkFault::Memory) => self.count(LookFault::Memory),
@@ -34,15 +44,25 @@ impl<S: Alter> TableBooks<S> {
 
 impl<S: Alter> Walks for TableBooks<S> {
     fn walk_arrivals<K: Sink<Stay>>(&mut self, day: Day, sink: &mut K) -> Result<(), WalkFault> {
-        self.answers = false;
-        let end = walks::arrivals(self.alloc, &mut self.conn, day, sink);
-        self.counting_walk(end)
+        match self.ask() {
+            Ok(()) => {
+                self.answers = false;
+                let end = walks::arrivals(self.alloc, &mut self.conn, day, sink);
+                self.counting_walk(end)
+            }
+            Err(cause) => Err(walk_fault(cause)),
+        }
     }
 
     fn walk_in_house<K: Sink<HouseRow>>(&mut self, sink: &mut K) -> Result<(), WalkFault> {
-        self.answers = false;
-        let end = walks::in_house(self.alloc, &mut self.conn, sink);
-        self.counting_walk(end)
+        match self.ask() {
+            Ok(()) => {
+                self.answers = false;
+                let end = walks::in_house(self.alloc, &mut self.conn, sink);
+                self.counting_walk(end)
+            }
+            Err(cause) => Err(walk_fault(cause)),
+        }
     }
 
     fn walk_chain<K: Sink<ChainRow>>(
@@ -50,15 +70,25 @@ impl<S: Alter> Walks for TableBooks<S> {
         room: RoomNo,
         sink: &mut K,
     ) -> Result<(), WalkFault> {
-        self.answers = false;
-        let end = walks::chain(self.alloc, &mut self.conn, room, sink);
-        self.counting_walk(end)
+        match self.ask() {
+            Ok(()) => {
+                self.answers = false;
+                let end = walks::chain(self.alloc, &mut self.conn, room, sink);
+                self.counting_walk(end)
+            }
+            Err(cause) => Err(walk_fault(cause)),
+        }
     }
 
     fn walk_left_behind<K: Sink<BehindRow>>(&mut self, sink: &mut K) -> Result<(), WalkFault> {
-        self.answers = false;
-        let end = walks::left_behind(self.alloc, &mut self.conn, sink);
-        self.counting_walk(end)
+        match self.ask() {
+            Ok(()) => {
+                self.answers = false;
+                let end = walks::left_behind(self.alloc, &mut self.conn, sink);
+                self.counting_walk(end)
+            }
+            Err(cause) => Err(walk_fault(cause)),
+        }
     }
 
     fn walk_audit<K: Sink<LockNote>>(
@@ -66,8 +96,13 @@ impl<S: Alter> Walks for TableBooks<S> {
         room: RoomNo,
         sink: &mut K,
     ) -> Result<(), WalkFault> {
-        self.answers = false;
-        let end = walks::audit(self.alloc, &mut self.conn, room, sink);
-        self.counting_walk(end)
+        match self.ask() {
+            Ok(()) => {
+                self.answers = false;
+                let end = walks::audit(self.alloc, &mut self.conn, room, sink);
+                self.counting_walk(end)
+            }
+            Err(cause) => Err(walk_fault(cause)),
+        }
     }
 }

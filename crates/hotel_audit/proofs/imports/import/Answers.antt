@@ -15,8 +15,7 @@ by_fault Memory P known = inl refl
 pub returns-in-Err-clause-imported : goal.returns-in-Err-clause-imported
 returns-in-Err-clause-imported g c =
     let why = by_fault c.in-Err.fault (λ fault. audit_lines c.args.bytes.now ≡ Err fault) c.in-Err.ensures.fault in
-    none_begun g.B.Issued g.B.Books.rows c.args.books.now (g.met.B.Issued.clean_honest _)
-    (audit_lines c.args.bytes.now) c.in-Err.fault why
+    none_begun g.B.Kept g.B.Books.rows c.args.books.now (audit_lines c.args.bytes.now) c.in-Err.fault why
 
 pub returns-in-Err-clause-large : goal.returns-in-Err-clause-large
 returns-in-Err-clause-large g c = λ big.

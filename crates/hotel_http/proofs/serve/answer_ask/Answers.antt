@@ -1,5 +1,5 @@
 use Rattle.std.proofs.Common.{[], sym, subst}
-use Rattle.hotel_core.specs.Books.Happens.{Happens}
+use Rattle.hotel_core.specs.Books.Happens.{HappensBy}
 use Rattle.hotel_core.specs.declared.asks.Ask.{Ask}
 use Rattle.hotel_http.specs.Serve.{Answered, AskComes}
 use Rattle.hotel_http.proofs.serve.answer_ask.Goals as goal
@@ -9,6 +9,6 @@ returns-in-List-clause-went g c =
     let old = g.W.Write.contents c.args.writer.now in
     let new = g.W.Write.contents c.answer_list.new.writer in
     let s = g.R.Rng.stream c.args.source.now in
-    subst (λ (a : Ask). Happens g.B.Issued g.B.Books.rows c.args.books.now
+    subst (λ (a : Ask). HappensBy g.B.Kept g.B.Books.rows c.args.books.now
     (Answered (AskComes a) s s [] old new c.answer_list.result) c.answer_list.new.books) (sym c.in-List.is)
     (c.answer_list.ensures.went s)

@@ -1,5 +1,5 @@
 use Rattle.std.proofs.Common.{[], sym, subst, List, ℕ}
-use Rattle.hotel_core.specs.Books.Happens.{Happens}
+use Rattle.hotel_core.specs.Books.Happens.{HappensBy}
 use Rattle.hotel_http.specs.{Serve.Answered, Serve.TaskComes, Serve.FileComes, declared.tasks.Task.Task}
 use Rattle.hotel_http.proofs.serve.answer_request.Goals as goal
 
@@ -9,9 +9,9 @@ returns-in-Audit-clause-went g c =
     let new = g.W.Write.contents c.answer_audit.new.writer in
     let s = g.R.Rng.stream c.args.source.now in
     let end = c.answer_audit.result in
-    let went = subst (λ (l : List ℕ). Happens g.B.Issued g.B.Books.rows c.args.books.now
+    let went = subst (λ (l : List ℕ). HappensBy g.B.Kept g.B.Books.rows c.args.books.now
     (Answered (FileComes l) s s [] old new end) c.answer_audit.new.books) c.deref.ensures.value
     (c.answer_audit.ensures.went s) in
-    subst (λ (t : Task). Happens g.B.Issued g.B.Books.rows c.args.books.now
+    subst (λ (t : Task). HappensBy g.B.Kept g.B.Books.rows c.args.books.now
     (Answered (TaskComes t c.args.request.now.body.items) s s [] old new end) c.answer_audit.new.books)
     (sym c.in-Audit.is) went

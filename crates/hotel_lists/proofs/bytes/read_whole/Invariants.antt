@@ -1,12 +1,17 @@
--- the bytes so far are what was consumed
-use Rattle.std.proofs.Common.{◌+◌, ◌-◌, vec_len}
+-- the bytes so far are what was consumed, and no more was read than is wanted
+use Rattle.std.proofs.Common.{◌+◌, ◌-◌, ◌≤◌, length, vec_len}
 use Rattle.std.specs.Io.KnownBytes.{Consumes}
 use Rattle.hotel_lists.specs.Calls.{NoneForgotten}
+use Rattle.hotel_lists.specs.Reads.{ReadsWhile}
 use Rattle.hotel_lists.proofs.bytes.read_whole.Given as goal
 
 abbrev pub invariant-loop-reader : goal.invariant-loop-reader
-invariant-loop-reader g l = Consumes (g.R.Read.remaining l.initial.reader) (g.R.Read.remaining l.reader) l.bytes.items
-    × NoneForgotten l.initial.calls l.calls
+invariant-loop-reader g l = record {
+  taken : Consumes (g.R.Read.remaining l.initial.reader) (g.R.Read.remaining l.reader) l.bytes.items;
+  wanted : ReadsWhile (λ came. length came ≤ l.limit) (g.R.Read.remaining l.initial.reader)
+      (g.R.Read.remaining l.reader);
+  counted : NoneForgotten l.initial.calls l.calls;
+}
 
 abbrev pub decreases-loop-reader : goal.decreases-loop-reader
 decreases-loop-reader g l = (l.limit + 1) - vec_len l.bytes

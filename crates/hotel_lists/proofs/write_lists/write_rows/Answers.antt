@@ -1,9 +1,8 @@
-use Rattle.std.proofs.Common.{Err, rules, sym, ◌∙◌}
+use Rattle.std.proofs.Common.{Err, [], ◌∷◌, refl, rules, sym, ◌∙◌}
+use Rattle.hotel_core.proofs.Names.{failure_of}
 use Rattle.hotel_lists.specs.declared.fault.ListFault.TheVariants.{Write}
-use Rattle.hotel_core.proofs.Names.{called_now}
 use Rattle.hotel_lists.proofs.CallsLemmas.{then_none_forgotten}
-use Rattle.hotel_lists.proofs.LinesWritten.{Ends, answered_walk, cut_ends, front_of_first, list_ended, list_written}
-use Rattle.hotel_lists.proofs.LinesWritten.{store_failed}
+use Rattle.hotel_lists.proofs.LinesWritten.{Ends, cut_ends, front_of_first, list_ended, list_written, walk_told}
 use Rattle.hotel_lists.proofs.write_lists.write_rows.Goals as goal
 
 pub returns-in_err-write_bytes-clause-text : goal.returns-in_err-write_bytes-clause-text
@@ -15,6 +14,14 @@ returns-in_err-write_bytes-clause-text g c = λ honest.
     (g.L.Listing.rows c.args.list.now (g.B.Books.rows c.args.books.now))
     (front_of_first _ _ c.args.header.now _ c.in_err-write_bytes.ensures.writes.err) in
     search rules
+
+pub returns-in_err-write_bytes-clause-books : goal.returns-in_err-write_bytes-clause-books
+returns-in_err-write_bytes-clause-books g c = record {
+  kept = λ clean. g.B.Kept.kept_refl _;
+  told = [];
+  calls = refl;
+  tells = search rules;
+}
 
 pub returns-clause-text : goal.returns-clause-text
 returns-clause-text g c = λ honest.
@@ -44,13 +51,10 @@ returns-clause-calls g c =
 pub returns-clause-books : goal.returns-clause-books
 returns-clause-books g c =
     let walked = c.walk-walked.ensures in
-    let went = answered_walk g.W.Write.contents _ _ c.walk-walked.result c.finish-end.result c.listed.result
-    c.finish-end.ensures.ends c.listed.ensures in
     record {
-      kept = walked.kept;
-      since = walked.since;
-      vouched = λ honest answered. walked.vouched honest (went answered);
-      called = λ answered. called_now (walked.called (went answered));
-      store = λ e. let failed = store_failed g.W.Write.contents _ _ c.walk-walked.result c.finish-end.result
-          c.listed.result c.finish-end.ensures.ends c.listed.ensures e in rw failed at walked.fault;
+      kept = walked.looks.kept;
+      told = failure_of c.walk-walked.result ∷ [];
+      calls = (_, walked.looks.leaves, refl);
+      tells = walk_told g.W.Write.contents _ _ c.walk-walked.result c.finish-end.result c.listed.result
+          c.finish-end.ensures.ends c.listed.ensures;
     }

@@ -1,11 +1,11 @@
 use Rattle.std.proofs.Common.{[], ◌∷◌, ◌++◌, length-append, refl, arith}
-use Rattle.hotel_core.proofs.OfCode.Passes.{passes_push}
+use Rattle.keycard_rules.proofs.CallsTogether.{passes_push}
 use Rattle.hotel_program.specs.Connections.{ConnectionHappens}
-use Rattle.hotel_program.proofs.ConnectionsLemmas.{none_served, then_served, then_told}
+use Rattle.hotel_program.proofs.ConnectionsLemmas.{then_told}
 use Rattle.hotel_program.proofs.connections.serve_connections.Goals as goal
 
 pub loop-init : goal.loop-init
-loop-init g c = record { ends = ([], refl, refl, none_served g.B.Issued g.B.Books.rows _ _, refl) }
+loop-init g c = record { ends = ([], refl, refl, refl) }
 
 pub loop-preserved : goal.loop-preserved
 loop-preserved g c =
@@ -16,7 +16,6 @@ loop-preserved g c =
         first.0 ++ next.0 ∷ [],
         simp length-append (omega (arith, first.1)),
         then_told g.F.FaultSink.told first.0 (next.0 ∷ []) _ _ _ first.2 next.1,
-        then_served first.0 (next.0 ∷ []) _ _ _ first.3 next.2,
-        passes_push (ConnectionHappens g.B.Issued g.B.Books.rows g.R.Rng.stream) _ first.0 first.4 next.2,
+        passes_push (ConnectionHappens g.B.Kept g.B.Books.rows g.R.Rng.stream) _ first.0 first.3 next.2,
       );
     }

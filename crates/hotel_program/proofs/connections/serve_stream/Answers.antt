@@ -1,27 +1,26 @@
-use Rattle.hotel_http.specs.Body.{interim_where}
-use Rattle.hotel_program.proofs.ConnectionsLemmas.{request_served}
+-- The end is that of the request, by whichever table of routes; without one it is Memory.
+use Rattle.std.proofs.Common.{Err, refl, false}
+use Rattle.std.proofs.KnownBytes.{Appends-nil}
+use Rattle.hotel_http.proofs.RequestLemmas.{none_read}
+use Rattle.hotel_http.specs.declared.serve.ServeFault.TheVariants.{Memory}
+use Rattle.hotel_program.proofs.ConnectionsLemmas.{calls_of}
 use Rattle.hotel_program.proofs.connections.serve_stream.Goals as goal
 
 pub returns-in-Some : goal.returns-in-Some
-returns-in-Some g c = record {
-  ends = (
-    c.serve_by-end.result,
-    c.serve_end.ensures,
-    request_served g.B.Issued g.B.Books.rows g.R.Rng.stream c.args.books.now c.serve_by-end.new.books
-        c.args.source.now c.serve_by-end.new.source
-        interim_where (g.I.Read.remaining c.args.reader.now) (g.W.Write.contents c.args.writer.now)
-        (g.W.Write.contents c.serve_by-end.new.writer) c.serve_by-end.result c.serve_by-end.ensures.serves,
-  );
-}
+returns-in-Some g c =
+    let e = c.serve_by-end.ensures in
+    record {
+      serves = (c.serve_by-end.result, c.serve_end.ensures, e.serves);
+      wanted = e.wanted;
+      calls = calls_of _ _ c.serve_by-end.result c.serve_end.result c.serve_end.ensures e.calls;
+    }
 
-pub returns-in-None : goal.returns-in-None
-returns-in-None g c = record {
-  ends = (
-    c.serve_one-end.result,
-    c.serve_end-in-None.ensures,
-    request_served g.B.Issued g.B.Books.rows g.R.Rng.stream c.args.books.now c.serve_one-end.new.books
-        c.args.source.now c.serve_one-end.new.source
-        interim_where (g.I.Read.remaining c.args.reader.now) (g.W.Write.contents c.args.writer.now)
-        (g.W.Write.contents c.serve_one-end.new.writer) c.serve_one-end.result c.serve_one-end.ensures.serves,
-  );
-}
+pub returns-clause-serves : goal.returns-clause-serves
+returns-clause-serves g c = (
+  Err Memory,
+  refl,
+  ((refl, refl), (false, Appends-nil (g.W.Write.contents c.args.writer.now), λ e. absurd (cc))),
+)
+
+pub returns-clause-wanted : goal.returns-clause-wanted
+returns-clause-wanted g c = none_read (g.I.Read.remaining c.args.reader.now)

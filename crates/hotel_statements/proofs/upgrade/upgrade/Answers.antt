@@ -1,8 +1,9 @@
-use Rattle.std.proofs.Common.{◌+◌, ◌<◌, ◌++◌, ◌∙◌, ap, subst, List, Ok, take, drop, map, length, arith, rules}
+use Rattle.std.proofs.Common.{◌+◌, ◌<◌, ◌++◌, ◌∙◌, ap, subst, List, Ok, drop, map, length, arith, rules}
 use Rattle.std.proofs.lemmas.Bool.Decides.{nat_tests}
 use Rattle.std.proofs.lemmas.List.{take_all}
+use Rattle.hotel_statements.specs.declared.version.Layout.TheVariants.{Eight}
 use Rattle.hotel_statements.specs.Statements.{Statement, MakesBy, makes_second, adds_first_fit}
-use Rattle.hotel_statements.specs.Upgrade.{Upgrades}
+use Rattle.hotel_statements.specs.Upgrade.{Completes}
 use Rattle.hotel_statements.proofs.InTurn.{made_as, made_then, made_stopped, runs_on}
 use Rattle.hotel_statements.proofs.Upgraded.{GivesSoFar, room_then, all_given, one_more, with_others}
 use Rattle.hotel_statements.proofs.upgrade.upgrade.Goals as goal
@@ -42,7 +43,7 @@ returns-in_err-insert_first_fit-clause-makes g c =
     let new = c.insert_first_fit.new.tx.conn.now in
     let result = c.from_residual-in_err-insert_first_fit.result in
     let ran = runs_on c.rooms.invariant.1 c.in_err-insert_first_fit.ensures.makes in
-    subst (λ (all : List Statement). MakesBy g.S.Store all (Upgrades rooms) old new result)
+    subst (λ (all : List Statement). MakesBy g.S.Store all (Completes Eight rooms) old new result)
     (ap (λ (so_far : List Statement). so_far ++ map adds_first_fit (drop (i + 1) rooms))
     (one_more rooms i room low c.index-rooms-i.is) ∙ with_others rooms (i + 1))
     (made_stopped (map adds_first_fit (drop (i + 1) rooms)) result c.from_residual-in_err-insert_first_fit.ensures.0
@@ -52,6 +53,6 @@ pub returns-clause-makes : goal.returns-clause-makes
 returns-clause-makes g c =
     let rooms = c.args.rooms.now in
     let past = c.rooms-test.false in
-    subst (λ (all : List Statement). MakesBy g.S.Store all (Upgrades rooms) c.args.tx.now.conn.now
+    subst (λ (all : List Statement). MakesBy g.S.Store all (Completes Eight rooms) c.args.tx.now.conn.now
     c.rooms.tx.conn.now (Ok tt)) (ap makes_second (take_all c.rooms.i rooms (grind (arith, nat_tests, past))))
     (made_as (all_given c.rooms.i (grind (arith, nat_tests, past))) c.rooms.invariant.1)

@@ -2,7 +2,8 @@ use Rattle.std.proofs.Common.{◌∙◌, sym, ap, subst, map, All}
 use Rattle.std.proofs.lemmas.Result.{IfOk-weaker, IfErr-weaker}
 use Rattle.std.specs.List.Sorted.{IsPermutation}
 use Rattle.sqlite.specs.Held.{state}
-use Rattle.hotel_statements.specs.Schema.{schema_of}
+use Rattle.sqlite.specs.Schema.{Schema}
+use Rattle.hotel_statements.specs.Schema.{HasTablesOf}
 use Rattle.hotel_statements.specs.LookUps.{AsksOf}
 use Rattle.hotel_statements.specs.PlainRows.{ArePlainRows}
 use Rattle.hotel_statements.specs.WholeTables.{BeginsAs}
@@ -13,7 +14,8 @@ pub returns-in-Ok : goal.returns-in-Ok
 returns-in-Ok g c =
     let whole = c.requires.whole in
     let old = state g.S.Store c.args.conn.now in
-    let asks = subst (λ t. AsksOf (schema_of c.args.version) t whole.query) (sym c.text.ensures) whole.asks in
+    let asks : (schema : Schema) → HasTablesOf c.args.version schema → AsksOf schema c.text.result.now whole.query =
+    λ schema has. subst (λ t. AsksOf schema t whole.query) (sym c.text.ensures) (whole.asks schema has) in
     reads_rows c.args.version c.text.result.now whole.query old (state g.S.Store c.query_all.new.self) c.requires.ours
     asks c.query_all.ensures.mode c.query_all.ensures.survives
     g.L.PlainRow.text c.text.ensures
@@ -33,7 +35,8 @@ pub returns-in-Err : goal.returns-in-Err
 returns-in-Err g c =
     let whole = c.requires.whole in
     let old = state g.S.Store c.args.conn.now in
-    let asks = subst (λ t. AsksOf (schema_of c.args.version) t whole.query) (sym c.text.ensures) whole.asks in
+    let asks : (schema : Schema) → HasTablesOf c.args.version schema → AsksOf schema c.text.result.now whole.query =
+    λ schema has. subst (λ t. AsksOf schema t whole.query) (sym c.text.ensures) (whole.asks schema has) in
     reads_none c.args.version c.text.result.now whole.query old (state g.S.Store c.query_all.new.self) c.requires.ours
     asks c.query_all.ensures.mode c.query_all.ensures.survives
     g.L.PlainRow.text c.text.ensures

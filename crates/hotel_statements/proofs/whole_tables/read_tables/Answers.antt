@@ -19,8 +19,8 @@ returns-in_err-last g c =
     let mid = state g.S.Store c.read_first.new.conn in
     let new = state g.S.Store c.read_last.new.conn in
     let fault = c.in_err-last.field-0.0 in
-    let failed = second_failed version (FirstFail version)
-    (LastFail version) AreFirst AreLast old mid new c.in_ok-first.first c.in_ok-first.ensures
+    let failed = second_failed version FirstFail
+    LastFail AreFirst AreLast old mid new c.in_ok-first.first c.in_ok-first.ensures
     AreLast fault (Err fault) refl (last_later version) c.in_err-last.ensures in
     not_read version _ _ _ _ old new fault c.from_residual-in_err-last.result
     (err_is c.from_residual-in_err-last.result fault c.from_residual-in_err-last.ensures) inl failed
@@ -33,8 +33,8 @@ returns-in_err-fits g c =
     let mid = state g.S.Store c.read_last.new.conn in
     let new = state g.S.Store c.read_fits.new.conn in
     let fault = c.in_err-fits.field-0.0 in
-    let both = pair_read version (FirstFail version)
-    (LastFail version) AreFirst AreLast old first mid c.in_ok-first.first c.in_ok-first.ensures
+    let both = pair_read version FirstFail
+    LastFail AreFirst AreLast old first mid c.in_ok-first.first c.in_ok-first.ensures
     c.in_ok-last.last (λ _ _. tt) c.in_ok-last.ensures in
     second_failed version _ (FitRowsFail version) _ _ old mid new
     (c.in_ok-first.first, c.in_ok-last.last) both _ fault c.from_residual-in_err-fits.result
@@ -48,8 +48,8 @@ returns g c =
     let first = state g.S.Store c.read_first.new.conn in
     let mid = state g.S.Store c.read_last.new.conn in
     let new = state g.S.Store c.read_fits.new.conn in
-    let both = pair_read version (FirstFail version)
-    (LastFail version) AreFirst AreLast old first mid c.in_ok-first.first c.in_ok-first.ensures
+    let both = pair_read version FirstFail
+    LastFail AreFirst AreLast old first mid c.in_ok-first.first c.in_ok-first.ensures
     c.in_ok-last.last (λ _ _. tt) c.in_ok-last.ensures in
     both_read version _ (FitRowsFail version) _ _ old mid new
     (c.in_ok-first.first, c.in_ok-last.last) both _ c.in_ok-fits.fits _

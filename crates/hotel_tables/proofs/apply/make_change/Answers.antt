@@ -3,7 +3,8 @@ use Rattle.std.specs.Prelude.{IfErr}
 use Rattle.sqlite.specs.Held.{state}
 use Rattle.sqlite.specs.State.{Survives}
 use Rattle.hotel_model.specs.Refinement.Change.{made}
-use Rattle.hotel_statements.specs.declared.version.Version.TheVariants.{Second}
+use Rattle.hotel_statements.specs.declared.version.Layout.TheVariants.{Nine}
+use Rattle.hotel_statements.specs.declared.version.TheConstants.{INDEXES}
 use Rattle.hotel_statements.proofs.Transaction.{Begins}
 use Rattle.hotel_statements.proofs.Ends.{Ends, ended}
 use Rattle.hotel_statements.specs.Statements.{statements_of}
@@ -22,7 +23,7 @@ pub returns : goal.returns
 returns g c =
     let old = state g.S.Store c.args.conn.now in
     let start = state g.S.Store c.transaction-tx.result.conn.now in
-    let begins : Begins Second old start = record {
+    let begins : Begins (Nine INDEXES) old start = record {
       books = c.requires.books;
       begun = ap (state g.S.Store)
           c.transaction-tx.ensures.begun;

@@ -4,7 +4,7 @@ use Rattle.hotel_tables.proofs.files.connect.Goals as goal
 pub returns-in-Ok-open_files-clause-answer : goal.returns-in-Ok-open_files-clause-answer
 returns-in-Ok-open_files-clause-answer g c =
     let did = c.in-Ok-open_files.ensures in
-    (c.in-Ok.opened.0, c.in-Ok.ensures.parts, did.fresh, λ clean. (did.opened clean, did.found clean))
+    (c.in-Ok.opened.0, c.in-Ok.ensures.parts, did.fresh, λ clean. (did.opened clean, did.found clean, did.plain clean))
 
 pub returns-in-Err-open_files-clause-answer : goal.returns-in-Err-open_files-clause-answer
 returns-in-Err-open_files-clause-answer g c =

@@ -6,27 +6,122 @@ use Rattle.sqlite.specs.Held.{state}
 use Rattle.sqlite.specs.State.{HasCleanDisk, Survives}
 use Rattle.hotel_statements.specs.Books.{IsKept}
 use Rattle.hotel_tables.specs.Applied.{LeavesAll}
-use Rattle.hotel_statements.specs.Statements.{makes_second}
+use Rattle.hotel_statements.specs.Statements.{completes}
 use Rattle.hotel_tables.specs.Causes.{FailsToWrite}
 use Rattle.hotel_tables.proofs.Causes.{not_run, not_committed}
 use Rattle.hotel_statements.proofs.InTurn.{answered}
-use Rattle.hotel_statements.specs.declared.version.Version.TheVariants.{First}
 use Rattle.hotel_statements.proofs.Transaction.{Begins}
 use Rattle.hotel_statements.proofs.Upgraded.{Migrates, migrated}
 use Rattle.hotel_tables.proofs.migration.migrate.Goals as goal
 
-pub returns : goal.returns
-returns g c =
+pub returns-clause-books : goal.returns-clause-books
+returns-clause-books g c =
     let old = state g.S.Store c.args.conn.now in
     let start = state g.S.Store c.transaction-tx.result.conn.now in
     let new = state g.S.Store c.commit.new.self.0 in
-    let begins : Begins First old start = record {
+    let begins : Begins c.args.layout old start = record {
       books = c.requires.books;
       begun = ap (state g.S.Store) c.transaction-tx.ensures.begun;
     } in
     let zero : Survives old start (λ _. ⊥) = search rules in
-    let it : Migrates old new c.commit.result =
-    migrated begins c.requires.rooms c.in_ok-upgrade.ensures.makes.made c.in_ok-upgrade.ensures.makes.survives
+    let it : Migrates c.args.layout old new c.commit.result =
+    migrated begins c.requires.rooms c.in_ok-complete.ensures.makes.made c.in_ok-complete.ensures.makes.survives
+    new c.commit.result zero
+    c.commit.ensures.ended c.commit.ensures.ok c.commit.ensures.err c.commit.ensures.survives in
+    search (rules, it.books)
+
+pub returns-clause-left : goal.returns-clause-left
+returns-clause-left g c =
+    let old = state g.S.Store c.args.conn.now in
+    let start = state g.S.Store c.transaction-tx.result.conn.now in
+    let new = state g.S.Store c.commit.new.self.0 in
+    let begins : Begins c.args.layout old start = record {
+      books = c.requires.books;
+      begun = ap (state g.S.Store) c.transaction-tx.ensures.begun;
+    } in
+    let zero : Survives old start (λ _. ⊥) = search rules in
+    let it : Migrates c.args.layout old new c.commit.result =
+    migrated begins c.requires.rooms c.in_ok-complete.ensures.makes.made c.in_ok-complete.ensures.makes.survives
+    new c.commit.result zero
+    c.commit.ensures.ended c.commit.ensures.ok c.commit.ensures.err c.commit.ensures.survives in
+    search (rules, it.left)
+
+pub returns-clause-was : goal.returns-clause-was
+returns-clause-was g c =
+    let old = state g.S.Store c.args.conn.now in
+    let start = state g.S.Store c.transaction-tx.result.conn.now in
+    let new = state g.S.Store c.commit.new.self.0 in
+    let begins : Begins c.args.layout old start = record {
+      books = c.requires.books;
+      begun = ap (state g.S.Store) c.transaction-tx.ensures.begun;
+    } in
+    let zero : Survives old start (λ _. ⊥) = search rules in
+    let it : Migrates c.args.layout old new c.commit.result =
+    migrated begins c.requires.rooms c.in_ok-complete.ensures.makes.made c.in_ok-complete.ensures.makes.survives
+    new c.commit.result zero
+    c.commit.ensures.ended c.commit.ensures.ok c.commit.ensures.err c.commit.ensures.survives in
+    search (rules, it.was)
+
+pub returns-clause-made : goal.returns-clause-made
+returns-clause-made g c =
+    let old = state g.S.Store c.args.conn.now in
+    let start = state g.S.Store c.transaction-tx.result.conn.now in
+    let new = state g.S.Store c.commit.new.self.0 in
+    let begins : Begins c.args.layout old start = record {
+      books = c.requires.books;
+      begun = ap (state g.S.Store) c.transaction-tx.ensures.begun;
+    } in
+    let zero : Survives old start (λ _. ⊥) = search rules in
+    let it : Migrates c.args.layout old new c.commit.result =
+    migrated begins c.requires.rooms c.in_ok-complete.ensures.makes.made c.in_ok-complete.ensures.makes.survives
+    new c.commit.result zero
+    c.commit.ensures.ended c.commit.ensures.ok c.commit.ensures.err c.commit.ensures.survives in
+    search (rules, it.made)
+
+pub returns-clause-same : goal.returns-clause-same
+returns-clause-same g c =
+    let old = state g.S.Store c.args.conn.now in
+    let start = state g.S.Store c.transaction-tx.result.conn.now in
+    let new = state g.S.Store c.commit.new.self.0 in
+    let begins : Begins c.args.layout old start = record {
+      books = c.requires.books;
+      begun = ap (state g.S.Store) c.transaction-tx.ensures.begun;
+    } in
+    let zero : Survives old start (λ _. ⊥) = search rules in
+    let it : Migrates c.args.layout old new c.commit.result =
+    migrated begins c.requires.rooms c.in_ok-complete.ensures.makes.made c.in_ok-complete.ensures.makes.survives
+    new c.commit.result zero
+    c.commit.ensures.ended c.commit.ensures.ok c.commit.ensures.err c.commit.ensures.survives in
+    search (rules, it.same)
+
+pub returns-clause-crash : goal.returns-clause-crash
+returns-clause-crash g c =
+    let old = state g.S.Store c.args.conn.now in
+    let start = state g.S.Store c.transaction-tx.result.conn.now in
+    let new = state g.S.Store c.commit.new.self.0 in
+    let begins : Begins c.args.layout old start = record {
+      books = c.requires.books;
+      begun = ap (state g.S.Store) c.transaction-tx.ensures.begun;
+    } in
+    let zero : Survives old start (λ _. ⊥) = search rules in
+    let it : Migrates c.args.layout old new c.commit.result =
+    migrated begins c.requires.rooms c.in_ok-complete.ensures.makes.made c.in_ok-complete.ensures.makes.survives
+    new c.commit.result zero
+    c.commit.ensures.ended c.commit.ensures.ok c.commit.ensures.err c.commit.ensures.survives in
+    search (rules, it.crash)
+
+pub returns-clause-whole : goal.returns-clause-whole
+returns-clause-whole g c =
+    let old = state g.S.Store c.args.conn.now in
+    let start = state g.S.Store c.transaction-tx.result.conn.now in
+    let new = state g.S.Store c.commit.new.self.0 in
+    let begins : Begins c.args.layout old start = record {
+      books = c.requires.books;
+      begun = ap (state g.S.Store) c.transaction-tx.ensures.begun;
+    } in
+    let zero : Survives old start (λ _. ⊥) = search rules in
+    let it : Migrates c.args.layout old new c.commit.result =
+    migrated begins c.requires.rooms c.in_ok-complete.ensures.makes.made c.in_ok-complete.ensures.makes.survives
     new c.commit.result zero
     c.commit.ensures.ended c.commit.ensures.ok c.commit.ensures.err c.commit.ensures.survives in
     let whole : IsKept new → OnOk c.commit.result (LeavesAll new) = λ kept.
@@ -34,27 +129,26 @@ returns g c =
     (λ books db left.
     g.met.S.Store.settled c.commit.new.self.0.store db kept.1 left
     ∙ sym (ap (λ (d : Database). d.trees) (books.desk kept).settled)) it.books in
+    search (rules, whole)
+
+pub returns-clause-open_on : goal.returns-clause-open_on
+returns-clause-open_on g c =
+    let new = state g.S.Store c.commit.new.self.0 in
     let open_on : HasCleanDisk new → OnOk c.commit.result (IsTrue new.is_open) = λ clean.
     on_ok_weaker c.commit.result (λ did. did.1.is_open) (c.commit.ensures.ok clean) in
-    let failed : IfErr c.commit.result (FailsToWrite g.S.Store (makes_second c.args.rooms.now) c.args.conn.now
-    c.commit.new.self.0) =
-    not_committed g.S.Store c.args.conn.now c.transaction-tx.result.conn.now c.upgrade.new.tx.conn.now
-    c.commit.new.self.0 tt c.commit.result c.transaction-tx.ensures.begun c.in_ok-upgrade.ensures.makes.runs
-    c.commit.ensures.survives c.commit.ensures.err in
-    record {
-      books = search (rules, it.books);
-      left = search (rules, it.left);
-      was = search (rules, it.was);
-      made = search (rules, it.made);
-      whole = search (rules, whole);
-      same = search (rules, it.same);
-      open_on = search (rules, open_on);
-      failed = search (rules, failed);
-      crash = search (rules, it.crash);
-    }
+    search (rules, open_on)
 
-pub returns-in_err-upgrade-clause-failed : goal.returns-in_err-upgrade-clause-failed
-returns-in_err-upgrade-clause-failed g c =
-    not_run g.S.Store c.args.conn.now c.transaction-tx.result.conn.now c.upgrade.new.tx.conn.now _
+pub returns-clause-failed : goal.returns-clause-failed
+returns-clause-failed g c =
+    let failed : IfErr c.commit.result (FailsToWrite g.S.Store (completes c.args.layout c.args.rooms.now) c.args.conn.now
+    c.commit.new.self.0) =
+    not_committed g.S.Store c.args.conn.now c.transaction-tx.result.conn.now c.complete.new.tx.conn.now
+    c.commit.new.self.0 tt c.commit.result c.transaction-tx.ensures.begun c.in_ok-complete.ensures.makes.runs
+    c.commit.ensures.survives c.commit.ensures.err in
+    search (rules, failed)
+
+pub returns-in_err-complete-clause-failed : goal.returns-in_err-complete-clause-failed
+returns-in_err-complete-clause-failed g c =
+    not_run g.S.Store c.args.conn.now c.transaction-tx.result.conn.now c.complete.new.tx.conn.now _
     c.from_residual.result c.transaction-tx.ensures.begun (answered c.from_residual.result c.from_residual.ensures.1)
-    c.in_err-upgrade.ensures.makes.runs (search (rules, c.drop-tx.ensures.survives))
+    c.in_err-complete.ensures.makes.runs (search (rules, c.drop-tx.ensures.survives))

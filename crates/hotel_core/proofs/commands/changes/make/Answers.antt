@@ -1,4 +1,4 @@
-use Rattle.hotel_core.proofs.{Names.called_now, OfCode.Parts.makes, OfCode.Parts.fails}
+use Rattle.hotel_core.proofs.{OfCode.Parts.makes, OfCode.Parts.fails}
 use Rattle.hotel_model.proofs.RowsAfter.FitsAfter.{fits_after}
 use Rattle.hotel_model.specs.Outcome.{accepted}
 use Rattle.hotel_core.proofs.commands.changes.make.Goals as goal
@@ -10,10 +10,9 @@ apply-requires g c = λ clean.
 
 pub returns-in-Ok-clause-steps : goal.returns-in-Ok-clause-steps
 returns-in-Ok-clause-steps g c = λ source.
-    makes c.args.reply c.args.change source c.requires.is_answer c.in-Ok.ensures.ok
-    c.apply.ensures.since c.in-Ok.ensures.vouched (called_now c.in-Ok.ensures.called)
+    makes c.args.reply c.args.change source c.requires.is_answer c.in-Ok.ensures.rows c.in-Ok.ensures.leaves
 
 pub returns-in-Err-clause-steps : goal.returns-in-Err-clause-steps
 returns-in-Err-clause-steps g c = λ source.
     fails (accepted c.args.reply c.args.change) c.in-Err.fault c.refusal_of.result source c.refusal_of.ensures
-    c.in-Err.ensures.err c.apply.ensures.since c.in-Err.ensures.fault
+    c.in-Err.ensures.rows c.in-Err.ensures.leaves

@@ -1,6 +1,6 @@
 use Rattle.std.proofs.Common.{ℕ, ◌≡◌, true, refl}
 use Rattle.hotel_core.proofs.Names.{Link, Note, RoomRow, Rows, IsUntaken, has_link_on}
-use Rattle.hotel_core.proofs.OfCode.Parts.{given, then_found, then_known, stopped, stopped_known, halted, ends, only}
+use Rattle.hotel_core.proofs.OfCode.Parts.{given, then_found, stopped, halted, ends, only}
 use Rattle.hotel_core.proofs.{OfCode.NoteParts.link_is_there, OfCode.AnswerParts.answers, OfCode.AnswerParts.comes_of}
 use Rattle.hotel_core.proofs.commands.entries.open.Goals as goal
 
@@ -15,7 +15,7 @@ returns-in_err-lock_place g c = λ source.
 
 pub returns-in_err-secured : goal.returns-in_err-secured
 returns-in_err-secured g c = λ source.
-    stopped_known c.from_residual-in_err-secured.result c.from_residual-in_err-secured.ensures.1
+    stopped c.from_residual-in_err-secured.result c.from_residual-in_err-secured.ensures.1
     (then_found (given (Known c.args.note.now c.args.row.now c.args.number c.args.link.now) c.requires.known)
     c.in_ok-lock_place.ensures)
     c.in_err-secured.ensures (λ k e. cc)
@@ -23,14 +23,14 @@ returns-in_err-secured g c = λ source.
 pub returns-in_err-is_inside : goal.returns-in_err-is_inside
 returns-in_err-is_inside g c = λ source.
     stopped c.from_residual-in_err-is_inside.result c.from_residual-in_err-is_inside.ensures.1
-    (then_known (then_found (given (Known c.args.note.now c.args.row.now c.args.number c.args.link.now)
+    (then_found (then_found (given (Known c.args.note.now c.args.row.now c.args.number c.args.link.now)
     c.requires.known) c.in_ok-lock_place.ensures) (rw c.room.ensures at c.in_ok-secured.ensures))
     c.in_err-is_inside.ensures (λ k e. cc)
 
 pub make-requires-clause-answered : goal.make-requires-clause-answered
 make-requires-clause-answered g c =
     let insides = c.comes-insides.ensures in
-    answers (then_found (then_known (then_found (given (Known c.args.note.now c.args.row.now c.args.number
+    answers (then_found (then_found (then_found (given (Known c.args.note.now c.args.row.now c.args.number
     c.args.link.now) c.requires.known) c.in_ok-lock_place.ensures) (rw c.room.ensures at c.in_ok-secured.ensures))
     (rw c.room-2.ensures at c.in_ok-is_inside.ensures))
     (λ clean k. comes_of _ _ _ (c.requires.outcome clean)
@@ -39,7 +39,7 @@ make-requires-clause-answered g c =
 pub returns : goal.returns
 returns g c = λ source.
     let insides = c.comes-insides.ensures in
-    ends (then_found (then_known (then_found (given (Known c.args.note.now c.args.row.now c.args.number c.args.link.now)
+    ends (then_found (then_found (then_found (given (Known c.args.note.now c.args.row.now c.args.number c.args.link.now)
     c.requires.known) c.in_ok-lock_place.ensures) (rw c.room.ensures at c.in_ok-secured.ensures))
     (rw c.room-2.ensures at c.in_ok-is_inside.ensures))
     (c.make.ensures.steps source) (λ k. rw (k.0.0.0.0.0, k.0.0.1, ← only k.0.1, insides, only k.1) refl)

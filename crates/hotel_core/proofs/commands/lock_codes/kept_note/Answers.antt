@@ -1,5 +1,6 @@
-use Rattle.std.proofs.Common.{◌<◌, ◌-◌, ◌==◌, nat_lt, Some, refl, ap, sym, ◌∙◌, arith}
+use Rattle.std.proofs.Common.{◌<◌, ◌-◌, ◌==◌, nat_lt, Some, None, refl, inl, ap, sym, ◌∙◌, arith}
 use Rattle.hotel_core.proofs.{Names.note_at, Names.since_refl, OfCode.LaterNotes.no_later_note}
+use Rattle.hotel_core.proofs.{OfCode.Counting.none_more, OfCode.LookUps.knows}
 use Rattle.hotel_model.proofs.{OfTables.Tests.and_true, OfTables.Tests.eq_from, OfTables.Tests.lt_from}
 use Rattle.hotel_core.proofs.commands.lock_codes.kept_note.Goals as goal
 
@@ -18,5 +19,13 @@ returns-then-is_past g c =
       same = λ clean. refl;
       since = since_refl;
       vouched = λ honest _. c.requires.vouched honest;
-      fault = λ clean w cause e. cc;
+      stays = λ honest clean. inl clean;
+      counted = λ honest w why. none_more None why _ _ refl refl;
     }
+
+pub returns : goal.returns
+returns g c =
+    let note = c.args.note.now in
+    knows g.met.B.Books.kept_rows (λ rows. note_at rows note.room note.fit note.count)
+    c.note-kept.result c.known.result (rw (c.room.ensures, c.fit.ensures, c.count.ensures) at c.note-kept.ensures)
+    c.known.ensures

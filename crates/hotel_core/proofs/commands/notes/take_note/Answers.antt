@@ -2,7 +2,7 @@ use Rattle.std.proofs.Common.{Some, None, refl, sym, ap, ◌∙◌, [], arith, i
 use Rattle.hotel_core.proofs.Names.{outcome_on, reported_on, said, refused}
 use Rattle.hotel_model.specs.declared.reply.Refusal.TheVariants as refusal
 use Rattle.hotel_model.specs.declared.reply.Reply.TheVariants as reply
-use Rattle.hotel_core.proofs.OfCode.Parts.{begun, at_now, then_found, then_known, stopped, stopped_known}
+use Rattle.hotel_core.proofs.OfCode.Parts.{begun, at_now, then_found, stopped}
 use Rattle.hotel_core.proofs.OfCode.Parts.{refuses, ends, only}
 use Rattle.hotel_core.proofs.{OfCode.NoteParts.reported_there, OfCode.NoteParts.later_there, OfCode.NoteParts.says}
 use Rattle.hotel_core.proofs.{OfCode.NoteParts.not_next}
@@ -31,13 +31,13 @@ returns-then-not-is_fit g c = λ source.
 pub returns-in_err-kept : goal.returns-in_err-kept
 unfolding outcome_on
 returns-in_err-kept g c = λ source.
-    stopped_known c.from_residual-in_err-kept.result c.from_residual-in_err-kept.ensures.1
+    stopped c.from_residual-in_err-kept.result c.from_residual-in_err-kept.ensures.1
     (then_found (then_found begun c.in_ok-today.ensures.finds) (rw c.room.ensures at c.in_ok-row.ensures))
     c.in_err-kept.ensures (λ k e. cc)
 
 pub returns-in-Some : goal.returns-in-Some
 returns-in-Some g c = λ source.
-    says reply.Seen refl (then_known (then_found (then_found begun c.in_ok-today.ensures.finds)
+    says reply.Seen refl (then_found (then_found (then_found begun c.in_ok-today.ensures.finds)
     (rw c.room.ensures at c.in_ok-row.ensures)) c.in_ok-kept.ensures)
     (λ k. reported_there _ _ _ _ _ (Some c.in-Some.kept) k.0.0.1 k.0.1
     (sym c.is_fit.ensures ∙ c.if-not-is_fit.false) (only k.1 ∙ c.in-Some.is)
@@ -45,7 +45,7 @@ returns-in-Some g c = λ source.
 
 pub returns-in-Some-2 : goal.returns-in-Some-2
 returns-in-Some-2 g c = λ source.
-    refuses refusal.Conflict refl (then_known (then_found (then_found begun c.in_ok-today.ensures.finds)
+    refuses refusal.Conflict refl (then_found (then_found (then_found begun c.in_ok-today.ensures.finds)
     (rw c.room.ensures at c.in_ok-row.ensures)) c.in_ok-kept.ensures)
     (λ k. reported_there _ _ _ _ _ (Some c.in-Some.kept) k.0.0.1 k.0.1
     (sym c.is_fit.ensures ∙ c.if-not-is_fit.false) (only k.1 ∙ c.in-Some.is)
@@ -54,7 +54,7 @@ returns-in-Some-2 g c = λ source.
 pub take_next-requires-clause-outcome : goal.take_next-requires-clause-outcome
 take_next-requires-clause-outcome g c =
     comes_now (λ rs. reported_on rs c.args.note.now None)
-    (then_known (then_found (then_found begun c.in_ok-today.ensures.finds) (rw c.room.ensures at c.in_ok-row.ensures))
+    (then_found (then_found (then_found begun c.in_ok-today.ensures.finds) (rw c.room.ensures at c.in_ok-row.ensures))
     c.in_ok-kept.ensures)
     (λ clean k. (
       [],
@@ -68,7 +68,7 @@ pub returns-in_err-check_next-in-None : goal.returns-in_err-check_next-in-None
 returns-in_err-check_next-in-None g c = λ source.
     not_next c.from_residual-in_err-check_next-in-None.result c.from_residual-in_err-check_next-in-None.ensures.1
     c.args.note.now _ (sym c.in_err-check_next-in-None.ensures) (omega arith)
-    (then_known (then_found (then_found begun c.in_ok-today.ensures.finds) (rw c.room.ensures at c.in_ok-row.ensures))
+    (then_found (then_found (then_found begun c.in_ok-today.ensures.finds) (rw c.room.ensures at c.in_ok-row.ensures))
     c.in_ok-kept.ensures)
     (λ k. (
       (k.0.1, only k.1 ∙ c.in-None.is),
@@ -78,7 +78,7 @@ returns-in_err-check_next-in-None g c = λ source.
 
 pub returns-in_ok-check_next-in-None : goal.returns-in_ok-check_next-in-None
 returns-in_ok-check_next-in-None g c = λ source.
-    ends (then_known (then_found (then_found begun c.in_ok-today.ensures.finds)
+    ends (then_found (then_found (then_found begun c.in_ok-today.ensures.finds)
     (rw c.room.ensures at c.in_ok-row.ensures)) c.in_ok-kept.ensures)
     (c.take_next.ensures source) (λ k. reported_there _ _ _ _ _ None k.0.0.1 k.0.1
     (sym c.is_fit.ensures ∙ c.if-not-is_fit.false) (only k.1 ∙ c.in-None.is))

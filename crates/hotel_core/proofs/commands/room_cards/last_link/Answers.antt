@@ -3,12 +3,10 @@ use Rattle.hotel_core.proofs.commands.room_cards.last_link.Goals as goal
 
 pub returns-in_err-new_code : goal.returns-in_err-new_code
 returns-in_err-new_code g c = record {
-  found = record {
-    answer = search rules;
-    same = search rules;
-    since = search rules;
-    vouched = search rules;
-    fault = search rules;
-  };
-  called = search rules;
+  answer = search rules;
+  same = search rules;
+  since = search rules;
+  vouched = search rules;
+  stays = search rules;
+  counted = search rules;
 }

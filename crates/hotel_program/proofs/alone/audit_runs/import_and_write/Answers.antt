@@ -15,12 +15,7 @@ returns-in-Err-clause-ends g c =
       false,
       ap (λ f. Err f) c.import_fault.ensures.fault,
       refl,
-      record {
-        went = e.imported;
-        no_file = e.no_file;
-        since = e.since;
-        failed = e.failed;
-      },
+      e.imported,
     )
 
 pub returns-in-Ok-write_answers-clause-ends : goal.returns-in-Ok-write_answers-clause-ends
@@ -33,12 +28,7 @@ returns-in-Ok-write_answers-clause-ends g c =
       false,
       ap (λ s. Ok s) (c.answers_status.ensures.status ∙ ap answers_status items),
       subst (λ (l : List LineAnswer). Appends old new (answers_text 1 l)) items c.in-Ok-write_answers.ensures.writes.ok,
-      record {
-        went = e.imported;
-        no_file = tt;
-        since = e.since;
-        failed = tt;
-      },
+      e.imported,
     )
 
 pub returns-clause-ends : goal.returns-clause-ends
@@ -52,12 +42,7 @@ returns-clause-ends g c =
       refl,
       subst (λ (l : List LineAnswer). AppendsFront old new (answers_text 1 l)) items
           c.in-Err-write_answers.ensures.writes.err,
-      record {
-        went = e.imported;
-        no_file = tt;
-        since = e.since;
-        failed = tt;
-      },
+      e.imported,
     )
 
 pub returns-in-Err-clause-calls : goal.returns-in-Err-clause-calls

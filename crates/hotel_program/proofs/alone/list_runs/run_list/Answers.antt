@@ -14,5 +14,4 @@ returns-clause-ends g c =
           c.finish.ensures.told,
       λ honest. answer_ends _ c.args.list.now _ _ _ (ended.text honest),
       ended.books,
-      ended.asked,
     )

@@ -1,9 +1,11 @@
 use Rattle.std.proofs.Common.{sym, subst, map, string_bytes, ap, ◌∙◌, ◌∷◌, []}
 use Rattle.std.proofs.lemmas.Result.{IfErr-weaker, IfOk-weaker}
-use Rattle.clap.specs.Words.{App, takes, first_of, is_simple, matches_of, subcommand_of}
-use Rattle.hotel_program.specs.Plans.{IsValueOrMemory, act_in}
-use Rattle.hotel_program.specs.declared.command_line.plan.UsageFault.{UsageFault}
-use Rattle.hotel_program.proofs.CommandLineLemmas.{desk_is_simple, desk_wants_subcommand}
+use Rattle.clap.specs.Words.{App, fault_of, first_of, is_simple, is_simple_and_free, kind_of, matches_of}
+use Rattle.clap.specs.Words.{subcommand_of}
+use Rattle.clap.specs.Kinds.{HasKind, Kinds}
+use Rattle.hotel_program.specs.Plans.{act_in}
+use Rattle.hotel_program.proofs.CommandLineLemmas.{desk_is_free, desk_is_simple, desk_wants_subcommand}
+use Rattle.hotel_program.proofs.CommandLineLemmas.{refuses_none, told_by, told_of_plan}
 use Rattle.hotel_program.proofs.command_line.parse.parse_words.Goals as goal
 
 pub plan-requires : goal.plan-requires
@@ -37,9 +39,26 @@ returns-in-Ok-try_get_matches_from-clause-value c =
     let sub = m.1 ∙ ap (λ (a : App). subcommand_of a (map string_bytes c.args.words.now)) c.in-Ok.ensures.shape in
     IfErr-weaker c.plan.result _ _ (λ e h v r. ap act_in (sym sub) ∙ h v r) c.plan.ensures.value
 
-pub returns-in-Err-clause-takes : goal.returns-in-Err-clause-takes
-returns-in-Err-clause-takes c =
-    λ t.
-    let same = ap (λ (a : App). takes a (map string_bytes c.args.words.now)) c.in-Ok.ensures.shape in
-    let e = c.usage_fault.ensures.memory (c.in-Err.ensures.passes (same ∙ t)) in
-    subst (λ (f : UsageFault). IsValueOrMemory f) (sym e) tt
+pub returns-in-Ok-try_get_matches_from-clause-clean : goal.returns-in-Ok-try_get_matches_from-clause-clean
+returns-in-Ok-try_get_matches_from-clause-clean c =
+    let same = ap (λ (a : App). fault_of a (map string_bytes c.args.words.now)) c.in-Ok.ensures.shape in
+    let none = sym same
+    ∙ c.in-Ok-try_get_matches_from.ensures.kinds (ap is_simple_and_free c.in-Ok.ensures.shape ∙ desk_is_free) in
+    IfOk-weaker c.plan.result _ _ (λ p h. none) c.plan.ensures.act
+
+pub returns-in-Ok-try_get_matches_from-clause-told : goal.returns-in-Ok-try_get_matches_from-clause-told
+returns-in-Ok-try_get_matches_from-clause-told c =
+    let same = ap (λ (a : App). fault_of a (map string_bytes c.args.words.now)) c.in-Ok.ensures.shape in
+    let none = sym same
+    ∙ c.in-Ok-try_get_matches_from.ensures.kinds (ap is_simple_and_free c.in-Ok.ensures.shape ∙ desk_is_free) in
+    IfErr-weaker c.plan.result _ _ (λ e h. told_of_plan _ e h none) c.plan.ensures.only
+
+pub returns-in-Err-clause-value : goal.returns-in-Err-clause-value
+returns-in-Err-clause-value c = refuses_none _ (kind_of c.in-Err.error) c.usage_fault.result c.usage_fault.ensures.kind
+
+pub returns-in-Err-clause-told : goal.returns-in-Err-clause-told
+returns-in-Err-clause-told c =
+    let same = ap (λ (a : App). fault_of a (map string_bytes c.args.words.now)) c.in-Ok.ensures.shape in
+    told_by _ (kind_of c.in-Err.error) c.usage_fault.result
+    (subst (λ (k : Kinds). HasKind k c.in-Err.error) same
+    (c.in-Err.ensures.kinds (ap is_simple_and_free c.in-Ok.ensures.shape ∙ desk_is_free))) c.usage_fault.ensures.kind

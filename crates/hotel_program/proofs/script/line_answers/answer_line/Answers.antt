@@ -12,25 +12,25 @@ pub returns-in-Ok-Command-clause-went : goal.returns-in-Ok-Command-clause-went
 returns-in-Ok-Command-clause-went g c =
     let read = c.in-Ok-Command.is ∙ ap (λ (a : Ask). Ok a) c.in-Ok-Command.field-0-is in
     let wanted = subst (IsLineRead ask_copies (ask_in c.args.line.now)) read c.read_line.ensures in
-    subst (λ (w : Option Ask). HappensBy g.B.Issued g.B.Books.rows c.args.books.now
+    subst (λ (w : Option Ask). HappensBy g.B.Kept g.B.Books.rows c.args.books.now
     (AskEnds w (g.R.Rng.stream c.args.source.now) (g.R.Rng.stream c.answer_command.new.source)
-    (g.W.Write.contents c.args.writer.now) (g.W.Write.contents c.answer_command.new.writer) c.answer_command.result)
-    c.answer_command.new.books) wanted c.answer_command.ensures.went
+    (g.W.Write.contents c.args.writer.now) (g.W.Write.contents c.answer_command.new.writer) c.answer_command.result
+    (g.B.Kept.is_clean c.args.books.now)) c.answer_command.new.books) wanted c.answer_command.ensures.went
 
 pub returns-in-Ok-List-clause-went : goal.returns-in-Ok-List-clause-went
 returns-in-Ok-List-clause-went g c =
     let read = c.in-Ok-List.is ∙ ap (λ (a : Ask). Ok a) c.in-Ok-List.field-0-is in
     let wanted = subst (IsLineRead ask_copies (ask_in c.args.line.now)) read c.read_line.ensures in
     let s = g.R.Rng.stream c.args.source.now in
-    subst (λ (w : Option Ask). HappensBy g.B.Issued g.B.Books.rows c.args.books.now (AskEnds w s s
-    (g.W.Write.contents c.args.writer.now) (g.W.Write.contents c.answer_list.new.writer) c.answer_list.result)
-    c.answer_list.new.books) wanted (c.answer_list.ensures.went s)
+    subst (λ (w : Option Ask). HappensBy g.B.Kept g.B.Books.rows c.args.books.now (AskEnds w s s
+    (g.W.Write.contents c.args.writer.now) (g.W.Write.contents c.answer_list.new.writer) c.answer_list.result
+    (g.B.Kept.is_clean c.args.books.now)) c.answer_list.new.books) wanted (c.answer_list.ensures.went s)
 
 pub returns-in-Err-Unread-clause-went : goal.returns-in-Err-Unread-clause-went
 returns-in-Err-Unread-clause-went g c =
     let read = c.in-Err-Unread.is ∙ ap (λ (f : LineFault). Err f) c.in-Err-Unread.field-0-is in
     let wanted = subst (IsLineRead ask_copies (ask_in c.args.line.now)) read c.read_line.ensures in
-    unread_ends c.args.books.now (ask_in c.args.line.now) _ _ _ c.write_answer.result g.met.B.Issued.clean_honest wanted
+    unread_ends c.args.books.now (ask_in c.args.line.now) _ _ _ c.write_answer.result wanted
     c.write_answer.ensures.writes.ok c.write_answer.ensures.writes.err
 
 pub returns-in-Err-Memory-clause-went : goal.returns-in-Err-Memory-clause-went
@@ -38,5 +38,5 @@ returns-in-Err-Memory-clause-went g c =
     let read = c.in-Err-Memory.is ∙ ap (λ (f : LineFault). Err f) c.in-Err-Memory.field-0-is in
     let some = subst (IsLineRead ask_copies (ask_in c.args.line.now)) read c.read_line.ensures in
     memory_ends c.args.books.now (ask_in c.args.line.now) _ _ _ c.write_answer-in-Err-Memory.result
-    g.met.B.Issued.clean_honest some c.write_answer-in-Err-Memory.ensures.writes.ok
+    some c.write_answer-in-Err-Memory.ensures.writes.ok
     c.write_answer-in-Err-Memory.ensures.writes.err

@@ -5,13 +5,13 @@ use Rattle.hotel_tables.proofs.table_books.TableBooks.open_or_return.Goals as go
 
 pub enter-requires-clause-ours : goal.enter-requires-clause-ours
 enter-requires-clause-ours g c =
-    ours_of (state g.S.Store c.args.conn) c.requires.alone
+    ours_of c.in-Ok.layout (state g.S.Store c.args.conn) c.requires.alone
     (c.is_autocommit-settled.ensures.settled (c.is_autocommit-settled.ensures.value ∙ ap not c.requires.alone))
     c.in-Ok.ensures.ok
 
 pub returns-in-Err-enter-clause-left : goal.returns-in-Err-enter-clause-left
 returns-in-Err-enter-clause-left g c =
-    left_of g.S.Store c.in-Ok.version c.args.conn c.enter.new.conn c.in-Err-enter.why
+    left_of g.S.Store c.in-Ok.layout c.args.conn c.enter.new.conn c.in-Err-enter.why
     c.in-Ok.ensures.ok c.in-Err-enter.ensures
 
 pub returns-in-Err-clause-left : goal.returns-in-Err-clause-left

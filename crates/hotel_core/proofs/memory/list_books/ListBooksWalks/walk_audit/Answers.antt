@@ -1,5 +1,6 @@
-use Rattle.std.proofs.Common.{refl, rules}
+use Rattle.std.proofs.Common.{refl, rules, inl}
 use Rattle.hotel_core.proofs.Names.{Hands, notes_at}
+use Rattle.hotel_core.proofs.OfCode.Counting.{none_more}
 use Rattle.hotel_core.proofs.memory.list_books.ListBooksWalks.walk_audit.Goals as goal
 
 pub returns : goal.returns
@@ -9,12 +10,22 @@ returns g c =
     c.walk_audit.result = search rules in
     record {
       hands = (rows, hands, λ _. refl);
-      kept = search rules;
-      since = search rules;
-      vouched = search rules;
-      called = search rules;
-      stop = search rules;
-      fault = search rules;
-      cause = λ honest store. cc;
-      sure = search rules;
+      looks = record {
+        leaves = record {
+          since = record {
+            was_clean = search rules;
+            was_honest = search rules;
+            counted = search rules;
+            disk = search rules;
+          };
+          counted = λ honest why. none_more _ why _ _ c.walk_audit.ensures.sure refl;
+          vouched = search rules;
+          stays = λ _ _. inl tt;
+        };
+        rose = search rules;
+        kept = search rules;
+        cause = λ honest store. cc;
+        stop = search rules;
+        sure = search rules;
+      };
     }

@@ -1,4 +1,4 @@
-use Rattle.std.proofs.Common.{refl, ap, sym, ◌∙◌, rules}
+use Rattle.std.proofs.Common.{refl, ap, sym, ◌∙◌, rules, inl}
 use Rattle.hotel_core.proofs.Names.{Hands, failure_of, in_house_on}
 use Rattle.hotel_core.proofs.OfCode.Walking.{not_store}
 use Rattle.hotel_core.proofs.memory.list_books.ListBooksWalks.walk_in_house.Goals as goal
@@ -10,13 +10,23 @@ returns g c =
     c.ended.result = search rules in
     record {
       hands = (rows, hands, λ _. refl);
-      kept = search rules;
-      since = search rules;
-      vouched = search rules;
-      called = search rules;
-      stop = search rules;
-      fault = search rules;
-      cause = λ honest failed. not_store _ c.walk_in_house-end.ensures.no_store
-          (ap failure_of (sym c.ended.ensures.same) ∙ failed);
-      sure = search rules;
+      looks = record {
+        leaves = record {
+          since = record {
+            was_clean = search rules;
+            was_honest = search rules;
+            counted = search rules;
+            disk = search rules;
+          };
+          counted = search rules;
+          vouched = search rules;
+          stays = λ _ _. inl tt;
+        };
+        rose = search rules;
+        kept = search rules;
+        cause = λ honest failed. not_store _ c.walk_in_house-end.ensures.no_store
+            (ap failure_of (sym c.ended.ensures.same) ∙ failed);
+        stop = search rules;
+        sure = search rules;
+      };
     }

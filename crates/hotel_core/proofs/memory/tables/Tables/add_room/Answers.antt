@@ -1,4 +1,4 @@
-use Rattle.std.proofs.Common.{rules, ◌≡◌, ℕ, List, None, ap, sym, ◌∙◌, subst, arith, nat_cmp}
+use Rattle.std.proofs.Common.{◌≡◌, ℕ, List, None, ap, sym, ◌∙◌, subst, arith, nat_cmp}
 use Rattle.hotel_core.proofs.Names.{FitRow, CodeRow, pair_cmp, lookup, fit_at, is_at, remove_entry, keys_of}
 use Rattle.hotel_core.proofs.Names.{nat_cmp_total, RoomRow, said_of, IsNumberUpTo, Rows, has_kind, room_at, code_place}
 use Rattle.hotel_core.proofs.Names.{LaterPlacesFree, RoomsKnown, TablesAgree, one_if}

@@ -1,4 +1,4 @@
-use Rattle.std.proofs.Common.{◌∙◌, ap, sym, rules}
+use Rattle.std.proofs.Common.{◌∙◌, ap, sym, rules, inl}
 use Rattle.hotel_core.proofs.{Names.in_house_on, Names.Stopping, OfCode.HandedOn.handed_on, OfCode.HandedOn.same_sink}
 use Rattle.hotel_core.proofs.stops.stopping_walks.StoppingBooksWalks.walk_in_house.Goals as goal
 
@@ -12,12 +12,22 @@ returns g c =
     sym (same_sink g.S.Sink.after g.S.Sink.after_stop hands.0 _ _ _ hands.1 ∙ c.new-passing.ensures.same_sink) in
     record {
       hands = search rules;
-      kept = search rules;
-      since = search rules;
-      vouched = search rules;
-      called = search rules;
-      stop = search rules;
-      fault = search rules;
-      cause = search rules;
-      sure = search rules;
+      looks = record {
+        leaves = record {
+          since = record {
+            was_clean = search rules;
+            was_honest = search rules;
+            counted = search rules;
+            disk = search rules;
+          };
+          counted = search rules;
+          vouched = search rules;
+          stays = λ _ _. inl tt;
+        };
+        rose = search rules;
+        kept = search rules;
+        cause = search rules;
+        stop = search rules;
+        sure = search rules;
+      };
     }

@@ -3,5 +3,5 @@ use Rattle.hotel_tables.proofs.table_books.books.TableBooksBooks.rooms_of_kind.G
 
 pub returns-in_err-ask : goal.returns-in_err-ask
 returns-in_err-ask g c =
-    asked_in_vain g.S.Store _ _ _ _ c.in_err-ask.ensures.looks c.in_err-ask.ensures.cause
-    c.in_err-ask.ensures.counted c.in_err-ask.ensures.fault c.from_residual.ensures
+    asked_in_vain g.S.Store _ _ _ c.in_err-ask.ensures.ready c.in_err-ask.ensures.no_fewer c.in_err-ask.ensures.counted
+    _ c.from_residual.ensures

@@ -1,10 +1,19 @@
 use Rattle.hotel_model.specs.Refinement.ListsOnRows.{arrivals_on}
 use Rattle.hotel_tables.specs.Causes.{of_arrivals}
-use Rattle.hotel_tables.proofs.CountedCalls.{walk_counted}
+use Rattle.hotel_tables.proofs.CountedCalls.{asked_then_walked, walk_counted, walked_in_vain}
 use Rattle.hotel_tables.proofs.table_books.walks.TableBooksWalks.walk_arrivals.Goals as goal
 
-pub returns : goal.returns
-returns g c =
-    walk_counted g.S.Store _ _ c.self.view_is _ _ c.counting_walk.ensures.conn c.counting_walk.ensures.counted
-    (λ rows. arrivals_on rows c.args.day) (λ _ _. of_arrivals c.args.day)
-    c.arrivals-end.ensures c.counting_walk.ensures.same c.counting_walk.ensures.risen
+pub returns-in-Ok : goal.returns-in-Ok
+returns-in-Ok g c =
+    let asked = c.in-Ok.ensures in
+    asked_then_walked g.S.Store c.args.self.now c.ask.new.self c.counting_walk.new.self _ asked.ready asked.no_fewer
+    asked.counted (λ rows. arrivals_on rows c.args.day)
+    (walk_counted g.S.Store _ _ c.self.view_is _ _ c.counting_walk.ensures.conn c.counting_walk.ensures.no_fewer
+    (λ rows. arrivals_on rows c.args.day) (λ clean. (asked.ready.unchanged clean).0.is_open) (λ _ _. of_arrivals c.args.day)
+    c.arrivals-end.ensures c.counting_walk.ensures.same c.counting_walk.ensures.counted)
+
+pub returns-in-Err : goal.returns-in-Err
+returns-in-Err g c =
+    let asked = c.in-Err.ensures in
+    walked_in_vain g.S.Store _ _ c.in-Err.cause asked.ready asked.no_fewer asked.counted c.walk_fault.result
+    c.walk_fault.ensures

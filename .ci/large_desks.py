@@ -1,0 +1,229 @@
+"""A large desk as another program writes it by the tables of docs/FORMATS.md: its rows, and what each list of it has.
+
+1,500 rooms of 400 kinds, guests of each length from 1 to 60 bytes, and a room with 12,000 past stays. Each room has had
+some stays; some have a party in house, cards inside, codes that are left behind, a lock that a recoding set, or, in the
+second version, a lock that was replaced."""
+import datetime
+import itertools
+import random
+import sqlite3
+
+from built_desk import HEADER, INDEXES
+
+TABLES = """\
+CREATE TABLE meta (id INTEGER PRIMARY KEY CHECK (id = 1), version INTEGER NOT NULL, \
+day INTEGER CHECK (day BETWEEN 0 AND 36524)) STRICT;
+CREATE TABLE kind (kind TEXT NOT NULL PRIMARY KEY) STRICT;
+CREATE TABLE room (room INTEGER PRIMARY KEY CHECK (room BETWEEN 1 AND 9999), kind TEXT NOT NULL REFERENCES kind, \
+lock_place INTEGER NOT NULL, codes INTEGER NOT NULL CHECK (codes >= 1), \
+secured INTEGER NOT NULL CHECK (secured IN (0, 1)), party INTEGER UNIQUE, notes INTEGER NOT NULL, \
+CHECK (0 <= lock_place AND lock_place < codes)) STRICT;
+CREATE TABLE stay (party INTEGER PRIMARY KEY, guest TEXT NOT NULL, kind TEXT NOT NULL REFERENCES kind, \
+arrive INTEGER NOT NULL, depart INTEGER NOT NULL, state INTEGER NOT NULL CHECK (state BETWEEN 0 AND 3), \
+room INTEGER REFERENCES room, CHECK (arrive < depart)) STRICT;
+CREATE TABLE code (code INTEGER PRIMARY KEY CHECK (code BETWEEN 0 AND 281474976710655), \
+room INTEGER NOT NULL REFERENCES room, place INTEGER NOT NULL, UNIQUE (room, place)) STRICT;
+CREATE TABLE card (number INTEGER PRIMARY KEY, party INTEGER NOT NULL REFERENCES stay, \
+old_code INTEGER NOT NULL REFERENCES code, new_code INTEGER NOT NULL REFERENCES code) STRICT;
+CREATE TABLE inside (room INTEGER NOT NULL REFERENCES room, card INTEGER NOT NULL REFERENCES card, \
+PRIMARY KEY (room, card)) STRICT;
+CREATE TABLE note (room INTEGER NOT NULL REFERENCES room, n INTEGER NOT NULL, \
+act INTEGER NOT NULL CHECK (act BETWEEN 0 AND 2), card INTEGER, first_code INTEGER NOT NULL, \
+second_code INTEGER NOT NULL, day INTEGER NOT NULL, second INTEGER NOT NULL, PRIMARY KEY (room, n)) STRICT;
+"""
+FITS = """\
+CREATE TABLE fit (room INTEGER NOT NULL REFERENCES room, fit INTEGER NOT NULL, place INTEGER NOT NULL, \
+before INTEGER NOT NULL, PRIMARY KEY (room, fit), UNIQUE (room, place)) STRICT;
+"""
+BOOKED, IN_HOUSE, DONE, CANCELLED = range(4)
+ENTERED, LEFT, RECODED = range(3)
+TODAY, SECONDS = 11443, 86400  # 2031-05-01, counted from 2000-01-01
+# On this day each room is booked.
+FULL = TODAY + 40
+KINDS = sorted(f"{'KINDS'[:number % 6]}{number:03}" for number in range(400))
+ROOMS, LONG_ROOM, LONG = range(1005, 10000, 6), 9999, 12000
+
+
+def day_of(number):
+    return (datetime.date(2000, 1, 1) + datetime.timedelta(number)).isoformat()
+
+
+def guest(party):
+    """A guest with commas, quotes and a letter of two bytes, where its length has room for them: 1 to 60 bytes."""
+    size = 1 + party % 60
+    text = (f"{party}," + ' "é" of a long road, ' * 3).encode()[:size].decode(errors="ignore").rstrip(" ")
+    return text + "x" * (size - len(text.encode()))
+
+
+def field(text):
+    """The text as a field of a row."""
+    return '"' + text.replace('"', '""') + '"' if set(text) & set(',"') else text
+
+
+class Room:
+    """A room, and what has happened there."""
+
+    def __init__(self, desk, room, kind):
+        self.desk, self.room, self.kind = desk, room, kind
+        self.codes, self.fits, self.notes, self.inside = [next(desk.codes)], [(0, 0)], [], set()
+        self.place, self.secured, self.party = 0, False, None
+
+    def checked_in(self, nights):
+        """A party comes; its card."""
+        self.party = self.desk.booked(self.kind, TODAY, nights)
+        self.codes.append(next(self.desk.codes))
+        self.desk.stays[self.party].update(state=IN_HOUSE, room=self.room)
+        self.desk.cards.append((len(self.desk.cards) + 1, self.party, *self.codes[-2:]))
+        self.secured = False
+        return self.desk.cards[-1]
+
+    def checked_out(self):
+        self.desk.stays[self.party].update(state=DONE, room=None)
+        self.party = None
+
+    def noted(self, act, card, first, second):
+        self.notes.append((act, card, first, second, TODAY, len(self.notes) % SECONDS))
+
+    def entered(self, card):
+        """The newest card comes in."""
+        number, _, *link = card
+        self.secured |= not self.inside
+        self.place = len(self.codes) - 1
+        self.inside.add(number)
+        self.noted(ENTERED, number, *link)
+
+    def left(self, card):
+        number, _, *link = card
+        self.inside.remove(number)
+        self.noted(LEFT, number, *link)
+
+    def recoded(self):
+        """The lock is set to the newest code."""
+        self.noted(RECODED, None, self.codes[self.place], self.codes[-1])
+        self.place = len(self.codes) - 1
+
+    def refitted(self):
+        self.place, self.secured, self.inside = len(self.codes), False, set()
+        self.fits.append((self.place, len(self.notes)))
+        self.codes.append(next(self.desk.codes))
+
+    def numbered(self):
+        """The notes, each with its fit and its count there."""
+        befores = [before for _, before in self.fits] + [len(self.notes)]
+        for fit, (before, end) in enumerate(itertools.pairwise(befores), 1):
+            for count, note in enumerate(self.notes[before:end], 1):
+                yield fit, count, *note
+
+
+class LargeDesk:
+    """The rows of a large desk of a version, and its lists."""
+
+    def __init__(self, version):
+        self.version, self.stays, self.cards = version, {}, []
+        self.codes = iter(random.Random(version).sample(range(2 ** 48), 30000))
+        self.rooms = [Room(self, room, KINDS[number % len(KINDS)]) for number, room in enumerate(ROOMS)]
+        for number, room in enumerate(self.rooms):
+            self.lived_in(number, room)
+        for room in self.rooms:
+            self.booked(room.kind, FULL, 1 + room.room % 50)
+        self.stays[self.booked(KINDS[0], FULL, 1)]["state"] = CANCELLED
+
+    def booked(self, kind, arrive, nights):
+        """A stay is booked; its party."""
+        party = len(self.stays) + 1
+        self.stays[party] = dict(guest=guest(party), kind=kind, arrive=arrive, depart=arrive + nights, state=BOOKED,
+                                 room=None)
+        return party
+
+    def lived_in(self, number, room):
+        """What has happened in the room of this number."""
+        for stay in range(LONG if room.room == LONG_ROOM else number % 3):
+            card = room.checked_in(1)
+            if stay % 2:
+                room.recoded()
+            else:
+                room.entered(card)
+                if number % 5 or stay:
+                    room.left(card)
+            room.checked_out()
+        if self.version == 2 and number % 10 == 0:
+            for _ in range(1 + number // 10 % 3):
+                room.refitted()
+                room.entered(room.checked_in(1))
+                room.checked_out()
+        if number % 7 == 0:
+            for _ in range(2):
+                room.checked_in(1)
+                room.checked_out()
+            if number % 2:
+                room.recoded()
+        if number % 4 == 0:
+            card = room.checked_in(1 + number % 30)
+            if number % 8 == 0 and number % 7:
+                room.entered(card)
+
+    def rows(self):
+        """The rows of each table, in order of their keys."""
+        return {
+            "meta": [(1, self.version, TODAY)], "kind": [(kind,) for kind in KINDS],
+            "room": [(it.room, it.kind, it.place, len(it.codes), int(it.secured), it.party, len(it.notes))
+                     for it in self.rooms],
+            "stay": [(party, *stay.values()) for party, stay in self.stays.items()],
+            "code": sorted((code, it.room, place) for it in self.rooms for place, code in enumerate(it.codes)),
+            "card": self.cards, "inside": [(it.room, card) for it in self.rooms for card in sorted(it.inside)],
+            "note": [(it.room, n, *note) for it in self.rooms for n, note in enumerate(it.notes, 1)],
+            "fit": [(it.room, fit, *row) for it in self.rooms for fit, row in enumerate(it.fits, 1)]}
+
+    def written(self, file, indexes):
+        """Writes the desk into this file, of the second version with so many of the indexes."""
+        with sqlite3.connect(file) as db:
+            db.executescript(TABLES + (FITS + "".join(INDEXES[:indexes]) if self.version == 2 else ""))
+            for table, rows in self.rows().items():
+                if table != "fit" or self.version == 2:
+                    db.executemany(f"INSERT INTO {table} VALUES ({', '.join('?' * len(rows[0]))})", rows)
+        db.close()
+
+    def arrivals(self, day):
+        yield "party,guest,kind,arrive,depart"
+        for party, stay in self.stays.items():
+            if stay["state"] == BOOKED and stay["arrive"] <= day < stay["depart"]:
+                days = f"{day_of(stay['arrive'])},{day_of(stay['depart'])}"
+                yield f"{party},{field(stay['guest'])},{stay['kind']},{days}"
+
+    def in_house(self):
+        yield "room,party,guest,kind,depart,secured"
+        for it in self.rooms:
+            if it.party:
+                stay, secured = self.stays[it.party], "yes" if it.secured else "no"
+                yield f"{it.room},{it.party},{field(stay['guest'])},{it.kind},{day_of(stay['depart'])},{secured}"
+
+    def left_behind(self):
+        yield "room,held,current,awaited"
+        for it in self.rooms:
+            awaited = len(it.codes) - 1 - it.place
+            if awaited >= 2:
+                yield f"{it.room},{it.codes[it.place]:012x},{it.codes[-1]:012x},{awaited}"
+
+    def lists(self):
+        """The lines of each list, and its text."""
+        yield "in-house", self.in_house()
+        yield "left-behind", self.left_behind()
+        for day in (TODAY, FULL - 1, FULL, FULL + 1, FULL + 49, FULL + 50):
+            yield f"arrivals {day_of(day)}", self.arrivals(day)
+        for it in self.rooms:
+            yield f"chain {it.room}", chain(it)
+            yield f"audit-of {it.room}", audit(it)
+
+
+def chain(room):
+    yield "place,code,state"
+    for place, code in enumerate(room.codes):
+        yield f"{place},{code:012x},{'passed' if place < room.place else 'held' if place == room.place else 'awaited'}"
+
+
+def audit(room):
+    yield HEADER.decode().strip()
+    for fit, count, act, card, first, second, day, at in room.numbered():
+        moment = f"{day_of(day)}T{at // 3600:02}:{at // 60 % 60:02}:{at % 60:02}"
+        yield (f"{room.room},{fit},{count},{('in', 'out', 'recode')[act]},{card or ''},{first:012x},{second:012x},"
+               f"{moment}")

@@ -1,0 +1,35 @@
+-- What is proved beside: what a reissue leaves as it is, where an issued code is listed, and the limits.
+use Rattle.std.specs.Prelude.{ℕ, ◌≡◌, ◌↔◌, List, ◌∷◌, ◌++◌, length, Some}
+use Rattle.keycard_rules.specs.declared.numbers.TheConstants.{LAST_NUMBER, LAST_ROOM}
+use Rattle.hotel_nights.specs.declared.guest.TheConstants.{GUEST_BYTES}
+use Rattle.hotel_nights.specs.declared.kind.TheConstants.{KIND_BYTES}
+use Rattle.hotel_model.specs.declared.rows.CodeRow.{CodeRow}
+use Rattle.hotel_model.specs.declared.command.Command.TheVariants as command
+use Rattle.hotel_model.specs.Rows.{at_number}
+use Rattle.hotel_model.specs.Event.{Event}
+use Rattle.hotel_model.specs.History.{History, ◌▷◌}
+use Rattle.hotel_model.specs.Issued.{all_issued, issued}
+use Rattle.hotel_model.specs.Guests.{registered}
+use Rattle.hotel_model.specs.Stays.{stays}
+use Rattle.hotel_model.specs.Answer.{answer_to}
+use Rattle.hotel_model.specs.Run.{Reached}
+
+-- After an accepted reissue each room has the party that it had, and the stays are the same.
+abbrev pub ReissuesKeep : Type 0
+ReissuesKeep = (h : History) (ahead : List ℕ) (party : ℕ) (event : Event) → Reached h
+    → (answer_to h ahead (command.Reissue party)).happens ≡ Some event
+    → ((r : ℕ) → registered (h ▷ event) r ≡ registered h r) × (stays (h ▷ event) ≡ stays h)
+
+-- A code is listed with a room and a place exactly where it stands at this place among the codes that were issued at that
+-- room.
+abbrev pub CodesAreListed : Type 0
+CodesAreListed = (h : History) → Reached h → (code : ℕ) (row : CodeRow)
+    → (at_number (all_issued h) code ≡ Some row)
+    ↔ ((before later : List ℕ) × (issued h row.room ≡ before ++ code ∷ later) × (length before ≡ row.place))
+
+-- Each limit is its number.
+pub record LimitsAre : Type 0 where
+  pub room : LAST_ROOM ≡ 9999
+  pub number : LAST_NUMBER ≡ 9999999
+  pub kind : KIND_BYTES ≡ 8
+  pub guest : GUEST_BYTES ≡ 60
