@@ -1,8 +1,8 @@
 //! Desks of the first version of the tables: what an opening makes of them, and what it refuses and leaves as it is.
 use crate::connections::opened;
 use crate::first_desks::{
-    CREATE_CARD_PARTY, CREATE_FIT, CREATE_STAY_ARRIVE, CREATE_STAY_ROOM, INDEXES, INSERT_FIT, carry_out,
-    desk_with, first_desk, second_desk,
+    CREATE_CARD_PARTY, CREATE_FIT, CREATE_STAY_ARRIVE, CREATE_STAY_ROOM, INDEXES, INSERT_FIT,
+    carry_out, desk_with, first_desk, second_desk,
 };
 use crate::stored_rows::{database_text, stored};
 use crate::tables::{damaged_in, is_damaged, is_refused};
