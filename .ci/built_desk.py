@@ -1,4 +1,5 @@
 """The built program as the tests of this folder run it: what it is given, and what it answers."""
+import concurrent.futures
 import errno
 import functools
 import itertools
@@ -217,15 +218,22 @@ def exchange(port, asked, piece):
     return said
 
 
-def main(tests):
-    """Runs these tests of the program that is named by the first word, or of the built one, and counts them."""
+def wrong_cases(program, test):
+    """The cases of a test of this program that aren't as wanted."""
+    with tempfile.TemporaryDirectory(dir=ROOM) as made:
+        return [case for case in test(Desk(program, pathlib.Path(made))) if case[1] != case[2]]
+
+
+def main(tests, waiting=()):
+    """Runs these tests of the program that is named by the first word, or of the built one, and behind them those that
+    mostly wait, side by side; and counts them."""
     program = pathlib.Path(sys.argv[1] if len(sys.argv) > 1 else DESK).resolve()
     failed = 0
-    for test in tests:
-        with tempfile.TemporaryDirectory(dir=ROOM) as made:
-            wrong = [case for case in test(Desk(program, pathlib.Path(made))) if case[1] != case[2]]
-        for given, wanted, got in wrong[:3]:
-            print(f"{test.__name__}, given {given!r}: wanted {wanted!r:.300}, and got {got!r:.300}")
-        failed += bool(wrong)
-    print(f"{len(tests) - failed} passed, {failed} failed")
+    for group, at_once in ((tests, 1), (waiting, max(1, len(waiting)))):
+        with concurrent.futures.ThreadPoolExecutor(at_once) as pool:
+            for test, wrong in zip(group, pool.map(functools.partial(wrong_cases, program), group)):
+                for given, wanted, got in wrong[:3]:
+                    print(f"{test.__name__}, given {given!r}: wanted {wanted!r:.300}, and got {got!r:.300}")
+                failed += bool(wrong)
+    print(f"{len(tests) + len(waiting) - failed} passed, {failed} failed")
     sys.exit(1 if failed else 0)

@@ -21,7 +21,7 @@ import sys
 TOP = pathlib.Path(__file__).resolve().parent.parent
 CRATES = {path.name: path for path in sorted((TOP / "crates").iterdir())}
 DOCUMENTS = [TOP / "README.md", *sorted((TOP / "docs").glob("*.md")), TOP / "bench" / "README.md"]
-TEST_CRATES = ("hotel_tests", "hotel_stored_tests")
+TEST_CRATES = ("hotel_tests", "hotel_stored_tests", "hotel_client")
 # Words of other libraries that documents name.
 FOREIGN = {"assert_eq", "auto_vacuum", "sqlite_stat1"}
 

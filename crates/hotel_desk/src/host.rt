@@ -61,6 +61,10 @@ impl<D: PathDisk> Clock for Host<D> {
     fn since_1970(&self) -> io::Result<Duration> {
         self.rt.since_1970()
     }
+
+    fn sleep(&self, duration: Duration) {
+        self.rt.sleep(duration);
+    }
 }
 
 impl<D: PathDisk> Surroundings for Host<D> {

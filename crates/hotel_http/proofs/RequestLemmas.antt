@@ -1,6 +1,6 @@
 -- A request that is read in pieces is what the whole input asks for.
 use Rattle.std.proofs.Common.{◌≡◌, ℕ, ◌≤◌, ◌<◌, List, [], ◌++◌, append_assoc, arith, length, take, drop, refl, sym, ap}
-use Rattle.std.proofs.Common.{◌∙◌, subst, inl, inr, Option, Some, None, IfSome, Result, Ok, Err}
+use Rattle.std.proofs.Common.{◌∙◌, subst, inl, inr, Bool, Option, Some, None, IfSome, IfOk, Result, Ok, Err}
 use Rattle.std.specs.Io.KnownBytes.{Consumes, Appends}
 use Rattle.std.proofs.KnownBytes.{Appends-nil, Consumes-kept, Consumes-nil, Consumes-trans}
 use Rattle.std.proofs.lemmas.List.{drop-append-le}
@@ -13,11 +13,11 @@ use Rattle.hotel_http.specs.{Head.WantsHead, declared.head.Judged.Judged}
 use Rattle.hotel_http.specs.declared.head.TheConstants.{HEAD_BYTES, HEAD_FIELDS}
 use Rattle.hotel_http.specs.{Plan.plan_in, Plan.path_of}
 use Rattle.hotel_http.specs.Request.{Wanted, IsMeant, IsAsked, awaits, wanted_of, EndsBody, EndsHead, EndsRequest}
-use Rattle.hotel_http.specs.Request.{ReadsBehind, WantsBody, WantsMore}
+use Rattle.hotel_http.specs.Request.{MayFollow, ReadsBehind, WantsBody, WantsMore, may_follow}
 use Rattle.hotel_http.proofs.HeadLemmas.{begins}
 use Rattle.hotel_http.specs.declared.head.Judged.TheVariants as judged
 use Rattle.hotel_http.specs.{declared.plan.Plan.Plan, declared.rejection.Rejection.Rejection}
-use Rattle.hotel_http.specs.{declared.requests.Request.Request, declared.requests.RequestFault.RequestFault}
+use Rattle.hotel_http.specs.{declared.requests.Received.Received, declared.requests.RequestFault.RequestFault}
 use Rattle.hotel_http.specs.declared.requests.RequestFault.TheVariants.{Closed, Read, Memory, Write}
 
 pub if_some : (P Q : List ℕ → Type 0) (o : Option (List ℕ)) → ((l : List ℕ) → P l → Q l) → IfSome o P → IfSome o Q
@@ -27,17 +27,17 @@ if_some P Q (Some l) f p = f l p
 -- the body of a head's plan
 pub head_ends : (head : RequestHead) (plan : Plan) (path bytes : List ℕ) (len : ℕ) (begun : List ℕ)
     (known old new : Option (List ℕ))
-    (result : Result (Result Request Rejection) RequestFault) → len ≤ length bytes
+    (result : Result Received RequestFault) → len ≤ length bytes
     → plan_in head ≡ Ok plan → path ≡ path_of head.target → begun ≡ drop len bytes
     → EndsBody plan path begun known old new result
     → EndsHead head (λ left. drop len (bytes ++ left)) known old new result
 head_ends head plan path bytes len begun known old new (Ok got) fits e p b ends =
     let P : Result Plan Rejection → List ℕ → Type 0 =
     λ planned its_path. Appends old new (interim_where (awaits planned)) × IfSome known
-    (λ left. IsAsked planned its_path (drop len (bytes ++ left)) (wanted_of got)) in
-    let behind = if_some (λ left. IsMeant plan path (begun ++ left) (wanted_of got))
-    (λ left. IsMeant plan path (drop len (bytes ++ left)) (wanted_of got)) known
-    (λ left m. subst (λ (l : List ℕ). IsMeant plan path l (wanted_of got))
+    (λ left. IsAsked planned its_path (drop len (bytes ++ left)) (wanted_of got.asks)) in
+    let behind = if_some (λ left. IsMeant plan path (begun ++ left) (wanted_of got.asks))
+    (λ left. IsMeant plan path (drop len (bytes ++ left)) (wanted_of got.asks)) known
+    (λ left m. subst (λ (l : List ℕ). IsMeant plan path l (wanted_of got.asks))
     (ap (λ (l : List ℕ). l ++ left) b ∙ sym (drop-append-le len bytes left fits)) m) ends.1 in
     subst (λ (r : Result Plan Rejection). P r (path_of head.target)) (sym e)
     (subst (λ (l : List ℕ). P (Ok plan) l) p (ends.0, behind))
@@ -50,23 +50,20 @@ head_ends head plan path bytes len begun known old new (Err Memory) fits e p b e
 
 -- a head that is rejected
 pub head_rejected : (head : RequestHead) (why : Rejection) (behind : List ℕ → List ℕ) (known old : Option (List ℕ))
-    → plan_in head ≡ Err why
-    → EndsHead head behind known old old (Ok (Err why))
-head_rejected head why behind known old e =
+    → plan_in head ≡ Err why → (got : Received) → got.asks ≡ Err why
+    → EndsHead head behind known old old (Ok got)
+head_rejected head why behind known old e got is =
     let P : Result Plan Rejection → Type 0 = λ planned. Appends old old (interim_where (awaits planned)) × IfSome known
-    (λ left. IsAsked planned (path_of head.target) (behind left) (Err why)) in
+    (λ left. IsAsked planned (path_of head.target) (behind left) (wanted_of got.asks)) in
     subst P (sym e) (Appends-nil old, for_all known)
   where
-    wanted : Wanted
-    wanted = Err why
-
-    for_all : (o : Option (List ℕ)) → IfSome o (λ left. wanted ≡ wanted)
+    for_all : (o : Option (List ℕ)) → IfSome o (λ left. wanted_of got.asks ≡ Err why)
     for_all None = tt
-    for_all (Some l) = refl
+    for_all (Some l) = ap wanted_of is
 
 -- of an input that isn't known
 unknown_ends : (head : RequestHead) (behind : List ℕ → List ℕ) (mid old new : Option (List ℕ))
-    (result : Result (Result Request Rejection) RequestFault)
+    (result : Result Received RequestFault)
     → EndsHead head behind mid old new result → EndsRequest None old new result
 unknown_ends head behind mid old new (Ok got) ends = (awaits (plan_in head), ends.0, tt)
 unknown_ends head behind mid old new (Err Closed) ends = absurd ends
@@ -75,7 +72,7 @@ unknown_ends head behind mid old new (Err Read) ends = (awaits (plan_in head), e
 unknown_ends head behind mid old new (Err Memory) ends = (awaits (plan_in head), ends, λ t. tt)
 
 known_ends : (head : RequestHead) (len : ℕ) (input items left : List ℕ) (old new : Option (List ℕ))
-    (result : Result (Result Request Rejection) RequestFault)
+    (result : Result Received RequestFault)
     → input ≡ items ++ left → BeginsWith input head (drop len input)
     → EndsHead head (λ l. drop len (items ++ l)) (Some left) old new result → EndsRequest (Some input) old new result
 known_ends head len input items left old new (Ok got) taken begins ends = (
@@ -86,8 +83,8 @@ known_ends head len input items left old new (Ok got) taken begins ends = (
     drop len input,
     begins,
     refl,
-    subst
-        (λ (l : List ℕ). IsAsked (plan_in head) (path_of head.target) (drop len l) (wanted_of got)) (sym taken) ends.1,
+    subst (λ (l : List ℕ). IsAsked (plan_in head) (path_of head.target) (drop len l) (wanted_of got.asks))
+        (sym taken) ends.1,
   ),
 )
 known_ends head len input items left old new (Err Closed) taken begins ends = absurd ends
@@ -101,7 +98,7 @@ known_ends head len input items left old new (Err Memory) taken begins ends =
 -- a whole head, and what was read behind it
 whole_ends : (known mid old new : Option (List ℕ)) (items front : List ℕ)
     (headers : List HeaderSpan) (spans : RequestSpans)
-    (result : Result (Result Request Rejection) RequestFault) → Consumes known mid items
+    (result : Result Received RequestFault) → Consumes known mid items
     → IfSome known (λ input. IsJudged input front headers (judged.Whole spans)) → IsRequestOf front headers spans
     → ((head : RequestHead) → IsRequestAt front headers spans head
     → EndsHead head (λ left. drop spans.len (items ++ left)) mid old new result) → EndsRequest known old new result
@@ -110,6 +107,30 @@ whole_ends None mid old new items front headers spans result taken found (head, 
 whole_ends (Some input) None old new items front headers spans result taken found of ends = absurd taken
 whole_ends (Some input) (Some left) old new items front headers spans result taken (head, begins, at) of ends =
     known_ends head spans.len input items left old new result taken begins (ends head at)
+
+-- what may follow a whole head is as its plan says
+pub may_follow_whole : (known : Option (List ℕ)) (items : List ℕ) (headers : List HeaderSpan) {found : Judged}
+    {spans : RequestSpans} (follows : Bool) → found ≡ judged.Whole spans
+    → LiesWithin (take HEAD_BYTES items) headers found
+    → IfSome known (λ input. IsJudged input (take HEAD_BYTES items) headers found)
+    → ((head : RequestHead) → IsRequestAt (take HEAD_BYTES items) headers spans head
+    → follows ≡ may_follow head) → IfSome known (λ input. MayFollow input follows)
+may_follow_whole None items headers follows is lies found says = tt
+may_follow_whole (Some input) items headers {spans = spans} follows is lies found says =
+    let (head, begins, at) = subst (IsJudged input (take HEAD_BYTES items) headers) is found in
+    inl (head, drop spans.len input, begins, says head at)
+
+pub follows_whole : (known : Option (List ℕ)) {items bytes : List ℕ} {headers : List HeaderSpan} {found : Judged}
+    {spans : RequestSpans} (result : Result Received RequestFault) → found ≡ judged.Whole spans → bytes ≡ items
+    → LiesWithin (take HEAD_BYTES items) headers found
+    → IfSome known (λ input. IsJudged input (take HEAD_BYTES items) headers found)
+    → ((head : RequestHead) → IsRequestAt (take HEAD_BYTES bytes) headers spans head
+    → IfOk result (λ got. got.follows ≡ may_follow head))
+    → IfOk result (λ got. IfSome known (λ input. MayFollow input got.follows))
+follows_whole known {items = items} {headers = headers} {spans = spans} (Ok got) is same lies found says =
+    may_follow_whole known items headers got.follows is lies found (subst (λ (l : List ℕ). (head : RequestHead)
+    → IsRequestAt (take HEAD_BYTES l) headers spans head → got.follows ≡ may_follow head) same says)
+follows_whole known (Err why) is same lies found says = tt
 
 -- nothing was read
 pub none_read : (known : Option (List ℕ)) → ReadsWhile WantsMore known known
@@ -159,7 +180,7 @@ whole_read known mid new n items headers spans is room within (head, at) taken r
     (λ more. begins n items more headers spans head is room within at) taken read (ends head at)
 
 -- a head was judged whole, and so was a request read
-pub request_ends : (known mid old new : Option (List ℕ)) (result : Result (Result Request Rejection) RequestFault)
+pub request_ends : (known mid old new : Option (List ℕ)) (result : Result Received RequestFault)
     {items bytes : List ℕ} {headers : List HeaderSpan}
     {found : Judged} {spans : RequestSpans} → found ≡ judged.Whole spans → bytes ≡ items → Consumes known mid items
     → LiesWithin (take HEAD_BYTES items) headers found

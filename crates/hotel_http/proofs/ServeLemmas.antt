@@ -1,7 +1,7 @@
 -- What comes of a request, as it is answered.
 use Rattle.std.proofs.Common.{◌≡◌, ◌≤◌, ◌∙◌, ℕ, List, [], ◌∷◌, ◌++◌, refl, sym, ap, subst, inl, inr}
 use Rattle.std.proofs.Common.{append-nil}
-use Rattle.std.proofs.Common.{Option, Some, None, Result, Ok, Err, Bool, true, false, OnOk, OnErr}
+use Rattle.std.proofs.Common.{Option, Some, None, IfSome, Result, Ok, Err, Bool, true, false, OnOk, OnErr}
 use Rattle.hotel_core.proofs.{Names.Stream, Names.failure_in, Names.History, Names.Reached, Names.rows_of}
 use Rattle.keycard_rules.specs.{declared.kept.Kept.Ghosts as KeptOf}
 use Rattle.keycard_rules.specs.declared.issued.LookFault.TheVariants as look
@@ -29,9 +29,10 @@ use Rattle.hotel_audit.proofs.ImportsLead.{imports_lead}
 use Rattle.hotel_http.specs.{declared.rejection.Rejection.Rejection, declared.serve.Cut.Cut}
 use Rattle.hotel_http.specs.{declared.serve.Served.Served, declared.status.Status.Status}
 use Rattle.hotel_http.specs.{declared.status.Status.TheVariants.Success, declared.requests.Request.Request}
-use Rattle.hotel_http.specs.{declared.serve.ServeFault.ServeFault}
+use Rattle.hotel_http.specs.{declared.serve.Exchange.Exchange, declared.serve.ServeFault.ServeFault}
 use Rattle.hotel_http.specs.{declared.serve.ServeFault.TheVariants.Write, Answer.list_answer, Body.interim_where}
-use Rattle.hotel_http.specs.{Request.EndsRequest}
+use Rattle.hotel_http.specs.Request.{EndsRequest, Requests, wanted_of}
+use Rattle.hotel_http.specs.declared.requests.Received.{Received}
 use Rattle.hotel_http.specs.Serve.{Outcome, outcome, rejected, replied, imported, listed, end_of}
 use Rattle.hotel_http.specs.Serve.{ListComes, AskComes, FileComes, TaskComes, Comes, EndsAs, Answered, ended}
 use Rattle.hotel_http.specs.Serve.{IsListText, list_refusal, WasAnswered}
@@ -157,33 +158,35 @@ behind_interim came s t before old mid new end first it = record {
 
 -- a request that was read is answered
 pub request_served : {S : Type 0} (K : KeptOf S) (rows : S → Rows) (a b : S) (s t : Stream)
-    (known old mid new : Option (List ℕ)) (request : Request) (end : Result Served Cut)
-    → EndsRequest known old mid (Ok (Ok request))
+    (known old mid new : Option (List ℕ)) (got : Received) (request : Request) (end : Result Served Cut)
+    → got.asks ≡ Ok request → EndsRequest known old mid (Ok got)
     → HappensBy K rows a (Answered (TaskComes request.task request.body.items) s t [] mid new end) b
     → WasAnswered known (λ wanted awaited ends. HappensBy K rows a
     (Answered (Comes wanted) s t (interim_where awaited) old new ends) b) end
-request_served K rows a b s t known old mid new request end (awaited, first, requests) went = (
+request_served K rows a b s t known old mid new got request end is (awaited, first, requests) went = (
   Ok (request.task, request.body.items),
   awaited,
-  requests,
+  subst (λ (asks : Result Request Rejection). IfSome known (λ input. Requests input awaited (wanted_of asks))) is
+      requests,
   behind_interim (TaskComes request.task request.body.items) s t (interim_where awaited) old mid new end first went,
 )
 
 -- a rejection is answered
 pub rejection_served : {S : Type 0} (K : KeptOf S) (rows : S → Rows) (a : S) (s : Stream)
-    (known old mid new : Option (List ℕ)) (why : Rejection) (end : Result Served Cut)
-    → EndsRequest known old mid (Ok (Err why)) → EndsAs (rejected why) [] mid new end
+    (known old mid new : Option (List ℕ)) (got : Received) (why : Rejection) (end : Result Served Cut)
+    → got.asks ≡ Err why → EndsRequest known old mid (Ok got) → EndsAs (rejected why) [] mid new end
     → WasAnswered known (λ wanted awaited ends. HappensBy K rows a
     (Answered (Comes wanted) s s (interim_where awaited) old new ends) a) end
-rejection_served K rows a s known old mid new why end (awaited, first, requests) ends = (
+rejection_served K rows a s known old mid new got why end is (awaited, first, requests) ends = (
   Err why,
   awaited,
-  requests,
+  subst (λ (asks : Result Request Rejection). IfSome known (λ input. Requests input awaited (wanted_of asks))) is
+      requests,
   behind_interim (Comes (Err why)) s s (interim_where awaited) old mid new end first
       (rejection_came K rows a s why mid new end ends),
 )
 
 -- the fault of an answer that was cut
-pub is_cut : (r : Result Served ServeFault) (acted : Bool) → IsErrAnd r (λ e. e ≡ Write acted) → r ≡ Err (Write acted)
-is_cut (Ok served) acted p = absurd p
+pub is_cut : (r : Result Exchange ServeFault) (acted : Bool) → IsErrAnd r (λ e. e ≡ Write acted) → r ≡ Err (Write acted)
+is_cut (Ok done) acted p = absurd p
 is_cut (Err e) acted p = ap (λ (f : ServeFault). Err f) p

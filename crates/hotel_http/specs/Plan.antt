@@ -44,15 +44,22 @@ is_awaited minor size fields = minor == 1 && nat_lt 0 size && expects_continue f
 
 -- What is done with what is asked for.
 abbrev pub plan_of : ℕ → List Pair → Target → ℕ → Plan
-plan_of minor fields target size = record { target = target; size = size; awaited = is_awaited minor size fields }
+plan_of minor fields target announced =
+    let size = size_read (method_of target) announced in
+    record {
+      target = target;
+      size = size;
+      awaited = is_awaited minor size fields;
+      ignored = nat_lt size announced;
+    }
 
 -- What a head asks for, or the first rejection: by its fields, then its path, then its method.
 unfoldable pub planned : ℕ → List ℕ → List ℕ → List Pair → Result Plan Rejection
 planned minor method target fields = do
-  size ← framing minor fields
+  announced ← framing minor fields
   found ← routed (path_of target)
   asked ← allowed method found
-  Ok (plan_of minor fields asked (size_read (method_of asked) size))
+  Ok (plan_of minor fields asked announced)
 
 -- What a head asks for.
 abbrev pub plan_in : RequestHead → Result Plan Rejection

@@ -1,18 +1,20 @@
 -- What a request asks for. All is said of the whole input, and nothing of the pieces in which it came.
 use Rattle.std.specs.Prelude.{◌≡◌, ◌<◌, ◌⊎◌, ℕ, Bool, true, false, List, [], ◌++◌, length, take, drop, if◌then◌else◌}
-use Rattle.std.specs.Prelude.{nat_lt, Option, Some, None, IfSome, Result, Ok, Err}
+use Rattle.std.specs.Prelude.{map, nat_lt, Option, Some, None, IfSome, Result, Ok, Err}
 use Rattle.std.specs.Io.KnownBytes.{Appends, Keeps}
 use Rattle.hotel_lists.specs.Reads.{ReadsWhile}
-use Rattle.httparse.specs.Grammar.{RequestHead}
+use Rattle.httparse.specs.{Grammar.RequestHead, Spans.name_and_value}
 use Rattle.hotel_lists.specs.{Bytes.AppendsFront, declared.bytes.ReadFault.ReadFault}
 use Rattle.hotel_lists.specs.declared.bytes.ReadFault.TheVariants as more
 use Rattle.hotel_http.specs.{declared.plan.Plan.Plan, declared.rejection.Rejection.Rejection}
 use Rattle.hotel_http.specs.{declared.requests.Request.Request, declared.requests.RequestFault.RequestFault}
+use Rattle.hotel_http.specs.{declared.requests.Received.Received}
 use Rattle.hotel_http.specs.declared.rejection.Rejection.TheVariants as rejection
 use Rattle.hotel_http.specs.declared.requests.RequestFault.TheVariants.{Closed, Read, Memory, Write}
 use Rattle.keycard_rules.specs.Results.{◌>>=◌}
 use Rattle.hotel_http.specs.{declared.tasks.Task.Task, Body.interim_text, Body.interim_where, Head.BeginsWith}
 use Rattle.hotel_http.specs.{Head.IsBad, Head.IsTooLarge, Head.WantsHead, Plan.plan_in, Plan.path_of}
+use Rattle.hotel_http.specs.Fields.{framing}
 use Rattle.hotel_http.specs.Tasks.{task_in, reads_form}
 
 -- What a request comes to: a task with the body that came with it, or why nothing is asked.
@@ -53,6 +55,20 @@ abbrev pub awaits : Result Plan Rejection → Bool
 awaits (Err why) = false
 awaits (Ok plan) = plan.awaited
 
+-- A body is announced, or it isn't known whether one is.
+abbrev pub is_some_body : Result ℕ Rejection → Bool
+is_some_body (Ok announced) = nat_lt 0 announced
+is_some_body (Err unknown) = true
+
+-- More of a request may follow its head that isn't read: a body that is announced, where the head is refused or asks
+-- for a list; or what is announced isn't known.
+abbrev pub follows_head : Result Plan Rejection → Result ℕ Rejection → Bool
+follows_head (Ok plan) announced = plan.ignored
+follows_head (Err why) announced = is_some_body announced
+
+abbrev pub may_follow : RequestHead → Bool
+may_follow head = follows_head (plan_in head) (framing head.minor (map name_and_value head.fields))
+
 -- The input has no head, and this is why.
 abbrev pub IsHeadless : List ℕ → Wanted → Type 0
 IsHeadless input wanted =
@@ -65,6 +81,12 @@ Requests input awaited wanted =
     ((head : RequestHead) × (rest : List ℕ) × BeginsWith input head rest × (awaited ≡ awaits (plan_in head))
     × IsAsked (plan_in head) (path_of head.target) rest wanted)
     ⊎ ((awaited ≡ false) × IsHeadless input wanted)
+
+-- Whether more of this input may follow what is read of it: as its head says; or it has no head.
+abbrev pub MayFollow : List ℕ → Bool → Type 0
+MayFollow input follows =
+    ((head : RequestHead) × (rest : List ℕ) × BeginsWith input head rest × (follows ≡ may_follow head))
+    ⊎ ((follows ≡ true) × (IsBad input ⊎ IsTooLarge input))
 
 -- The client of this input awaits an interim answer.
 abbrev pub IsAwaited : List ℕ → Type 0
@@ -103,10 +125,10 @@ request_fault_of more.Memory = Memory
 
 -- The body of a plan was read behind these bytes, or not.
 abbrev pub EndsBody : Plan → List ℕ → List ℕ → Option (List ℕ) → Option (List ℕ) → Option (List ℕ)
-    → Result (Result Request Rejection) RequestFault → Type 0
+    → Result Received RequestFault → Type 0
 EndsBody plan path begun known old new (Ok got) =
     Appends old new (interim_where plan.awaited) × IfSome known
-    (λ left. IsMeant plan path (begun ++ left) (wanted_of got))
+    (λ left. IsMeant plan path (begun ++ left) (wanted_of got.asks))
 EndsBody plan path begun known old new (Err Closed) = ⊥
 EndsBody plan path begun known old new (Err Write) = (plan.awaited ≡ true) × AppendsFront old new interim_text
 EndsBody plan path begun known old new (Err Read) = Appends old new (interim_where plan.awaited)
@@ -114,10 +136,10 @@ EndsBody plan path begun known old new (Err Memory) = Appends old new (interim_w
 
 -- What a head asks for was read, or not; what stands behind the head is said by the bytes that the reader still had.
 abbrev pub EndsHead : RequestHead → (List ℕ → List ℕ) → Option (List ℕ) → Option (List ℕ) → Option (List ℕ)
-    → Result (Result Request Rejection) RequestFault → Type 0
+    → Result Received RequestFault → Type 0
 EndsHead head behind known old new (Ok got) =
     Appends old new (interim_where (awaits (plan_in head)))
-    × IfSome known (λ left. IsAsked (plan_in head) (path_of head.target) (behind left) (wanted_of got))
+    × IfSome known (λ left. IsAsked (plan_in head) (path_of head.target) (behind left) (wanted_of got.asks))
 EndsHead head behind known old new (Err Closed) = ⊥
 EndsHead head behind known old new (Err Write) = (awaits (plan_in head) ≡ true) × AppendsFront old new interim_text
 EndsHead head behind known old new (Err Read) = Appends old new (interim_where (awaits (plan_in head)))
@@ -125,10 +147,10 @@ EndsHead head behind known old new (Err Memory) = Appends old new (interim_where
 
 -- A request was read, or not.
 abbrev pub EndsRequest : Option (List ℕ) → Option (List ℕ) → Option (List ℕ)
-    → Result (Result Request Rejection) RequestFault → Type 0
+    → Result Received RequestFault → Type 0
 EndsRequest known old new (Ok got) =
     (awaited : Bool) × Appends old new (interim_where awaited)
-    × IfSome known (λ input. Requests input awaited (wanted_of got))
+    × IfSome known (λ input. Requests input awaited (wanted_of got.asks))
 EndsRequest known old new (Err Closed) = Appends old new [] × IfSome known (λ input. input ≡ [])
 EndsRequest known old new (Err Write) = AppendsFront old new interim_text × IfSome known IsAwaited
 EndsRequest known old new (Err Read) = AtMostInterim known old new

@@ -26,6 +26,7 @@ use Rattle.hotel_audit.specs.{declared.line.Line.Line}
 use Rattle.hotel_audit.specs.declared.imports.ImportFault.TheVariants as import
 use Rattle.hotel_http.specs.{declared.rejection.Rejection.Rejection, declared.serve.Cut.Cut}
 use Rattle.hotel_http.specs.{declared.serve.Served.Served, declared.serve.ServeFault.ServeFault}
+use Rattle.hotel_http.specs.{declared.serve.Exchange.Exchange}
 use Rattle.hotel_http.specs.declared.serve.ServeFault.TheVariants.{Closed, Read, Memory, Write}
 use Rattle.hotel_http.specs.{declared.requests.RequestFault.RequestFault, declared.status.Status.Status}
 use Rattle.hotel_http.specs.{declared.status.Status.TheVariants.Success, declared.tasks.Task.Task}
@@ -173,6 +174,11 @@ ServesOver K rows stream known old new before after =
     Serves known old new ((after.0 ≡ before.0) × (after.1 ≡ before.1))
     (λ wanted awaited end. HappensBy K rows before.0 (Answered (Comes wanted) (stream before.1) (stream after.1)
     (interim_where awaited) old new end) after.0)
+
+-- The request that was answered, or why it wasn't.
+abbrev pub served_in : Result Exchange ServeFault → Result Served ServeFault
+served_in (Ok done) = Ok done.served
+served_in (Err why) = Err why
 
 -- Where a write failed, this holds.
 abbrev pub IfUnwritten : Result Served ServeFault → Type 0 → Type 0

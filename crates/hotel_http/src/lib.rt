@@ -17,4 +17,4 @@ mod status;
 mod tasks;
 
 pub use routes::{Routes, make_routes};
-pub use serve::{ServeFault, Served, serve_by, serve_one};
+pub use serve::{Exchange, ServeFault, Served, serve_by, serve_one};

@@ -18,6 +18,8 @@ pub struct Plan {
     pub size: usize,
     /// The client waits for a 100 before it sends the body.
     pub awaited: bool,
+    /// A body is announced that isn't read: that of a list.
+    pub ignored: bool,
 }
 
 /// The path of a target: what stands before the first question mark.
@@ -94,14 +96,15 @@ pub fn make_plan(
     requires { All (IsHeaderWithin (length bytes.now)) headers.now }
     ensures { result ≡ planned minor method.now target.now (map (header_bytes bytes.now) headers.now) }
 {
-    let size = read_framing(bytes, headers, minor)?;
+    let announced = read_framing(bytes, headers, minor)?;
     let found = find_route(routes, path_part(target))?;
     let target = allow(method, found)?;
-    let size = size_read(method_of(target), size);
+    let size = size_read(method_of(target), announced);
     let awaited = is_awaited(minor, size, bytes, headers);
     Ok(Plan {
         target,
         size,
         awaited,
+        ignored: size < announced,
     })
 }

@@ -1,16 +1,19 @@
 //! What a request asks for: its head, then its body, each checked in turn.
 
-ghost use Rattle.std.specs.Prelude.{◌≡◌, ◌++◌, ◌≤◌, length, take, drop, IsUtf8};
-ghost use Rattle.httparse.specs.{Grammar.RequestHead, Spans.IsRequestWithin, Spans.IsRequestAt, Spans.span_bytes};
+ghost use Rattle.std.specs.Prelude.{◌≡◌, ◌++◌, ◌≤◌, true, length, map, take, drop, IfOk, IfSome, Err, IsUtf8};
+ghost use Rattle.httparse.specs.{Grammar.RequestHead, Spans.IsRequestWithin, Spans.IsRequestAt, Spans.name_and_value};
+ghost use Rattle.httparse.specs.Spans.{span_bytes};
 ghost use Rattle.hotel_lists.specs.Calls.{CountsCalls, OnErrOf};
 ghost use Rattle.hotel_lists.specs.Reads.{ReadsWhile};
 ghost use Rattle.hotel_http.specs.{Body.ReadsBody, Plan.plan_in, Request.request_fault_of, Request.IsMeant};
 ghost use Rattle.hotel_http.specs.{Request.EndsBody, Request.wanted_of, Request.EndsHead, Request.EndsRequest};
-ghost use Rattle.hotel_http.specs.Request.{ReadsBehind, WantsMore};
+ghost use Rattle.hotel_http.specs.{Fields.framing, Request.is_some_body};
+ghost use Rattle.hotel_http.specs.Request.{MayFollow, ReadsBehind, WantsMore, may_follow};
 ghost use Rattle.hotel_http.specs.declared.head.TheConstants.{HEAD_BYTES};
 ghost use Rattle.hotel_http.specs.declared.requests.RequestFault.TheVariants.{Write, Read};
 
 use crate::body::{read_body, write_interim};
+use crate::fields::read_framing;
 use crate::head::{HEAD_FIELDS, Judged, head_part, read_head};
 use crate::plan::{Plan, make_plan, path_part};
 use crate::rejection::Rejection;
@@ -27,6 +30,15 @@ pub struct Request {
     pub task: Task,
     /// The bytes behind the head, as many as the head says; none of a list.
     pub body: Vec<u8>,
+}
+
+/// What was read of a request.
+#[derive(Drop)]
+pub struct Received {
+    /// What it asks for, or the first rejection.
+    pub asks: Result<Request, Rejection>,
+    /// More of it may follow: a body that it announces isn't read, or it isn't known what it announces.
+    pub follows: bool,
 }
 
 /// Why no request was read.
@@ -58,6 +70,29 @@ impl From<WriteFailed> for RequestFault {
 
     fn from(_: WriteFailed) -> RequestFault {
         RequestFault::Write
+    }
+}
+
+/// What was read of a request whose head is refused.
+fn refused(why: Rejection, follows: bool) -> Received
+    ensures asks { result.asks ≡ Err why }
+    ensures follows { result.follows ≡ follows }
+{
+    Received {
+        asks: Err(why),
+        follows,
+    }
+}
+
+/// Whether a head announces a body, or it isn't known whether it does.
+fn announces_body(front: &[u8], headers: &[HeaderSpan], spans: &RequestSpans) -> bool
+    requires { IsRequestWithin front.now headers.now spans.now }
+    ensures { (head : RequestHead) → IsRequestAt front.now headers.now spans.now head
+        → result ≡ is_some_body (framing head.minor (map name_and_value head.fields)) }
+{
+    match read_framing(front, &headers[..spans.headers], spans.version) {
+        Ok(announced) => announced > 0,
+        Err(_) => true,
     }
 }
 
@@ -115,15 +150,19 @@ fn read_planned<R: Read, W: Write>(
     plan: Plan,
     path: &str,
     calls: &mut IoCalls,
-) -> Result<Result<Request, Rejection>, RequestFault>
+) -> Result<Received, RequestFault>
     ensures ends { EndsBody plan path.now begun.now (R.remaining reader.old) (W.contents writer.old)
         (W.contents writer.new) result }
+    ensures follows { IfOk result (λ got. got.follows ≡ plan.ignored) }
     ensures wanted { ReadsBody begun.now plan.size (R.remaining reader.old) (R.remaining reader.new) }
     ensures calls { CountsCalls calls.old calls.new (OnErrOf result Read) (OnErrOf result Write) }
 {
     write_interim(writer, plan.awaited, calls)?;
     let body = read_body(alloc, reader, begun, plan.size, calls)?;
-    Ok(read_meaning(alloc, plan, path, body))
+    Ok(Received {
+        asks: read_meaning(alloc, plan, path, body),
+        follows: plan.ignored,
+    })
 }
 
 /// What stands behind the head.
@@ -144,18 +183,20 @@ fn read_behind_head<R: Read, W: Write>(
     headers: &[HeaderSpan],
     spans: &RequestSpans,
     calls: &mut IoCalls,
-) -> Result<Result<Request, Rejection>, RequestFault>
+) -> Result<Received, RequestFault>
     requires { IsRequestWithin (take HEAD_BYTES bytes.now) headers.now spans.now }
     ensures ends { (head : RequestHead) → IsRequestAt (take HEAD_BYTES bytes.now) headers.now spans.now head
         → EndsHead head (λ left. drop spans.now.len (bytes.now ++ left)) (R.remaining reader.old)
         (W.contents writer.old) (W.contents writer.new) result }
+    ensures follows { (head : RequestHead) → IsRequestAt (take HEAD_BYTES bytes.now) headers.now spans.now head
+        → IfOk result (λ got. got.follows ≡ may_follow head) }
     ensures wanted { (head : RequestHead) → IsRequestAt (take HEAD_BYTES bytes.now) headers.now spans.now head
         → ReadsBehind head spans.now.len bytes.now (R.remaining reader.old) (R.remaining reader.new) }
     ensures calls { CountsCalls calls.old calls.new (OnErrOf result Read) (OnErrOf result Write) }
 {
     let front = head_part(bytes);
     match plan_head(routes, front, headers, spans) {
-        Err(why) => Ok(Err(why)),
+        Err(why) => Ok(refused(why, announces_body(front, headers, spans))),
         Ok(plan) => {
             let path = path_part(target_text(front, spans));
             let begun = behind(bytes, spans.len);
@@ -172,8 +213,9 @@ pub fn read_request<R: Read, W: Write>(
     reader: &mut R,
     writer: &mut W,
     calls: &mut IoCalls,
-) -> Result<Result<Request, Rejection>, RequestFault>
+) -> Result<Received, RequestFault>
     ensures ends { EndsRequest (R.remaining reader.old) (W.contents writer.old) (W.contents writer.new) result }
+    ensures follows { IfOk result (λ got. IfSome (R.remaining reader.old) (λ input. MayFollow input got.follows)) }
     ensures wanted { ReadsWhile WantsMore (R.remaining reader.old) (R.remaining reader.new) }
     ensures calls { CountsCalls calls.old calls.new (OnErrOf result Read) (OnErrOf result Write) }
 {
@@ -182,8 +224,8 @@ pub fn read_request<R: Read, W: Write>(
     match read_head(reader, &mut bytes, &mut headers, calls)? {
         Judged::More => unreachable!(),
         Judged::Closed => Err(RequestFault::Closed),
-        Judged::Malformed => Ok(Err(Rejection::BadRequest)),
-        Judged::TooLarge => Ok(Err(Rejection::HeadTooLarge)),
+        Judged::Malformed => Ok(refused(Rejection::BadRequest, true)),
+        Judged::TooLarge => Ok(refused(Rejection::HeadTooLarge, true)),
         Judged::Whole(spans) => read_behind_head(
             alloc, routes, reader, writer, &bytes, &headers, &spans, calls,
         ),

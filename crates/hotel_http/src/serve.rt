@@ -1,23 +1,23 @@
 //! One request, one answer.
 
-ghost use Rattle.std.specs.Prelude.{◌≡◌, [], true, OnErr};
+ghost use Rattle.std.specs.Prelude.{◌≡◌, [], true, IfOk, IfSome, OnErr};
 ghost use Rattle.rand_core.specs.Stream.{Stream};
 ghost use Rattle.hotel_lists.specs.Calls.{CountsCalls, CountsWrites, OnErrOf};
 ghost use Rattle.hotel_asks.specs.Listings.{listing_on};
 ghost use Rattle.hotel_lists.specs.Reads.{ReadsWhile};
-ghost use Rattle.hotel_http.specs.Request.{WantsMore};
+ghost use Rattle.hotel_http.specs.Request.{MayFollow, WantsMore};
 ghost use Rattle.hotel_core.specs.declared.asks.Ask.TheVariants as ask;
 ghost use Rattle.hotel_http.specs.declared.serve.ServeFault.TheVariants.{Read, Write};
 ghost use Rattle.hotel_http.specs.Serve.{rejected, replied, is_accepted, taken_by, AskComes};
 ghost use Rattle.hotel_core.specs.Books.Happens.{HappensBy};
 ghost use Rattle.hotel_lists.specs.Lines.{LooksAt};
 ghost use Rattle.hotel_http.specs.Serve.{FileComes, TaskComes, EndsAs, Answered, ended, end_of, IsListText};
-ghost use Rattle.hotel_http.specs.Serve.{list_refusal, text_in, ServesOver, IfUnwritten, serve_fault_of};
+ghost use Rattle.hotel_http.specs.Serve.{list_refusal, text_in, ServesOver, IfUnwritten, serve_fault_of, served_in};
 
 use crate::answer::{rejection_status, reply_status, write_csv, write_rejection, write_reply};
 use crate::audit_answer::{fault_status, write_audit, write_fault};
 use crate::rejection::Rejection;
-use crate::requests::{Request, RequestFault, read_request};
+use crate::requests::{Received, Request, RequestFault, read_request};
 use crate::routes::{Routes, make_routes};
 use crate::status::Status;
 use crate::tasks::Task;
@@ -36,6 +36,14 @@ pub struct Served {
     pub status: u16,
     /// Its command was accepted, or its audit file had a line that was Taken.
     pub acted: bool,
+}
+
+/// A request that was answered, and whether more of it may come.
+#[derive(Clone, Copy, Debug, PartialEq, Eq)]
+pub struct Exchange {
+    pub served: Served,
+    /// A body that the request announces wasn't read, or it isn't known what it announces.
+    pub follows: bool,
 }
 
 /// Why a request was not answered.
@@ -258,6 +266,7 @@ fn answer_request<W: Write, B: Walks, R: Rng>(
 
 /// Reads one request, carries out what it asks for, and answers, as `serve_one` does. The caller made the table of
 /// routes, once for all its requests, and no memory is taken for it here. The reads and writes are added to the calls.
+/// It says too whether more of the request may come, so that who closes a connection knows what its peer may send.
 pub fn serve_by<I: Read, W: Write, B: Walks, R: Rng>(
     alloc: Global,
     routes: &Routes,
@@ -266,15 +275,23 @@ pub fn serve_by<I: Read, W: Write, B: Walks, R: Rng>(
     books: &mut B,
     source: &mut R,
     calls: &mut IoCalls,
-) -> Result<Served, ServeFault>
+) -> Result<Exchange, ServeFault>
     ensures serves { ServesOver B.Kept B.rows R.stream (I.remaining reader.old) (W.contents writer.old)
-        (W.contents writer.new) (books.old, source.old) (books.new, source.new) result }
+        (W.contents writer.new) (books.old, source.old) (books.new, source.new) (served_in result) }
+    ensures follows { IfOk result (λ done. IfSome (I.remaining reader.old) (λ input. MayFollow input done.follows)) }
     ensures wanted { ReadsWhile WantsMore (I.remaining reader.old) (I.remaining reader.new) }
-    ensures calls { CountsCalls calls.old calls.new (OnErrOf result Read) (IfUnwritten result) }
+    ensures calls { CountsCalls calls.old calls.new (OnErrOf result Read) (IfUnwritten (served_in result)) }
 {
-    match read_request(alloc, routes, reader, writer, calls)? {
-        Ok(request) => Ok(answer_request(alloc, &request, writer, books, source, calls)?),
-        Err(why) => Ok(answer_rejection(why, writer, calls)?),
+    let Received { asks, follows } = read_request(alloc, routes, reader, writer, calls)?;
+    match asks {
+        Ok(request) => {
+            let served = answer_request(alloc, &request, writer, books, source, calls)?;
+            Ok(Exchange { served, follows })
+        }
+        Err(why) => {
+            let served = answer_rejection(why, writer, calls)?;
+            Ok(Exchange { served, follows })
+        }
     }
 }
 
@@ -300,5 +317,8 @@ pub fn serve_one<I: Read, W: Write, B: Walks, R: Rng>(
         return Err(ServeFault::Memory);
     };
     let mut calls = IoCalls::none();
-    serve_by(alloc, &routes, reader, writer, books, source, &mut calls)
+    match serve_by(alloc, &routes, reader, writer, books, source, &mut calls) {
+        Ok(done) => Ok(done.served),
+        Err(why) => Err(why),
+    }
 }

@@ -1,5 +1,5 @@
 -- Connections, one more at a time.
-use Rattle.std.proofs.Common.{◌≡◌, ◌∙◌, ℕ, Bool, List, [], ◌∷◌, ◌++◌, refl, sym, ap, subst}
+use Rattle.std.proofs.Common.{◌≡◌, ℕ, Bool, List, [], ◌∷◌, ◌++◌, refl, sym, ap, subst}
 use Rattle.std.proofs.Common.{Option, Some, Result, Ok, Err, inl, inr}
 use Rattle.std.proofs.lemmas.Grind.{flat_map-append}
 use Rattle.rand_core.specs.Stream.{Stream}
@@ -14,13 +14,11 @@ use Rattle.hotel_http.specs.Serve.{Answered, Comes, Serves}
 use Rattle.hotel_http.specs.declared.serve.Served.{Served}
 use Rattle.hotel_http.specs.declared.serve.ServeFault.{ServeFault}
 use Rattle.hotel_http.specs.declared.serve.ServeFault.TheVariants.{Closed, Read, Memory, Write}
-use Rattle.hotel_lists.specs.Calls.{Calls, CountsCalls, OnErrOf}
-use Rattle.hotel_http.specs.{Body.interim_where, Serve.IfUnwritten, Serve.ServesOver}
+use Rattle.hotel_http.specs.{Body.interim_where, Serve.ServesOver}
 use Rattle.hotel_program.specs.Faults.{TellsAll}
 use Rattle.hotel_program.specs.Connections.{AllCame, ConnectionCame, ConnectionEnd, ConnectionHappens, ServersFollow}
-use Rattle.hotel_program.specs.Connections.{connection_end, fault_in, faults_of, serve_end}
+use Rattle.hotel_program.specs.Connections.{connection_end, fault_in, faults_of}
 use Rattle.hotel_program.specs.declared.faults.Fault.{Fault}
-use Rattle.hotel_program.specs.declared.faults.Fault.TheVariants as fault
 
 module _ {S R : Type 0} (K : KeptOf S) (rows : S → Rows) (stream : R → Stream) where
   -- Nothing was begun of a connection of which this is a way to end.
@@ -98,31 +96,6 @@ module _ {S R : Type 0} (K : KeptOf S) (rows : S → Rows) (stream : R → Strea
   servers_follow old new ends p =
       let went = all_went old new ends p in
       record { went = went; leaves = together K old.0 new.0 went.told went.calls }
-
--- a read that failed is told as that
-read_end : (end : Result Served ServeFault) → serve_end end ≡ Err fault.Read → end ≡ Err Read
-read_end (Ok served) e = absurd (cc)
-read_end (Err Closed) e = absurd (cc)
-read_end (Err Read) e = refl
-read_end (Err Memory) e = absurd (cc)
-read_end (Err (Write acted)) e = absurd (cc)
-
--- so a write
-write_end : {P : Type 0} (end : Result Served ServeFault) → IfUnwritten end P → serve_end end ≡ Err fault.Write → P
-write_end (Ok served) p e = absurd (cc)
-write_end (Err Closed) p e = absurd (cc)
-write_end (Err Read) p e = absurd (cc)
-write_end (Err Memory) p e = absurd (cc)
-write_end (Err (Write acted)) p e = p
-
-pub calls_of : (before after : Calls) (end : Result Served ServeFault) (told : Result (Unit {0}) Fault)
-    → told ≡ serve_end end → CountsCalls before after (OnErrOf end Read) (IfUnwritten end)
-    → CountsCalls before after (OnErrOf told fault.Read) (OnErrOf told fault.Write)
-calls_of before after end told is counted = record {
-  read = λ e. counted.read (read_end end (sym is ∙ e));
-  write = λ e. write_end end counted.write (sym is ∙ e);
-  none_forgotten = counted.none_forgotten;
-}
 
 -- faults and then others
 told_both : {F : Type 0} (told : F → Fault → F → Type 0) (first more : List Fault) (old mid new : F)

@@ -10,3 +10,4 @@ pub mod ConnectionsLemmas
 pub mod ShutLemmas
 pub mod FaultLemmas
 pub mod FileLemmas
+pub mod TimedLemmas

@@ -31,8 +31,8 @@ new_desk : {B : Type 0} {K : KeptOf B} {rows : B → Rows} {books books' : B}
     → K.is_clean books' → rows books ≡ no_rows → K.failures books look.Store ≡ 0 → K.failures books' look.Store ≡ 0
     → s ≡ zero_seeded → IsSound no_rows → HappensBy K rows books (went s s' (K.is_clean books')) books'
     → OverNewDesk went
-new_desk {K = K} {rows = rows} {books = books} {books' = books'} went s s' known clean at_rows none none' at_source sound
-    p =
+new_desk {K = K} {rows = rows} {books = books} {books' = books'} went s s' known clean at_rows none none' at_source
+    sound p =
     let honest = K.clean_honest books' clean in
     let q = p.happened honest (start no_rows) sound (λ was. at_rows ∙ sym (rows_of_start no_rows sound)) in
     let all = together K books books' p.told p.calls in (

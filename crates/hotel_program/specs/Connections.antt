@@ -1,6 +1,7 @@
 -- Connections that are answered one after the other.
-use Rattle.std.specs.Prelude.{◌≡◌, ◌⊎◌, false, List, [], ◌∷◌, ◌++◌, Option, Some, None, Result, Ok, Err}
+use Rattle.std.specs.Prelude.{◌≡◌, ◌⊎◌, ℕ, false, List, [], ◌∷◌, ◌++◌, Option, Some, None, Result, Ok, Err}
 use Rattle.std.specs.List.{flat_map}
+use Rattle.std.specs.declared.io.Error.{Error}
 use Rattle.rand_core.specs.Stream.{Stream}
 use Rattle.keycard_rules.specs.{declared.kept.Kept.Ghosts as KeptOf, Calls.LeaveAll, Calls.Passes}
 use Rattle.hotel_model.specs.History.{History}
@@ -12,6 +13,9 @@ use Rattle.hotel_http.specs.Request.{Wanted}
 use Rattle.keycard_rules.specs.Calls.{Told}
 use Rattle.hotel_core.specs.Books.Happens.{HappensBy}
 use Rattle.hotel_http.specs.Serve.{Comes, Outcome}
+use Rattle.hotel_program.specs.Timed.{SecondSet}
+use Rattle.hotel_program.specs.declared.connections.TheConstants.{PAUSE}
+use Rattle.hotel_program.specs.declared.timed.TheConstants.{PATIENCE}
 use Rattle.hotel_program.specs.declared.faults.Fault.{Fault}
 use Rattle.hotel_program.specs.declared.faults.Fault.TheVariants.{Closed, Read, Memory, Write}
 
@@ -57,17 +61,38 @@ abbrev pub ServersFollow : {S R : Type 0} → KeptOf S → (S → Rows) → (R �
 ServersFollow {S = S} {R = R} K rows stream = (old new : S × R) (ends : List ConnectionEnd)
     → Passes (ConnectionHappens K rows stream) old ends new → ServesAll K rows stream old ends new
 
--- The fault of a request that was served so.
-abbrev pub serve_end : Result Served ServeFault → Result (Unit {0}) Fault
-serve_end (Ok served) = Ok tt
-serve_end (Err serve.Closed) = Err Closed
-serve_end (Err serve.Read) = Err Read
-serve_end (Err serve.Memory) = Err Memory
-serve_end (Err (serve.Write acted)) = Err Write
+-- Behind a connection that was taken nothing was waited for, and where it wasn't served, one of its limits wasn't set;
+-- behind one that couldn't be taken `PAUSE` was waited for, and nothing was served.
+abbrev pub TakenOrWaited : {L : Type 0} → (L → ℕ → L → Type 0) → Type 0 → Result (Unit {0}) Error → L → ConnectionEnd
+    → L → Type 0
+TakenOrWaited waited unlimited (Ok taken) mid end new = (new ≡ mid) × (end ≡ None → unlimited)
+TakenOrWaited waited unlimited (Err why) mid end new = (end ≡ None) × waited mid PAUSE new
+
+-- A connection that ended so was asked for.
+abbrev pub Takes : {L : Type 0} → (L → Result (Unit {0}) Error → L → Type 0) → (L → ℕ → L → Type 0) → Type 0
+    → L → ConnectionEnd → L → Type 0
+Takes taken waited unlimited old end new =
+    (got : Result (Unit {0}) Error) × (mid : _) × taken old got mid × TakenOrWaited waited unlimited got mid end new
+
+-- The limits of some connection were asked for, and not both were set.
+abbrev pub LacksLimits : {S L : Type 0} → (S → L → ℕ → Result (Unit {0}) Error → L → Type 0)
+    → (S → L → ℕ → Result (Unit {0}) Error → L → Type 0) → Type 0
+LacksLimits {S} {L} reads_limited writes_limited =
+    (stream : S) × (old mid new : L) × (first : Result (Unit {0}) Error)
+    × reads_limited stream old PATIENCE first mid
+    × SecondSet (λ l set l'. writes_limited stream l PATIENCE set l') first mid new false
+
+-- The fault of a request that wasn't served.
+abbrev pub fault_of : ServeFault → Fault
+fault_of serve.Closed = Closed
+fault_of serve.Read = Read
+fault_of serve.Memory = Memory
+fault_of (serve.Write acted) = Write
 
 -- The fault of a connection that ended so: one that couldn't be taken is closed.
 abbrev pub connection_end : ConnectionEnd → Result (Unit {0}) Fault
-connection_end (Some end) = serve_end end
+connection_end (Some (Ok served)) = Ok tt
+connection_end (Some (Err why)) = Err (fault_of why)
 connection_end None = Err Closed
 
 -- The fault that is told, if there is one.

@@ -1,8 +1,12 @@
 -- Calls of a connection that are made in the time that is left for them.
-use Rattle.std.specs.Prelude.{◌≡◌, ◌-◌, ℕ, Bool, false, Result, Ok, Err, is_ok}
+use Rattle.std.specs.Prelude.{◌≡◌, ◌<◌, ◌≤◌, ◌+◌, ◌-◌, ◌&&◌, ℕ, nat_lt, Bool, false, List, [], ◌∷◌, ◌++◌, length}
+use Rattle.std.specs.Prelude.{Result, Ok, Err, is_ok}
+use Rattle.std.specs.Prelude.{if◌then◌else◌}
 use Rattle.std.specs.Time.{instant_nanos}
 use Rattle.std.specs.declared.io.Error.{Error}
 use Rattle.std.specs.declared.time.Instant.{Instant}
+use Rattle.keycard_rules.specs.Calls.{Passes}
+use Rattle.hotel_program.specs.declared.timed.TheConstants.{PATIENCE, REST_BYTES, SILENCE}
 
 -- What is left of a time after what passed between two readings of the clock.
 abbrev pub left_after : ℕ → Instant → Instant → ℕ
@@ -43,7 +47,56 @@ CallInTime limited clock_read called old left got rest new =
 
 -- Whether two limits were set, by what came of the first: the second is asked for where it was.
 abbrev pub SecondSet : {L : Type 0} → (L → Result (Unit {0}) Error → L → Type 0)
-    → Result (Unit {0}) Error → L → Bool → Type 0
-SecondSet limited (Ok set) old both =
-    (second : Result (Unit {0}) Error) × (new : _) × limited old second new × (both ≡ is_ok second)
-SecondSet limited (Err why) old both = both ≡ false
+    → Result (Unit {0}) Error → L → L → Bool → Type 0
+SecondSet limited (Ok set) old new both =
+    (second : Result (Unit {0}) Error) × limited old second new × (both ≡ is_ok second)
+SecondSet limited (Err why) old new both = (new ≡ old) × (both ≡ false)
+
+-- A read brought the first byte, where none had come.
+abbrev pub is_first : Bool → Result ℕ Error → Bool
+is_first waits (Ok count) = waits && nat_lt 0 count
+is_first waits (Err why) = false
+
+-- What a read leaves of the time of a connection, and whether its first byte is still waited for: as much as the call
+-- left; or, behind the first byte, `PATIENCE`.
+abbrev pub LeavesBehind : Bool → Result ℕ Error → ℕ → ℕ → Bool → Type 0
+LeavesBehind waits got left new waits' =
+    (new ≡ (if is_first waits got then PATIENCE else left)) × (waits' ≡ (if is_first waits got then false else waits))
+
+-- The shorter of two times.
+abbrev pub shorter : ℕ → ℕ → ℕ
+shorter a b = a - (a - b)
+
+-- A reading of what comes behind an answer: what the read gave, and what it left in the room.
+abbrev pub Reading : Type 0
+Reading = Result ℕ Error × List ℕ
+
+-- From a connection and what was left of its time to these behind it, a reading was made in a second, or in what was left
+-- where that was less; what it took of this is taken from what was left.
+abbrev pub ReadsRest : {L : Type 0} → (L → ℕ → Result (Unit {0}) Error → L → Type 0)
+    → (L → Result Instant Error → L → Type 0) → (L → Result ℕ Error → List ℕ → L → Type 0)
+    → L × ℕ → Reading → L × ℕ → Type 0
+ReadsRest limited clock_read was_read old reading new =
+    let limit = shorter old.1 SILENCE in
+    (rest : ℕ) × CallInTime limited clock_read (λ l got l'. was_read l got reading.1 l') old.0 limit reading.0 rest new.0
+    × (new.1 ≡ old.1 - (limit - rest))
+
+-- how many bytes it brought
+abbrev pub brought : Reading → ℕ
+brought (Ok count, room) = count
+brought (Err why, room) = 0
+
+abbrev pub all_brought : List Reading → ℕ
+all_brought [] = 0
+all_brought (reading ∷ readings) = brought reading + all_brought readings
+
+-- Readings one after the other, of which those before the last one brought fewer than `REST_BYTES`.
+abbrev pub ReadsOn : {L : Type 0} → (L × ℕ → Reading → L × ℕ → Type 0) → List Reading → L × ℕ → L × ℕ → Type 0
+ReadsOn reads readings old new = (before last : List Reading) × (readings ≡ before ++ last)
+    × Passes reads old readings new × (length last ≤ 1) × (all_brought before < REST_BYTES)
+
+-- What was read behind an answer: nothing, where the writing side wasn't shut.
+abbrev pub LingersOn : {L : Type 0} → (L × ℕ → Reading → L × ℕ → Type 0) → Result (Unit {0}) Error → L × ℕ → L × ℕ
+    → Type 0
+LingersOn reads (Ok shut) old new = (readings : List Reading) × ReadsOn reads readings old new
+LingersOn reads (Err why) old new = new ≡ old

@@ -4,7 +4,8 @@ ghost use Rattle.std.specs.Prelude.{◌≡◌, ◌≤◌, length, take, IfOk, On
 ghost use Rattle.hotel_lists.specs.{Calls.CountsCalls, Calls.CountsWrites, Calls.OnErrOf, Reads.ReadsWhile};
 ghost use Rattle.hotel_program.specs.declared.script.ScriptFault.TheVariants.{Read};
 ghost use Rattle.hotel_program.specs.Script.Lines.{answered_lines};
-ghost use Rattle.hotel_program.specs.Script.WholeScript.{IfCut, IfUnbegun, LinesAnswered, LinesCut, ScriptRan, fault_of};
+ghost use Rattle.hotel_program.specs.Script.WholeScript.{IfCut, IfUnbegun, LinesAnswered, LinesCut, ScriptRan};
+ghost use Rattle.hotel_program.specs.Script.WholeScript.{fault_of};
 
 mod asks;
 mod line_answers;

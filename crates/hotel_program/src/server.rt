@@ -6,6 +6,7 @@ ghost use Rattle.hotel_program.specs.Acts.{ServeEnds, desk, listening_text, view
 
 use crate::connections::serve_connections;
 use crate::faults::{Fault, FaultSink, finish};
+use crate::listener::ClockedListener;
 use crate::surroundings::Surroundings;
 use hotel_core::Walks;
 use hotel_lists::{IoCalls, WriteFailed, write_parts};
@@ -65,7 +66,10 @@ pub fn run_serve<B: Walks, R: Rng, W: Write, F: FaultSink, E: Surroundings>(
         Err(why) => return finish(Err(why), faults, &mut calls),
     };
     match write_listening(writer, port, &mut calls) {
-        Ok(()) => serve_connections(alloc, &listener, &*around, count, books, source, faults),
+        Ok(()) => {
+            let listener = ClockedListener::new(&listener, &*around);
+            serve_connections(alloc, listener, count, books, source, faults)
+        }
         Err(WriteFailed) => finish(Err(Fault::Write), faults, &mut calls),
     }
 }

@@ -1,17 +1,33 @@
-//! A connection that has a time for all its reads, and the same for all its writes.
+//! A connection that has a time for its first byte, one for all its reads behind it, and the same for all its writes.
 
-ghost use Rattle.std.specs.Prelude.{◌≡◌, ◌≤◌, Result, IsOk, OnOk};
+ghost use Rattle.std.specs.Prelude.{◌≡◌, ◌≤◌, ℕ, false, true, None, Result, IsOk, OnOk};
 ghost use Rattle.std.specs.Duration.{as_nanos};
 ghost use Rattle.std.specs.Io.{ReadsAtMost, WritesAtMost};
+ghost use Rattle.std.specs.Io.KnownBytes.{ReadConsumes, WriteAppends};
 ghost use Rattle.std.specs.declared.io.Error.{Error};
-ghost use Rattle.hotel_program.specs.Timed.{left_after, CallInTime, SecondSet};
+ghost use Rattle.hotel_program.specs.Timed.{CallInTime, LeavesBehind, LingersOn, ReadsRest, SecondSet};
+ghost use Rattle.hotel_program.specs.Timed.{is_first, left_after, shorter};
 
+use crate::listener::Link;
 use std::io::{self, Read, Write};
-use std::net::TcpStream;
-use std::time::{Clock, Duration, Instant};
+use std::time::{Duration, Instant};
 
-/// How many nanoseconds all the reads of a connection may take together, and as many all its writes: ten seconds.
+/// How many nanoseconds the first byte of a connection may take to come: one second. Browsers open connections ahead,
+/// and send nothing over them.
+pub const FIRST_PATIENCE: u64 = 1_000_000_000;
+
+/// How many nanoseconds all the reads of a connection behind its first byte may take together, and as many all its
+/// writes: ten seconds.
 pub const PATIENCE: u64 = 10_000_000_000;
+
+/// How many nanoseconds one read may take of what comes behind an answer: one second.
+pub const SILENCE: u64 = 1_000_000_000;
+
+/// How many bytes are thrown away of what comes behind an answer, until no more are read.
+pub const REST_BYTES: usize = 1_000_000;
+
+/// How many of them are read at once.
+const ROOM_BYTES: usize = 4096;
 
 /// The time that a connection has.
 fn patience() -> Duration
@@ -20,119 +36,12 @@ fn patience() -> Duration
     Duration::from_nanos(PATIENCE)
 }
 
-/// What can limit how long a read and a write may take. What comes of a limit is not known to contracts: they say which
-/// limits were asked for, in which order, and what the answers were.
-pub trait Limits {
-    ghost use Rattle.std.specs.Prelude.{ℕ, Result};
-    ghost use Rattle.std.specs.declared.io.Error.{Error};
-
-    /// The states that may follow one after reads were asked to take no more than so many nanoseconds.
-    ghost reads_limited: { Self → ℕ → Result (Unit {0}) Error → Self → Type 0 };
-
-    /// The same of writes.
-    ghost writes_limited: { Self → ℕ → Result (Unit {0}) Error → Self → Type 0 };
-
-    fn limit_reads(&mut self, limit: Duration) -> io::Result<()>
-        ensures limited { reads_limited self.old (as_nanos limit) result self.new }
-        ensures past { as_nanos limit ≡ 0 → OnOk result ⊥ };
-
-    fn limit_writes(&mut self, limit: Duration) -> io::Result<()>
-        ensures limited { writes_limited self.old (as_nanos limit) result self.new }
-        ensures past { as_nanos limit ≡ 0 → OnOk result ⊥ };
-}
-
-impl Limits for &TcpStream {
-    ghost reads_limited = { λ _ _ _ _. Unit {0} };
-
-    ghost writes_limited = { λ _ _ _ _. Unit {0} };
-
-    fn limit_reads(&mut self, limit: Duration) -> io::Result<()> {
-        self.set_read_timeout(Some(limit))
-    }
-
-    fn limit_writes(&mut self, limit: Duration) -> io::Result<()> {
-        self.set_write_timeout(Some(limit))
-    }
-}
-
-/// A connection with the clock that tells how long its calls take. What comes over it and what the clock shows is not
-/// known to contracts: they say what was asked of both, in which order, and what the answers were.
-pub trait Link: Limits {
-    ghost use Rattle.std.specs.Prelude.{ℕ, List, Result};
-    ghost use Rattle.std.specs.declared.io.Error.{Error};
-    ghost use Rattle.std.specs.declared.time.Instant.{Instant};
-
-    /// The states that may follow one after the clock was read.
-    ghost clock_read: { Self → Result Instant Error → Self → Type 0 };
-
-    /// The same of a read of the connection, which left this in the room.
-    ghost was_read: { Self → Result ℕ Error → List ℕ → Self → Type 0 };
-
-    /// The same of a write of these bytes.
-    ghost was_written: { Self → List ℕ → Result ℕ Error → Self → Type 0 };
-
-    fn now(&mut self) -> io::Result<Instant>
-        ensures read { clock_read self.old result self.new };
-
-    fn read_some(&mut self, room: &mut [u8]) -> io::Result<usize>
-        ensures bound { ReadsAtMost result room.new }
-        ensures read { was_read self.old result room.new self.new };
-
-    fn write_some(&mut self, bytes: &[u8]) -> io::Result<usize>
-        ensures bound { WritesAtMost result bytes.now }
-        ensures written { was_written self.old bytes.now result self.new };
-}
-
-/// A connection of the system, with a clock.
-#[derive(Drop)]
-pub struct ClockedStream<'c, C> {
-    stream: &'c TcpStream,
-    clock: &'c C,
-}
-
-impl<C: Clock> Limits for ClockedStream<'_, C> {
-    ghost reads_limited = { λ _ _ _ _. Unit {0} };
-
-    ghost writes_limited = { λ _ _ _ _. Unit {0} };
-
-    fn limit_reads(&mut self, limit: Duration) -> io::Result<()> {
-        self.stream.limit_reads(limit)
-    }
-
-    fn limit_writes(&mut self, limit: Duration) -> io::Result<()> {
-        self.stream.limit_writes(limit)
-    }
-}
-
-impl<C: Clock> Link for ClockedStream<'_, C> {
-    ghost clock_read = { λ _ _ _. Unit {0} };
-
-    ghost was_read = { λ _ _ _ _. Unit {0} };
-
-    ghost was_written = { λ _ _ _ _. Unit {0} };
-
-    fn now(&mut self) -> io::Result<Instant> {
-        Instant::now(self.clock)
-    }
-
-    fn read_some(&mut self, room: &mut [u8]) -> io::Result<usize> {
-        let mut stream = self.stream;
-        stream.read(room)
-    }
-
-    fn write_some(&mut self, bytes: &[u8]) -> io::Result<usize> {
-        let mut stream = self.stream;
-        stream.write(bytes)
-    }
-}
-
 /// Sets how long a read and a write of the connection may take: whether the system took both limits.
-pub fn has_limits<L: Limits + Drop>(stream: L) -> bool
-    ensures { (first : Result (Unit {0}) Error) × (mid : L) × L.reads_limited stream PATIENCE first mid
-        × SecondSet (λ old. L.writes_limited old PATIENCE) first mid result }
+pub fn has_limits<S, L: Link<S>>(stream: &S, link: &mut L) -> bool
+    ensures { (first : Result (Unit {0}) Error) × (mid : L) × L.reads_limited stream.now link.old PATIENCE first mid
+        × SecondSet (λ old set new. L.writes_limited stream.now old PATIENCE set new) first mid link.new result }
 {
-    let mut stream = stream;
-    stream.limit_reads(patience()).is_ok() && stream.limit_writes(patience()).is_ok()
+    link.limit_reads(stream, patience()).is_ok() && link.limit_writes(stream, patience()).is_ok()
 }
 
 /// What is left of a time, of which some was taken between two readings of a clock.
@@ -142,93 +51,174 @@ fn left_of(left: Duration, begun: Instant, ended: Instant) -> Duration
     left.saturating_sub(ended.duration_since(begun))
 }
 
+/// The shorter of two times.
+fn shorter(a: Duration, b: Duration) -> Duration
+    ensures { as_nanos result ≡ shorter (as_nanos a) (as_nanos b) }
+{
+    a.saturating_sub(a.saturating_sub(b))
+}
+
 /// A read that may take the time that is left, and takes from it what it took. Where nothing is left it fails.
-fn read_within<L: Link>(link: &mut L, left: &mut Duration, room: &mut [u8]) -> io::Result<usize>
+fn read_within<S, L: Link<S>>(
+    link: &mut L,
+    stream: &S,
+    left: &mut Duration,
+    room: &mut [u8],
+) -> io::Result<usize>
     ensures bound { ReadsAtMost result room.new }
     ensures past { as_nanos left.old ≡ 0 → OnOk result ⊥ }
     ensures less { as_nanos left.new ≤ as_nanos left.old }
-    ensures timed { CallInTime L.reads_limited L.clock_read (λ old got new. L.was_read old got room.new new)
+    ensures timed { CallInTime (L.reads_limited stream.now) L.clock_read
+        (λ old got new. L.was_read stream.now old got room.new new)
         link.old (as_nanos left.old) result (as_nanos left.new) link.new }
 {
-    link.limit_reads(*left)?;
+    link.limit_reads(stream, *left)?;
     let begun = link.now()?;
-    let got = link.read_some(room);
+    let got = link.read_some(stream, room);
     *left = left_of(*left, begun, link.now()?);
     got
 }
 
 /// The same of a write.
-fn write_within<L: Link>(link: &mut L, left: &mut Duration, bytes: &[u8]) -> io::Result<usize>
+fn write_within<S, L: Link<S>>(
+    link: &mut L,
+    stream: &S,
+    left: &mut Duration,
+    bytes: &[u8],
+) -> io::Result<usize>
     ensures bound { WritesAtMost result bytes.now }
     ensures past { as_nanos left.old ≡ 0 → OnOk result ⊥ }
     ensures less { as_nanos left.new ≤ as_nanos left.old }
-    ensures timed { CallInTime L.writes_limited L.clock_read (λ old. L.was_written old bytes.now)
+    ensures timed { CallInTime (L.writes_limited stream.now) L.clock_read
+        (λ old. L.was_written stream.now old bytes.now)
         link.old (as_nanos left.old) result (as_nanos left.new) link.new }
 {
-    link.limit_writes(*left)?;
+    link.limit_writes(stream, *left)?;
     let begun = link.now()?;
-    let taken = link.write_some(bytes);
+    let taken = link.write_some(stream, bytes);
     *left = left_of(*left, begun, link.now()?);
     taken
 }
 
-/// A connection that is read: all its reads together have ten seconds, whatever pieces come in.
+/// A connection that is read: its first byte has one second, and all reads behind it together have ten, whatever pieces
+/// come in.
 #[derive(Drop)]
-pub struct TimedReader<L> {
+pub struct TimedReader<'s, S, L> {
+    stream: &'s S,
     link: L,
     left: Duration,
+    /// No byte has come.
+    waits: bool,
 }
 
-impl<'c, C: Clock> TimedReader<ClockedStream<'c, C>> {
-    pub fn new(stream: &'c TcpStream, clock: &'c C) -> TimedReader<ClockedStream<'c, C>>
-        ensures { as_nanos result.left ≡ PATIENCE }
+/// Whether a read brought the first byte.
+fn is_first(waits: bool, got: &io::Result<usize>) -> bool
+    ensures { result ≡ is_first waits got.now }
+{
+    match got {
+        Ok(count) => waits && *count > 0,
+        Err(_) => false,
+    }
+}
+
+impl<'s, S, L: Link<S>> TimedReader<'s, S, L> {
+    pub fn new(stream: &'s S, link: L) -> TimedReader<'s, S, L>
+        ensures { (as_nanos result.left ≡ FIRST_PATIENCE) × (result.waits ≡ true) }
     {
         TimedReader {
-            link: ClockedStream { stream, clock },
-            left: patience(),
+            stream,
+            link,
+            left: Duration::from_nanos(FIRST_PATIENCE),
+            waits: true,
+        }
+    }
+
+    /// A read of what comes behind an answer: it may take a second, and no more than what is left.
+    fn read_rest(&mut self, room: &mut [u8]) -> io::Result<usize>
+        ensures same { self.new.stream ≡ self.old.stream }
+        ensures bound { ReadsAtMost result room.new }
+        ensures timed { ReadsRest (L.reads_limited self.old.stream.now) L.clock_read (L.was_read self.old.stream.now)
+            (self.old.link, as_nanos self.old.left) (result, room.new) (self.new.link, as_nanos self.new.left) }
+    {
+        let limit = shorter(self.left, Duration::from_nanos(SILENCE));
+        let mut rest = limit;
+        let got = read_within(&mut self.link, self.stream, &mut rest, room);
+        self.left = self.left.saturating_sub(limit.saturating_sub(rest));
+        got
+    }
+
+    /// Shuts the writing side, and throws away what comes until the peer ends too. So no reset takes the answer from a
+    /// peer that still sends. It ends too where one second brings nothing, `REST_BYTES` came, or no time is left.
+    pub fn linger(&mut self)
+        ensures lingers { (shut : Result (Unit {0}) Error) × (mid : L)
+            × L.writes_shut self.old.stream.now self.old.link shut mid
+            × LingersOn (ReadsRest (L.reads_limited self.old.stream.now) L.clock_read
+            (L.was_read self.old.stream.now)) shut (mid, as_nanos self.old.left) (self.new.link, as_nanos self.new.left) }
+    {
+        if self.link.shut_writes(self.stream).is_err() {
+            return;
+        }
+        let mut room = [0; ROOM_BYTES];
+        let mut left = REST_BYTES;
+        while left > 0 {
+            match self.read_rest(&mut room) {
+                Ok(count) if count > 0 => left = left.saturating_sub(count),
+                _ => return,
+            }
         }
     }
 }
 
-impl<L: Link> Read for TimedReader<L> {
+impl<'s, S, L: Link<S>> Read for TimedReader<'s, S, L> {
     fn read(&mut self, room: &mut [u8]) -> io::Result<usize>
         ensures bound { ReadsAtMost result room.new }
+        ensures bytes { ReadConsumes None None result room.new }
         ensures past { as_nanos self.old.left ≡ 0 → OnOk result ⊥ }
-        ensures less { as_nanos self.new.left ≤ as_nanos self.old.left }
-        ensures timed { CallInTime L.reads_limited L.clock_read (λ old got new. L.was_read old got room.new new)
-            self.old.link (as_nanos self.old.left) result (as_nanos self.new.left) self.new.link }
+        ensures timed { (left : ℕ) × CallInTime (L.reads_limited self.old.stream.now) L.clock_read
+            (λ old got new. L.was_read self.old.stream.now old got room.new new)
+            self.old.link (as_nanos self.old.left) result left self.new.link
+            × LeavesBehind self.old.waits result left (as_nanos self.new.left) self.new.waits }
     {
-        read_within(&mut self.link, &mut self.left, room)
+        let got = read_within(&mut self.link, self.stream, &mut self.left, room);
+        if is_first(self.waits, &got) {
+            self.waits = false;
+            self.left = patience();
+        }
+        got
     }
 }
 
 /// A connection that is written to: all its writes together have ten seconds, whatever the peer takes at once.
 #[derive(Drop)]
-pub struct TimedWriter<L> {
+pub struct TimedWriter<'s, S, L> {
+    stream: &'s S,
     link: L,
     left: Duration,
 }
 
-impl<'c, C: Clock> TimedWriter<ClockedStream<'c, C>> {
-    pub fn new(stream: &'c TcpStream, clock: &'c C) -> TimedWriter<ClockedStream<'c, C>>
+impl<'s, S, L: Link<S>> TimedWriter<'s, S, L> {
+    pub fn new(stream: &'s S, link: L) -> TimedWriter<'s, S, L>
         ensures { as_nanos result.left ≡ PATIENCE }
     {
         TimedWriter {
-            link: ClockedStream { stream, clock },
+            stream,
+            link,
             left: patience(),
         }
     }
 }
 
-impl<L: Link> Write for TimedWriter<L> {
+impl<'s, S, L: Link<S>> Write for TimedWriter<'s, S, L> {
     fn write(&mut self, bytes: &[u8]) -> io::Result<usize>
         ensures bound { WritesAtMost result bytes.now }
+        ensures bytes { WriteAppends None None result bytes.now }
         ensures past { as_nanos self.old.left ≡ 0 → OnOk result ⊥ }
         ensures less { as_nanos self.new.left ≤ as_nanos self.old.left }
-        ensures timed { CallInTime L.writes_limited L.clock_read (λ old. L.was_written old bytes.now)
+        ensures timed { CallInTime (L.writes_limited self.old.stream.now) L.clock_read
+            (λ old. L.was_written self.old.stream.now old bytes.now)
             self.old.link (as_nanos self.old.left) result (as_nanos self.new.left) self.new.link }
     {
-        write_within(&mut self.link, &mut self.left, bytes)
+        write_within(&mut self.link, self.stream, &mut self.left, bytes)
     }
 
     /// Nothing is held back.

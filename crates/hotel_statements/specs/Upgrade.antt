@@ -1,13 +1,13 @@
 -- A desk that lacks something which a new one has, and what makes that.
-use Rattle.std.specs.Prelude.{◌≡◌, ◌<◌, ℕ, List, [], IsTrue}
+use Rattle.std.specs.Prelude.{◌≡◌, ℕ, List, [], IsTrue}
 use Rattle.std.specs.List.{AllByRecursion}
 use Rattle.std.specs.Map.{keys_of}
+use Rattle.std.specs.BTreeMap.{insert_entry}
 use Rattle.sqlite.specs.Tree.{Trees}
 use Rattle.sqlite_catalog.specs.Listing.{IsSound}
 use Rattle.sqlite.specs.Effect.{IsDatabase}
 use Rattle.sqlite.specs.State.{State}
-use Rattle.hotel_model.specs.declared.rows.FitRow.{FitRow}
-use Rattle.hotel_model.specs.Rows.{FitKey}
+use Rattle.hotel_model.specs.Words.{pair_cmp}
 use Rattle.hotel_model.specs.Refits.{fit_row}
 use Rattle.hotel_rows.specs.Joined.{FitEntries}
 use Rattle.hotel_statements.specs.declared.version.Version.{Version}
@@ -15,7 +15,7 @@ use Rattle.hotel_statements.specs.declared.version.Version.TheVariants.{First}
 use Rattle.hotel_statements.specs.declared.version.Layout.{Layout}
 use Rattle.hotel_statements.specs.Trees.{fit_tree}
 use Rattle.hotel_statements.specs.Schema.{desk_schema, version_of}
-use Rattle.hotel_statements.specs.Tables.{AreTablesOf, AreTables, bare_rooms_in, fits_in, rows_in, bare_rows_in}
+use Rattle.hotel_statements.specs.Tables.{AreTablesOf, AreTables, HasId, bare_rooms_in, fits_in, rows_in, bare_rows_in}
 use Rattle.hotel_statements.specs.Tables.{rows_of_version}
 use Rattle.hotel_statements.specs.Steps.{IsMidOf, IsMid}
 
@@ -23,23 +23,20 @@ use Rattle.hotel_statements.specs.Steps.{IsMidOf, IsMid}
 abbrev pub AreRoomsIn : List ℕ → Trees → Type 0
 AreRoomsIn rooms db = rooms ≡ keys_of (bare_rooms_in db)
 
--- within a transaction, the tables are those of a desk that is laid out so, and these are its rooms
-abbrev pub IsPartly : Layout → List ℕ → State → Type 0
-IsPartly layout rooms s = IsMidOf layout s × AreRoomsIn rooms s.now.trees
-
--- Within one transaction, a desk of a version became a whole one, with its rows.
-pub record IsCompleted (version : Version) (old new : State) : Type 0 where
+-- Within one transaction, the tables became those of a whole desk, and the rows stayed, but for its fits.
+pub record BecomesDesk (old new : State) : Type 0 where
   pub was_open : IsTrue old.is_open
   pub is_open : IsTrue new.is_open
   pub committed : new.committed ≡ old.committed
   pub mid : IsMid new
   -- the trees list the tables and indexes, and obey them
   pub sound : IsDatabase new.now
-  pub rows_are : rows_in new.now.trees ≡ rows_of_version version old.now.trees
+  pub bare_rows_are : bare_rows_in new.now.trees ≡ bare_rows_in old.now.trees
 
--- where the connection was open, and the desk was laid out so and had these rooms, it is whole
+-- where the connection was open, and the desk was laid out so, it is whole; with its rows, where these are its rooms
 abbrev pub Completes : Layout → List ℕ → State → State → Type 0
-Completes layout rooms old new = (IsTrue old.is_open → IsPartly layout rooms old) → IsCompleted (version_of layout) old new
+Completes layout rooms old new = (IsTrue old.is_open → IsMidOf layout old) → BecomesDesk old new
+    × (AreRoomsIn rooms old.now.trees → rows_in new.now.trees ≡ rows_of_version (version_of layout) old.now.trees)
 
 -- The trees are the whole of a desk, with the rows of one of a version: an opening that finds them finds its schema.
 pub record IsWholeOf (version : Version) (old new : Trees) : Type 0 where
@@ -56,23 +53,23 @@ pub record IsOutdated (s : State) : Type 0 where
   pub tables : AreTablesOf First s.now.trees
   pub empty : s.now.trees fit_tree ≡ []
 
--- Within a transaction, the tables are those of a desk, whose fits are of rooms before this one.
-pub record IsBefore (room : ℕ) (s : State) : Type 0 where
+-- each row of a fit has a number, by which SQLite tells it from another
+abbrev pub AreNumbered : State → Type 0
+AreNumbered s = AllByRecursion HasId (s.now.trees fit_tree)
+
+-- Within a transaction, the tables are those of a desk, to which fits are added.
+pub record IsFilling (s : State) : Type 0 where
   pub mid : IsMid s
-  pub earlier : AllByRecursion (λ (e : FitKey × FitRow). e.0.0 < room) (fits_in s.now.trees)
+  pub numbered : AreNumbered s
 
--- the fit that a room began with
-abbrev pub first_of : ℕ → FitKey × FitRow
-first_of room = ((room, 1), fit_row room 1 0 0)
+-- the fits, with the one that a room began with
+abbrev pub with_first : FitEntries → ℕ → FitEntries
+with_first fits room = insert_entry pair_cmp fits (room, 1) (fit_row room 1 0 0)
 
--- The tables became those of a desk with these fits, and the other rows stayed; nothing is committed.
+-- The tables became those of a desk with these fits.
 pub record HasFits (fits : FitEntries) (old new : State) : Type 0 where
-  pub was_open : IsTrue old.is_open
-  pub is_open : IsTrue new.is_open
-  pub committed : new.committed ≡ old.committed
-  pub mid : IsMid new
-  pub sound : IsDatabase new.now
-  pub bare_rows_are : bare_rows_in new.now.trees ≡ bare_rows_in old.now.trees
+  pub desk : BecomesDesk old new
+  pub numbered : AreNumbered new
   pub fits_are : fits_in new.now.trees ≡ fits
 
 -- where the connection was open, and the state was such, the desk has these fits, and its other rows stayed

@@ -34,10 +34,7 @@ pub(crate) fn created<S: Alter + Drop>(
     if !conn.is_autocommit() {
         return Err(OpenFault::Store);
     }
-    match TableBooks::create_or_return(alloc, conn) {
-        Ok(books) => Ok(books),
-        Err((why, _conn)) => Err(why),
-    }
+    TableBooks::create(alloc, conn)
 }
 
 /// A new desk over tables in memory.

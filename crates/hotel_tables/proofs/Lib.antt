@@ -9,6 +9,7 @@ mod MayMake
 mod MemoryDesk
 mod Reread
 mod Entered
+mod Migrated
 mod Reopened
 mod OfFiles
 mod Causes

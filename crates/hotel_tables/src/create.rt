@@ -97,4 +97,23 @@ impl<S: Alter + Drop> TableBooks<S> {
             store: 0,
         })
     }
+
+    /// As `create_or_return`; on a fault the connection is dropped.
+    pub fn create(alloc: Global, conn: Connection<S>) -> Result<TableBooks<S>, OpenFault>
+        requires { (state S.Store conn).in_transaction ≡ false }
+        ensures empty { IfOk result (λ b. IsKept (state S.Store b.conn)
+            → rows_in (state S.Store b.conn).now.trees ≡ no_rows) }
+        ensures unfailed { IfOk result (λ b. (b.memory ≡ 0) × (b.store ≡ 0)) }
+        ensures was { IfOk result (λ b. IsKept (state S.Store b.conn) → IsKept (state S.Store conn)) }
+        ensures vouched { IfOk result (λ b. HasCleanDisk (state S.Store b.conn) → IsKept (state S.Store b.conn)) }
+        ensures crash { IfOk result (λ b. Survives (state S.Store conn) (state S.Store b.conn) IsEmptyDesk) }
+        ensures left { (state S.Store conn).now.schema ≡ no_schema
+            → IfErr result (λ why. (last : _) × LeavesBare S.Store conn last why) }
+        ensures taken { ¬ ((state S.Store conn).now.schema ≡ no_schema) → result ≡ Err NotADesk }
+    {
+        match TableBooks::create_or_return(alloc, conn) {
+            Ok(books) => Ok(books),
+            Err((why, _conn)) => Err(why),
+        }
+    }
 }

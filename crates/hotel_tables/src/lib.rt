@@ -20,6 +20,7 @@ mod system_disk;
 mod table_books;
 
 pub use files::{FileFault, close_file, open_file};
+pub use hotel_rows::{Stored, TableName, first_damaged};
 pub use laws::{files_are_clean, files_keep_books, memory_is_clean, read_undamaged};
 pub use open_fault::OpenFault;
 pub use path_disk::PathDisk;

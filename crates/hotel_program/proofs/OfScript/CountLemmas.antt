@@ -41,8 +41,8 @@ abbrev fault_in : Result ScriptEnd ScriptFault → ScriptFault
 fault_in (Ok end) = Memory
 fault_in (Err fault) = fault
 
-pub unread_end : {A : Type 0} (end : Result ScriptEnd ScriptFault) (why : WholeFault) → IsErrAnd end (λ e. e ≡ fault_of why)
-    → end ≡ Err Read → the_err {A = A} why ≡ the_err whole.Read
+pub unread_end : {A : Type 0} (end : Result ScriptEnd ScriptFault) (why : WholeFault)
+    → IsErrAnd end (λ e. e ≡ fault_of why) → end ≡ Err Read → the_err {A = A} why ≡ the_err whole.Read
 unread_end (Ok end) why p e = absurd p
 unread_end (Err fault) why p e = ap the_err (unread why (sym p ∙ ap fault_in e))
 
@@ -64,7 +64,8 @@ end_read (Err TooLarge) e = absurd (cc)
 end_read (Err Memory) e = absurd (cc)
 end_read (Err (Write done)) e = absurd (cc)
 
-end_write : {P : Type 0} (end : Result ScriptEnd ScriptFault) → IfCut end (λ _. P) → script_end end ≡ Err fault.Write → P
+end_write : {P : Type 0} (end : Result ScriptEnd ScriptFault) → IfCut end (λ _. P) → script_end end ≡ Err fault.Write
+    → P
 end_write (Ok end) p e = absurd (cc)
 end_write (Err Read) p e = absurd (cc)
 end_write (Err TooLarge) p e = absurd (cc)

@@ -86,8 +86,8 @@ reply_sure (Refused refusal.Store) k = absurd (false≢true (sym k ∙ told_fail
 reply_sure _ k = refl
 
 -- where the text of a refusal tells no failure, no call failed
-refusal_answered : (front : List ℕ) (why_not : ListFault) (why : Refusal) (told : Told) → told_refusal why_not ≡ Some why
-    → ListTold (Err why_not) told → tells_failure (front ++ refusal_text why) ≡ false → NoCallFailed told
+refusal_answered : (front : List ℕ) (why_not : ListFault) (why : Refusal) (told : Told)
+    → told_refusal why_not ≡ Some why → ListTold (Err why_not) told → tells_failure (front ++ refusal_text why) ≡ false → NoCallFailed told
 refusal_answered front fault.NoRoom why told e t k = t
 refusal_answered front fault.Memory why told e t k =
     let same : refusal.Memory ≡ why = cc e in absurd (false≢true (sym k ∙ subst (λ (w : Refusal).

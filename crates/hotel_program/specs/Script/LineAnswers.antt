@@ -28,14 +28,14 @@ abbrev pub answer_text : ScriptAnswer → List ℕ
 answer_text (Replied reply) = reply_text reply
 answer_text Unread = unread_text
 
--- What the calls of a command's line told, by its reply: as the command's; or none was made, where there was no memory to
--- copy a text of the line.
+-- What the calls of a command's line told, by its reply: as the command's; or none was made, where there was no memory
+-- to copy a text of the line.
 abbrev pub CommandTold : Command → Reply → Told → Type 0
 CommandTold command reply told =
     (told ≡ failure_in reply ∷ []) ⊎ ((reply ≡ Refused Memory) × (copies command ≡ true) × (told ≡ []))
 
--- What is asked goes with this answer, by calls that told this: a command is a step that gives the reply of that text; a
--- list is answered, and is the history's where the condition holds of its text; and where nothing is asked the line is
+-- What is asked goes with this answer, by calls that told this: a command is a step that gives the reply of that text;
+-- a list is answered, and is the history's where the condition holds of its text; and where nothing is asked the line is
 -- unread. Of the last two nothing happens.
 abbrev pub AskGoes : (List ℕ → Type 0) → Option Ask → History → Stream → List ℕ → Told → History → Stream → Type 0
 AskGoes sure (Some (ask.Command command)) h s text told h' s' = (reply : Reply) × Steps h s command reply h' s'

@@ -44,7 +44,8 @@ ToldIn (Some (ask.List its_list) ∷ later) replies [] told = told ≡ []
 ToldIn (Some (ask.List its_list) ∷ later) replies (answer ∷ lists) told =
     (more : Told) × ToldIn later replies lists more × (told ≡ answer.1 ++ more)
 
--- The commands of lines are a run, and the answers and what was told are those of its replies and of the lists' answers.
+-- The commands of lines are a run, and the answers and what was told are those of its replies and of the lists'
+-- answers.
 abbrev pub LinesRun : History → Stream → List (List ℕ) → List (List ℕ) → Told → History → Stream → Type 0
 LinesRun h s lines texts told h' s' =
     (replies : List Reply) × (lists : List (List ℕ × Told))

@@ -11,7 +11,8 @@ use Rattle.hotel_lists.specs.declared.calls.WriteFailed.{WriteFailed}
 use Rattle.hotel_model.specs.History.{History}
 use Rattle.hotel_model.specs.Rows.{Rows}
 use Rattle.hotel_program.specs.Script.Asks.{ask_in}
-use Rattle.hotel_program.specs.Script.{LineAnswers.AskEnds, LineAnswers.LineGoes, LineAnswers.Sure, Lines.answered_lines}
+use Rattle.hotel_program.specs.Script.LineAnswers.{AskEnds, LineGoes, Sure}
+use Rattle.hotel_program.specs.Script.Lines.{answered_lines}
 use Rattle.hotel_program.specs.declared.script.TheConstants.{SCRIPT_LIMIT}
 use Rattle.hotel_program.specs.declared.script.ScriptEnd.{ScriptEnd}
 use Rattle.hotel_program.specs.declared.script.ScriptFault.{ScriptFault}

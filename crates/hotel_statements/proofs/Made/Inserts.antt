@@ -1,6 +1,6 @@
 -- What each INSERT makes of the rows of a desk.
 use Rattle.std.proofs.Common.{◌≡◌, ◌+◌, ◌-◌, ◌&&◌, ◌||◌, not, refl, ap, ap₂, sym, subst, ◌∙◌, List, [], ◌∷◌, ◌++◌, ◌/◌}
-use Rattle.std.proofs.Common.{length, map, ℕ, pos, Bool, Option, None, Some, Ok, inl, inr, true, false, arith, eqb}
+use Rattle.std.proofs.Common.{length, map, ℕ, ℤ, pos, Bool, Option, None, Some, Ok, inl, inr, true, false, arith, eqb}
 use Rattle.std.proofs.Common.{is_eq, nat_cmp}
 use Rattle.std.specs.Cmp.Lexicographic.{slice_cmp}
 use Rattle.std.specs.List.{AllByRecursion, list_all}
@@ -50,10 +50,10 @@ use Rattle.hotel_statements.specs.Columns.{room_columns, room_of, room_written, 
 use Rattle.hotel_statements.specs.Columns.{code_columns, code_of, code_written, card_columns, card_of, card_written}
 use Rattle.hotel_statements.specs.Columns.{fit_columns, fit_of, fit_written}
 use Rattle.hotel_rows.specs.Joined.{with_last, with_fit, with_count, under_fit, fit_of_number}
-use Rattle.hotel_statements.specs.Tables.{IsWrittenAs, by_key, rows_in, fits_in, bare_rooms_in}
+use Rattle.hotel_statements.specs.Tables.{AreFits, IsWrittenAs, by_key, rows_in, fits_in, bare_rooms_in}
 use Rattle.hotel_statements.specs.Tables.{bare_notes_in}
 use Rattle.hotel_core.specs.Refinement.Finds.{AnyRows}
-use Rattle.hotel_statements.specs.Steps.{IsMid, IsMidWith, IsNewNote, IsNextFit, IsWithoutFit, MovesRows}
+use Rattle.hotel_statements.specs.Steps.{IsMidWith, IsNewNote, IsNextFit, IsWithoutFit, MovesRows}
 use Rattle.hotel_statements.specs.Steps.{bare_room}
 use Rattle.hotel_statements.specs.Steps.{counts_to, is_below, kind_added, note_added, fit_added, room_added, code_added}
 use Rattle.hotel_statements.specs.Steps.{stay_added, card_added}
@@ -293,34 +293,27 @@ none_at room number (e ∷ es) later =
     by true low = grind (arith, nat_tests, low)
     by false low = refl
 
--- A fit of a room was put: the table has it behind its key, and no other moved.
-pub record PutsFit (fit : FitRow) (old new : State) : Type 0 where
-  pub rows : List Row
-  pub changes : Changed fit_tree rows old new
-  pub made : AreRowsOf (by_key pair_cmp) fit_columns fit_of fit_written rows
-      (insert_entry pair_cmp (fits_in old.now.trees) (fit.room, fit.fit) fit)
-
--- one whose number no fit of the room has reached
-pub puts_fit : (old new : State) (fit : FitRow) (count : ℕ)
+-- a fit of a room was put
+pub put_fit : (old new : State) (fit : FitRow) (count : ℕ)
     → ExecutesIn false insert_fit (int fit.room ∷ int fit.fit ∷ int fit.place ∷ int fit.before ∷ []) old new (Ok count)
-    → IsMid old → list_all (is_below fit.room fit.fit) (fits_in old.now.trees) ≡ true → PutsFit fit old new
-puts_fit old new f count h was later =
-    let fits = fits_in old.now.trees in
-    let k : ℕ × ℕ = (f.room, f.fit) in
-    let row = fit_stored (next_rowid (old.now.trees fit_tree)) f in
-    let did : Put fit_tree row old new =
+    → old.now.schema ≡ desk_schema → Put fit_tree (fit_stored (next_rowid (old.now.trees fit_tree)) fit) old new
+put_fit old new f count h has =
     put fit_tree fit_table _ (Null ∷ int f.room ∷ int f.fit ∷ int f.place ∷ int f.before ∷ [])
-    row old new count changes.insert_fit (λ _ does. does) refl
+    (fit_stored (next_rowid (old.now.trees fit_tree)) f) old new count changes.insert_fit (λ _ does. does) refl
     (rw (cast_null, cast_int (pos f.room), cast_int (pos f.fit), cast_int (pos f.place), cast_int (pos f.before)) refl)
-    was.schema h in
-    let apart = none_at f.room f.fit fits later in
+    has h
+
+-- where no fit had its key, the table has it behind that, and no other moved
+pub fit_made : (id : ℤ) (fit : FitRow) (db : Trees) → AreFits (db fit_tree)
+    → is_taken (db fit_tree) (fit_stored id fit) ≡ false
+    → AllByRecursion (λ e. is_eq (pair_cmp (fit.room, fit.fit) e.0) ≡ false) (fits_in db)
+    → AreRowsOf (by_key pair_cmp) fit_columns fit_of fit_written (put_row (fit_stored id fit) (db fit_tree))
+    (insert_entry pair_cmp (fits_in db) (fit.room, fit.fit) fit)
+fit_made id f db was fresh apart =
+    let k : ℕ × ℕ = (f.room, f.fit) in
     let made = put_keyed (by_key pair_cmp) (key_total pair_cmp_total) (IsWrittenAs fit_columns fit_of fit_written)
-    (λ r. fit_of (fit_columns r)) row (k, f) _ was.tables.fit refl refl did.fresh apart in
-    record {
-      rows = put_row row (old.now.trees fit_tree);
-      changes = did.changes;
-      made = (made.0, made.1 ∙ entry_put pair_cmp k f fits apart);
-    }
+    (λ r. fit_of (fit_columns r)) (fit_stored id f) (k, f) _ was refl refl fresh apart in
+    (made.0, made.1 ∙ entry_put pair_cmp k f (fits_in db) apart)
 
 -- the next fit of a room
 pub fit_step : (old new : State) (fit : FitRow) (count : ℕ)
@@ -331,8 +324,9 @@ fit_step old new f count h mid =
     let was = both.0 in
     let db = old.now.trees in
     let fits = fits_in db in
-    let did = puts_fit old new f count h.0 was both.1.later in
-    let set = fits_set was.tables did.made in
+    let did = put_fit old new f count h.0 was.schema in
+    let set = fits_set was.tables
+    (fit_made _ f db was.tables.fit did.fresh (none_at f.room f.fit fits both.1.later)) in
     let up = keys_rise pair_cmp fits (fits_rise db was.tables) in
     let rooms = rooms_fitted fits f up both.1.later (bare_rooms_in db) (rooms_rise db was.tables) in
     let notes = notes_kept fits f up both.1.later (bare_notes_in db)

@@ -25,8 +25,10 @@ use Rattle.hotel_statements.proofs.Writing.{cast_null, cast_int}
 use Rattle.hotel_statements.proofs.Perm.{same_tie, put_fresh, apart_permuted, every_shuffled}
 use Rattle.hotel_statements.proofs.Made.Desk.{steps, insides_set}
 use Rattle.hotel_statements.proofs.Made.Entries.{put_keyed, key_put}
+use Rattle.hotel_statements.proofs.Made.Deletes.{tested}
+use Rattle.hotel_statements.proofs.Made.Gone.{Good, read}
 use Rattle.hotel_statements.proofs.Made.Inserts.{Put, put}
-use Rattle.hotel_statements.proofs.Made.Alone.{alone}
+use Rattle.hotel_statements.proofs.Made.Alone.{alone, inside_free}
 use Rattle.hotel_statements.proofs.Made.Reads.{inside_stored}
 
 put_ids : (new : Row) (rows : List Row) → is_taken rows new ≡ false → AreApartIds rows → AreApartIds (put_row new rows)
@@ -49,8 +51,9 @@ inside_step old new room number count h mid =
     put inside_tree inside_table _ (Null ∷ int room ∷ int number ∷ []) row old new count changes.insert_inside
     (λ _ does. does) refl
     (rw (cast_null, cast_int (pos room), cast_int (pos number)) refl) was.schema h.0 in
-    let out = alone did.next room number
-    (next_rowid rows) rows was.tables.inside.good was.tables.inside_numbered did.fits did.next_is did.fresh in
+    let free = inside_free did.next row rows did.fits did.next_is did.fresh in
+    let out = alone room number (next_rowid rows) [] rows (did.next inside_tree) pair_cmp pair_cmp_total Good read
+    (λ e. e) (tested room number) was.tables.inside.good was.tables.inside_numbered free did.fresh did.next_is in
     let made = put_keyed pair_cmp pair_cmp_total (IsWrittenAs inside_columns inside_of inside_written)
     (λ r. inside_of (inside_columns r)) row e rows was.tables.inside refl refl did.fresh out in
     let ids = every_shuffled HasId (row ∷ rows) (put_row row rows)

@@ -14,7 +14,7 @@ returns-in-Err-clause-ends g c head at =
     let here =
     subst (λ (l : List ℕ). IsRequestAt l c.args.headers.now c.args.spans.now head) (sym c.head_part-front.ensures) at in
     head_rejected head c.in-Err.why (λ left. drop c.args.spans.now.len (c.args.bytes.now ++ left)) _ _
-    (sym (c.in-Err.ensures head here))
+    (sym (c.in-Err.ensures head here)) c.refused.result c.refused.ensures.asks
 
 pub returns-in-Ok-clause-ends : goal.returns-in-Ok-clause-ends
 returns-in-Ok-clause-ends g c head at =

@@ -1,7 +1,7 @@
 use Rattle.std.proofs.Common.{arith, sym, subst, take, ℕ, List}
 use Rattle.httparse.specs.{Spans.IsRequestWithin}
 use Rattle.hotel_http.specs.{Head.LiesWithin, declared.head.Judged.Judged}
-use Rattle.hotel_http.proofs.RequestLemmas.{request_ends, request_read}
+use Rattle.hotel_http.proofs.RequestLemmas.{follows_whole, request_ends, request_read}
 use Rattle.hotel_http.specs.declared.head.TheConstants.{HEAD_BYTES}
 use Rattle.hotel_http.proofs.requests.read_request.Goals as goal
 
@@ -27,3 +27,9 @@ returns-clause-wanted g c =
     request_read (g.R.Read.remaining c.args.reader.now) (g.R.Read.remaining c.read_head.new.reader)
     (g.R.Read.remaining c.read_behind_head.new.reader) (omega arith) c.in-Whole.is
     c.deref.ensures.value read.taken read.within read.wanted c.read_behind_head.ensures.wanted
+
+pub returns-clause-follows : goal.returns-clause-follows
+returns-clause-follows g c =
+    let read = c.in_ok-read_head.ensures in
+    follows_whole (g.R.Read.remaining c.args.reader.now) c.read_behind_head.result c.in-Whole.is c.deref.ensures.value
+    read.within read.judged c.read_behind_head.ensures.follows

@@ -51,7 +51,8 @@ returns-in_default-answered-clause-cut g c =
     let ended = subst (λ (r : Result (Unit {0}) WriteFailed). HappensBy g.B.Kept g.B.Books.rows c.loop-line.books
     (AskEnds (ask_in line) (g.R.Rng.stream c.loop-line.source) (g.R.Rng.stream c.answer_line-answered.new.source)
     (g.W.Write.contents c.loop-line.writer) (g.W.Write.contents c.answer_line-answered.new.writer) r
-    (g.B.Kept.is_clean c.loop-line.books)) c.answer_line-answered.new.books) c.in_default-answered.is c.answer_line-answered.ensures.went in (
+    (g.B.Kept.is_clean c.loop-line.books)) c.answer_line-answered.new.books) c.in_default-answered.is
+    c.answer_line-answered.ensures.went in (
       omega arith,
       (next_line all c.loop-line.done line _ left).0,
       lines_cut g.B.Kept g.B.Books.rows g.R.Rng.stream g.W.Write.contents all c.loop-line.done line _ _ _ _ _

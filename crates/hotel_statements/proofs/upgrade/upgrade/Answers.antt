@@ -14,11 +14,7 @@ returns-in_err-upgrade_tables-clause-makes g c =
     c.from_residual.ensures.1 c.in_err-upgrade_tables.ensures.makes
 
 pub rooms-init : goal.rooms-init
-rooms-init g c = (
-  search rules,
-  made_as (λ gives before. gives (λ is_open. (before is_open).0))
-      c.in_ok-upgrade_tables.ensures.makes,
-)
+rooms-init g c = (search rules, c.in_ok-upgrade_tables.ensures.makes)
 
 pub rooms-preserved : goal.rooms-preserved
 rooms-preserved g c =
@@ -29,7 +25,7 @@ rooms-preserved g c =
       subst (λ (all : List Statement). MakesBy g.S.Store all (GivesSoFar rooms (i + 1)) c.args.tx.now.conn.now
           c.insert_first_fit.new.tx.conn.now (Ok tt))
           (one_more rooms i c.index-rooms-i.result low c.index-rooms-i.is)
-          (made_then (room_then i c.index-rooms-i.result low c.index-rooms-i.is)
+          (made_then (room_then rooms i c.index-rooms-i.result low c.index-rooms-i.is)
           c.rooms.invariant.1 c.in_ok-insert_first_fit.ensures.makes),
     )
 

@@ -9,121 +9,49 @@ use Rattle.hotel_tables.specs.Applied.{LeavesAll}
 use Rattle.hotel_statements.specs.Statements.{completes}
 use Rattle.hotel_tables.specs.Causes.{FailsToWrite}
 use Rattle.hotel_tables.proofs.Causes.{not_run, not_committed}
+use Rattle.hotel_tables.proofs.Migrated.{ended, made, crash}
 use Rattle.hotel_statements.proofs.InTurn.{answered}
-use Rattle.hotel_statements.proofs.Transaction.{Begins}
-use Rattle.hotel_statements.proofs.Upgraded.{Migrates, migrated}
 use Rattle.hotel_tables.proofs.migration.migrate.Goals as goal
 
 pub returns-clause-books : goal.returns-clause-books
 returns-clause-books g c =
-    let old = state g.S.Store c.args.conn.now in
-    let start = state g.S.Store c.transaction-tx.result.conn.now in
-    let new = state g.S.Store c.commit.new.self.0 in
-    let begins : Begins c.args.layout old start = record {
-      books = c.requires.books;
-      begun = ap (state g.S.Store) c.transaction-tx.ensures.begun;
-    } in
-    let zero : Survives old start (λ _. ⊥) = search rules in
-    let it : Migrates c.args.layout old new c.commit.result =
-    migrated begins c.requires.rooms c.in_ok-complete.ensures.makes.made c.in_ok-complete.ensures.makes.survives
-    new c.commit.result zero
-    c.commit.ensures.ended c.commit.ensures.ok c.commit.ensures.err c.commit.ensures.survives in
+    let it = ended g.S.Store c.args.conn.now c.transaction-tx.result.conn.now c.complete.new.tx.conn.now
+    c.commit.new.self.0 c.commit.result c.requires.books c.transaction-tx.ensures.begun
+    c.in_ok-complete.ensures.makes c.commit.ensures.survives
+    c.commit.ensures.ended c.commit.ensures.ok c.commit.ensures.err in
     search (rules, it.books)
 
 pub returns-clause-left : goal.returns-clause-left
 returns-clause-left g c =
-    let old = state g.S.Store c.args.conn.now in
-    let start = state g.S.Store c.transaction-tx.result.conn.now in
-    let new = state g.S.Store c.commit.new.self.0 in
-    let begins : Begins c.args.layout old start = record {
-      books = c.requires.books;
-      begun = ap (state g.S.Store) c.transaction-tx.ensures.begun;
-    } in
-    let zero : Survives old start (λ _. ⊥) = search rules in
-    let it : Migrates c.args.layout old new c.commit.result =
-    migrated begins c.requires.rooms c.in_ok-complete.ensures.makes.made c.in_ok-complete.ensures.makes.survives
-    new c.commit.result zero
-    c.commit.ensures.ended c.commit.ensures.ok c.commit.ensures.err c.commit.ensures.survives in
+    let it = ended g.S.Store c.args.conn.now c.transaction-tx.result.conn.now c.complete.new.tx.conn.now
+    c.commit.new.self.0 c.commit.result c.requires.books c.transaction-tx.ensures.begun
+    c.in_ok-complete.ensures.makes c.commit.ensures.survives
+    c.commit.ensures.ended c.commit.ensures.ok c.commit.ensures.err in
     search (rules, it.left)
 
 pub returns-clause-was : goal.returns-clause-was
 returns-clause-was g c =
-    let old = state g.S.Store c.args.conn.now in
-    let start = state g.S.Store c.transaction-tx.result.conn.now in
-    let new = state g.S.Store c.commit.new.self.0 in
-    let begins : Begins c.args.layout old start = record {
-      books = c.requires.books;
-      begun = ap (state g.S.Store) c.transaction-tx.ensures.begun;
-    } in
-    let zero : Survives old start (λ _. ⊥) = search rules in
-    let it : Migrates c.args.layout old new c.commit.result =
-    migrated begins c.requires.rooms c.in_ok-complete.ensures.makes.made c.in_ok-complete.ensures.makes.survives
-    new c.commit.result zero
-    c.commit.ensures.ended c.commit.ensures.ok c.commit.ensures.err c.commit.ensures.survives in
+    let it = ended g.S.Store c.args.conn.now c.transaction-tx.result.conn.now c.complete.new.tx.conn.now
+    c.commit.new.self.0 c.commit.result c.requires.books c.transaction-tx.ensures.begun
+    c.in_ok-complete.ensures.makes c.commit.ensures.survives
+    c.commit.ensures.ended c.commit.ensures.ok c.commit.ensures.err in
     search (rules, it.was)
-
-pub returns-clause-made : goal.returns-clause-made
-returns-clause-made g c =
-    let old = state g.S.Store c.args.conn.now in
-    let start = state g.S.Store c.transaction-tx.result.conn.now in
-    let new = state g.S.Store c.commit.new.self.0 in
-    let begins : Begins c.args.layout old start = record {
-      books = c.requires.books;
-      begun = ap (state g.S.Store) c.transaction-tx.ensures.begun;
-    } in
-    let zero : Survives old start (λ _. ⊥) = search rules in
-    let it : Migrates c.args.layout old new c.commit.result =
-    migrated begins c.requires.rooms c.in_ok-complete.ensures.makes.made c.in_ok-complete.ensures.makes.survives
-    new c.commit.result zero
-    c.commit.ensures.ended c.commit.ensures.ok c.commit.ensures.err c.commit.ensures.survives in
-    search (rules, it.made)
 
 pub returns-clause-same : goal.returns-clause-same
 returns-clause-same g c =
-    let old = state g.S.Store c.args.conn.now in
-    let start = state g.S.Store c.transaction-tx.result.conn.now in
-    let new = state g.S.Store c.commit.new.self.0 in
-    let begins : Begins c.args.layout old start = record {
-      books = c.requires.books;
-      begun = ap (state g.S.Store) c.transaction-tx.ensures.begun;
-    } in
-    let zero : Survives old start (λ _. ⊥) = search rules in
-    let it : Migrates c.args.layout old new c.commit.result =
-    migrated begins c.requires.rooms c.in_ok-complete.ensures.makes.made c.in_ok-complete.ensures.makes.survives
-    new c.commit.result zero
-    c.commit.ensures.ended c.commit.ensures.ok c.commit.ensures.err c.commit.ensures.survives in
+    let it = ended g.S.Store c.args.conn.now c.transaction-tx.result.conn.now c.complete.new.tx.conn.now
+    c.commit.new.self.0 c.commit.result c.requires.books c.transaction-tx.ensures.begun
+    c.in_ok-complete.ensures.makes c.commit.ensures.survives
+    c.commit.ensures.ended c.commit.ensures.ok c.commit.ensures.err in
     search (rules, it.same)
-
-pub returns-clause-crash : goal.returns-clause-crash
-returns-clause-crash g c =
-    let old = state g.S.Store c.args.conn.now in
-    let start = state g.S.Store c.transaction-tx.result.conn.now in
-    let new = state g.S.Store c.commit.new.self.0 in
-    let begins : Begins c.args.layout old start = record {
-      books = c.requires.books;
-      begun = ap (state g.S.Store) c.transaction-tx.ensures.begun;
-    } in
-    let zero : Survives old start (λ _. ⊥) = search rules in
-    let it : Migrates c.args.layout old new c.commit.result =
-    migrated begins c.requires.rooms c.in_ok-complete.ensures.makes.made c.in_ok-complete.ensures.makes.survives
-    new c.commit.result zero
-    c.commit.ensures.ended c.commit.ensures.ok c.commit.ensures.err c.commit.ensures.survives in
-    search (rules, it.crash)
 
 pub returns-clause-whole : goal.returns-clause-whole
 returns-clause-whole g c =
-    let old = state g.S.Store c.args.conn.now in
-    let start = state g.S.Store c.transaction-tx.result.conn.now in
+    let it = ended g.S.Store c.args.conn.now c.transaction-tx.result.conn.now c.complete.new.tx.conn.now
+    c.commit.new.self.0 c.commit.result c.requires.books c.transaction-tx.ensures.begun
+    c.in_ok-complete.ensures.makes c.commit.ensures.survives
+    c.commit.ensures.ended c.commit.ensures.ok c.commit.ensures.err in
     let new = state g.S.Store c.commit.new.self.0 in
-    let begins : Begins c.args.layout old start = record {
-      books = c.requires.books;
-      begun = ap (state g.S.Store) c.transaction-tx.ensures.begun;
-    } in
-    let zero : Survives old start (λ _. ⊥) = search rules in
-    let it : Migrates c.args.layout old new c.commit.result =
-    migrated begins c.requires.rooms c.in_ok-complete.ensures.makes.made c.in_ok-complete.ensures.makes.survives
-    new c.commit.result zero
-    c.commit.ensures.ended c.commit.ensures.ok c.commit.ensures.err c.commit.ensures.survives in
     let whole : IsKept new → OnOk c.commit.result (LeavesAll new) = λ kept.
     on_ok_weaker c.commit.result
     (λ books db left.
@@ -138,10 +66,32 @@ returns-clause-open_on g c =
     on_ok_weaker c.commit.result (λ did. did.1.is_open) (c.commit.ensures.ok clean) in
     search (rules, open_on)
 
+pub returns-clause-made : goal.returns-clause-made
+returns-clause-made g c =
+    let it = ended g.S.Store c.args.conn.now c.transaction-tx.result.conn.now c.complete.new.tx.conn.now
+    c.commit.new.self.0 c.commit.result c.requires.books c.transaction-tx.ensures.begun
+    c.in_ok-complete.ensures.makes c.commit.ensures.survives
+    c.commit.ensures.ended c.commit.ensures.ok c.commit.ensures.err in
+    let rows_are = made g.S.Store c.args.conn.now c.transaction-tx.result.conn.now c.complete.new.tx.conn.now
+    c.commit.new.self.0 c.commit.result c.requires.books c.transaction-tx.ensures.begun
+    c.in_ok-complete.ensures.makes c.commit.ensures.survives
+    c.requires.rooms it in
+    search (rules, rows_are)
+
+pub returns-clause-crash : goal.returns-clause-crash
+returns-clause-crash g c =
+    let zero : Survives (state g.S.Store c.args.conn.now) (state g.S.Store c.transaction-tx.result.conn.now) (λ _. ⊥) =
+    search rules in
+    let whole = crash g.S.Store c.args.conn.now c.transaction-tx.result.conn.now c.complete.new.tx.conn.now
+    c.commit.new.self.0 c.commit.result c.requires.books c.transaction-tx.ensures.begun
+    c.in_ok-complete.ensures.makes c.commit.ensures.survives
+    c.requires.rooms zero in
+    search (rules, whole)
+
 pub returns-clause-failed : goal.returns-clause-failed
 returns-clause-failed g c =
-    let failed : IfErr c.commit.result (FailsToWrite g.S.Store (completes c.args.layout c.args.rooms.now) c.args.conn.now
-    c.commit.new.self.0) =
+    let failed : IfErr c.commit.result
+    (FailsToWrite g.S.Store (completes c.args.layout c.args.rooms.now) c.args.conn.now c.commit.new.self.0) =
     not_committed g.S.Store c.args.conn.now c.transaction-tx.result.conn.now c.complete.new.tx.conn.now
     c.commit.new.self.0 tt c.commit.result c.transaction-tx.ensures.begun c.in_ok-complete.ensures.makes.runs
     c.commit.ensures.survives c.commit.ensures.err in

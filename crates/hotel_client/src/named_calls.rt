@@ -1,0 +1,272 @@
+//! Calls that somebody else's program makes by name, with ample memory: notes that are read and reported, words, commands
+//! alone, and connections over a listener of its own.
+ghost use Rattle.std.specs.Prelude.{◌≡◌, OnOk};
+ghost use Rattle.std.specs.Duration.{as_nanos};
+
+use hotel_asks::Ask;
+use hotel_audit::{AuditFault, Line, read_notes};
+use hotel_core::{Command, Refusal, Reply, reply_text, report};
+use hotel_program::{
+    DeskAct, Link, Listener, NoClock, UsageFault, ValueName, parse_words, run_one,
+    serve_connections, status_of,
+};
+use hotel_scenarios::desks::Desk;
+use hotel_scenarios::line_asks::ask_of;
+use std::alloc::Global;
+use std::io::{self, ErrorKind, Read};
+use std::test::Fail;
+use std::time::{Duration, Instant};
+
+/// The first entry of the party's card, and a line whose count is no number.
+const FILE: &[u8] = b"room,fit,count,kind,card,old,new,at\n\
+    101,1,1,in,1,0000000000a0,0000000000a1,2031-05-01T15:00:00\n\
+    101,1,x,in,1,0000000000a0,0000000000a1,2031-05-01T15:00:00\n";
+
+#[test]
+fn notes_reported(rt: HostRuntime) -> Result<(), Fail> {
+    let mut desk = Desk::of_one_guest(rt.alloc())?;
+    let lines = read_notes(rt.alloc(), FILE)?;
+    let mut told = Vec::new(rt.alloc());
+    for line in lines.as_slice() {
+        match line {
+            Line::Note(note) => {
+                told.extend_from_slice(reply_text(&report(&mut desk.books, note)).as_bytes())?;
+                told.extend_from_slice(reply_text(&report(&mut desk.books, note)).as_bytes())?;
+            }
+            Line::Unread(_) => told.extend_from_slice(b"unread\n")?,
+        }
+    }
+    assert!(rt; told.as_slice() == b"taken\nseen\nunread\n".as_slice());
+    assert!(rt; matches!(read_notes(rt.alloc(), b""), Err(AuditFault::NoHeader)));
+    assert!(rt;
+        matches!(
+            read_notes(rt.alloc(), b"room\n"),
+            Err(AuditFault::WrongHeader)
+        )
+    );
+    Ok(())
+}
+
+/// The words of a command line.
+fn words_of(alloc: Global, line: &str) -> Result<Vec<String>, Fail> {
+    let mut words = Vec::new(alloc);
+    for word in line.split(' ') {
+        words.push(String::from_str(alloc, word)?)?;
+    }
+    Ok(words)
+}
+
+/// The fault of a command line, if there is one.
+fn fault_of(alloc: Global, line: &str) -> Result<Option<UsageFault>, Fail> {
+    Ok(parse_words(alloc, words_of(alloc, line)?.as_slice()).err())
+}
+
+#[test]
+fn words_parsed(rt: HostRuntime) -> Result<(), Fail> {
+    let alloc = rt.alloc();
+    let words = words_of(alloc, "--db desk.db check-in 1 101")?;
+    let Ok(plan) = parse_words(alloc, words.as_slice()) else {
+        return Err(Fail::from("no plan"));
+    };
+    assert!(rt; plan.db.is_some() && plan.seed_file.is_none());
+    assert!(rt; matches!(plan.act, DeskAct::One(Command::CheckIn { .. })));
+    assert!(rt;
+        matches!(
+            fault_of(alloc, "check-in x 101")?,
+            Some(UsageFault::Value(ValueName::Party))
+        )
+    );
+    assert!(rt;
+        matches!(
+            fault_of(alloc, "check-in --help")?,
+            Some(UsageFault::Shown(_))
+        )
+    );
+    assert!(rt;
+        matches!(
+            fault_of(alloc, "check-in 1 101 102")?,
+            Some(UsageFault::Usage(_))
+        )
+    );
+    Ok(())
+}
+
+/// The line's command alone is answered so, with this status, and no fault is told.
+fn is_answered(
+    alloc: Global,
+    desk: &mut Desk,
+    line: &[u8],
+    answer: &[u8],
+    status: u8,
+) -> Result<bool, Fail> {
+    let Ask::Command(command) = ask_of(alloc, line)? else {
+        return Ok(false);
+    };
+    let mut writer = Vec::new(alloc);
+    let mut faults: Vec<u8> = Vec::new(alloc);
+    let got = run_one(
+        &command,
+        &mut desk.books,
+        &mut desk.source,
+        &mut writer,
+        &mut faults,
+    );
+    Ok(got == status && writer.as_slice() == answer && faults.is_empty())
+}
+
+#[test]
+fn commands_alone(rt: HostRuntime) -> Result<(), Fail> {
+    let mut desk = Desk::of_one_guest(rt.alloc())?;
+    let spare = b"card 2 party 1 old 0000000000a0 new 0000000000a1\n";
+    assert!(rt; is_answered(rt.alloc(), &mut desk, b"spare 1", spare, 0)?);
+    assert!(rt;
+        is_answered(
+            rt.alloc(),
+            &mut desk,
+            b"add-kind DBL",
+            b"refused 3 KindExists\n",
+            3
+        )?
+    );
+    assert!(rt; status_of(&Reply::Refused(Refusal::Store)) == 4);
+    Ok(())
+}
+
+/// The bytes that a peer sends.
+#[derive(Drop)]
+struct Peer {
+    sends: &'static [u8],
+}
+
+/// How many of them were read.
+#[derive(Drop)]
+struct ReadSoFar {
+    count: usize,
+}
+
+/// A limit that is some time is set.
+fn set(limit: Duration) -> io::Result<()>
+    ensures { as_nanos limit ≡ 0 → OnOk result ⊥ }
+{
+    if limit.is_zero() {
+        return Err(io::Error::from(ErrorKind::InvalidInput));
+    }
+    Ok(())
+}
+
+impl Link<Peer> for ReadSoFar {
+    ghost clock_read = { λ _ _ _. Unit {0} };
+
+    ghost reads_limited = { λ _ _ _ _ _. Unit {0} };
+
+    ghost writes_limited = { λ _ _ _ _ _. Unit {0} };
+
+    ghost was_read = { λ _ _ _ _ _. Unit {0} };
+
+    ghost was_written = { λ _ _ _ _ _. Unit {0} };
+
+    ghost writes_shut = { λ _ _ _ _. Unit {0} };
+
+    fn now(&mut self) -> io::Result<Instant> {
+        Instant::now(&NoClock)
+    }
+
+    fn limit_reads(&mut self, _stream: &Peer, limit: Duration) -> io::Result<()> {
+        set(limit)
+    }
+
+    fn limit_writes(&mut self, _stream: &Peer, limit: Duration) -> io::Result<()> {
+        set(limit)
+    }
+
+    fn read_some(&mut self, stream: &Peer, room: &mut [u8]) -> io::Result<usize> {
+        let Some(rest) = stream.sends.get(self.count..) else {
+            return Ok(0);
+        };
+        let mut rest = rest;
+        let got = rest.read(room)?;
+        self.count = self.count.saturating_add(got);
+        Ok(got)
+    }
+
+    fn write_some(&mut self, _stream: &Peer, bytes: &[u8]) -> io::Result<usize> {
+        Ok(bytes.len())
+    }
+
+    fn shut_writes(&mut self, _stream: &Peer) -> io::Result<()> {
+        Ok(())
+    }
+}
+
+/// Peers that come one after the other; where one is missing, none can be taken.
+#[derive(Drop)]
+struct Peers {
+    peers: &'static [Option<&'static [u8]>],
+    count: usize,
+}
+
+impl Listener for Peers {
+    type Stream = Peer;
+
+    type Link = ReadSoFar;
+
+    ghost taken = { λ _ _ _. Unit {0} };
+
+    ghost waited = { λ _ _ _. Unit {0} };
+
+    fn accept(&mut self) -> io::Result<Peer> {
+        let next = self.peers.get(self.count);
+        self.count = self.count.saturating_add(1);
+        match next {
+            Some(Some(sends)) => Ok(Peer { sends }),
+            _ => Err(io::Error::from(ErrorKind::Other)),
+        }
+    }
+
+    fn wait(&mut self, _time: Duration) {}
+
+    fn link(&self) -> ReadSoFar {
+        ReadSoFar { count: 0 }
+    }
+}
+
+/// A check-out, none that can be taken, one that sends nothing, one that isn't there with a body, and a check-in.
+static PEERS: [Option<&[u8]>; 5] = [
+    Some(b"POST /reservations/1/check-out HTTP/1.1\r\nHost: localhost\r\n\r\n"),
+    None,
+    Some(b""),
+    Some(b"POST /nowhere HTTP/1.1\r\nHost: localhost\r\nContent-Length: 4\r\n\r\nroom"),
+    Some(b"POST /kinds HTTP/1.1\r\nHost: localhost\r\nContent-Length: 8\r\n\r\nkind=SGL"),
+];
+
+#[test]
+fn connections_served(rt: HostRuntime) -> Result<(), Fail> {
+    let mut desk = Desk::of_one_guest(rt.alloc())?;
+    let mut faults = Vec::new(rt.alloc());
+    let peers = Peers {
+        peers: &PEERS,
+        count: 0,
+    };
+    let status = serve_connections(
+        rt.alloc(),
+        peers,
+        5,
+        &mut desk.books,
+        &mut desk.source,
+        &mut faults,
+    );
+    assert!(rt; status == 0);
+    assert!(rt; faults.as_slice() == b"closed\nclosed\n".as_slice());
+    let gone = b"refused 9 NotInHouse\n";
+    assert!(rt; is_answered(rt.alloc(), &mut desk, b"check-out 1", gone, 3)?);
+    assert!(rt;
+        is_answered(
+            rt.alloc(),
+            &mut desk,
+            b"add-kind SGL",
+            b"refused 3 KindExists\n",
+            3
+        )?
+    );
+    Ok(())
+}
