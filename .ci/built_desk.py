@@ -8,22 +8,50 @@ import pathlib
 import shutil
 import socket
 import sqlite3
+import struct
 import subprocess
 import sys
 import tempfile
 
 HERE = pathlib.Path(__file__).resolve().parent
+DESK = HERE.parent / "crates" / "hotel_desk" / "out" / "hotel_desk"
 sys.dont_write_bytecode = True
-sys.path.insert(0, str(HERE.parent / "bench"))
-from http_routes import DESK, serve  # noqa: E402
-import scripts  # noqa: E402
+
+
+def block(counter):
+    """One block of ChaCha20's keystream for a key of zeros and a nonce of zeros (RFC 8439, 2.3)."""
+    def rotated(x, n):
+        return ((x << n) | (x >> (32 - n))) & 0xFFFFFFFF
+
+    start = list(struct.unpack("<4I", b"expand 32-byte k")) + [0] * 8 + [counter, 0, 0, 0]
+    s = list(start)
+    columns = [[column + 4 * row for row in range(4)] for column in range(4)]
+    diagonals = [[0, 5, 10, 15], [1, 6, 11, 12], [2, 7, 8, 13], [3, 4, 9, 14]]
+    for a, b, c, d in (columns + diagonals) * 10:
+        for x, y, z, n in ((a, b, d, 16), (c, d, b, 12), (a, b, d, 8), (c, d, b, 7)):
+            s[x] = (s[x] + s[y]) & 0xFFFFFFFF
+            s[z] = rotated(s[z] ^ s[x], n)
+    return struct.pack("<16I", *((x + y) & 0xFFFFFFFF for x, y in zip(s, start)))
+
+
+def codes():
+    """The codes that a seed of zeros gives: each word of the source is eight bytes, least first, and its upper 48 bits
+    are the code."""
+    for counter in itertools.count():
+        for word in struct.unpack("<8Q", block(counter)):
+            yield word >> 16
+
+
+def first_codes(count):
+    """So many of these, as texts."""
+    return [f"{code:012x}" for code in itertools.islice(codes(), count)]
+
 
 # Where the folders of tests are made: in memory where the machine has such a folder, since nothing waits there for a
 # sync.
 ROOM = "/dev/shm" if os.access("/dev/shm", os.W_OK) else None
 
-# The codes that a seed of zeros gives.
-CODES = [f"{code:012x}" for code in itertools.islice(scripts.codes(), 640)]
+CODES = first_codes(640)
 FIRST, SECOND = CODES[:2]
 CARD = f"card 1 party 1 old {FIRST} new {SECOND}\n".encode()
 # The header of audit files, and that of the first version, under which each note is of its room's first lock.
@@ -32,6 +60,7 @@ FIRST_HEADER = b"room,count,kind,card,old,new,at\n"
 OPENING = b"begin 2031-05-01\nadd-kind DBL\nadd-room 101 DBL\nreserve DBL 2031-05-01 2 Ann Lee\n"
 OPENED = f"begun\nkind added\nroom code {FIRST}\nparty 1\n".encode()
 CHECKED_IN = OPENING + b"check-in 1 101\n"
+MOMENT = "2031-05-01T15:00:00"
 LISTS = b"in-house\nchain 101\naudit-of 101\n"
 # Desks of the first version of the tables, which an earlier program made: NAME.db, and what its lists answered over it,
 # NAME.lists.txt, in which `$` and the words of a call stand before each text.
@@ -75,6 +104,15 @@ def text_of(lines):
     return "".join(f"{line}\n" for line in lines if line).encode()
 
 
+# Rooms and a guest whose bookings are a list of some 12 KB: its header is one write, and its rows are two. The guest as
+# a field of its rows.
+ROOMS = range(1, 121)
+GUEST = 'Lee, Ann "Annie" of the house, at the end of the long "road"'
+FIELD = '"' + GUEST.replace('"', '""') + '"'
+LONG_SCRIPT = text_of(["begin 2031-05-01", "add-kind DBL", *(f"add-room {room} DBL" for room in ROOMS),
+                       *[f"reserve DBL 2031-05-01 2 {GUEST}"] * len(ROOMS)])
+LONG_LIST = text_of(["party,guest,kind,arrive,depart",
+                     *(f"{party},{FIELD},DBL,2031-05-01,2031-05-03" for party in ROOMS)])
 DONE = answer("200 OK", CARD)
 CHECK_IN = b"POST /reservations/1/check-in HTTP/1.1\r\nHost: localhost\r\nContent-Length: 8\r\n\r\nroom=101"
 
@@ -151,6 +189,20 @@ class Desk:
         self.edited("UPDATE code SET place = place + 97; UPDATE room SET codes = 99, lock_place = 98; DELETE FROM fit;"
                     + earlier + "INSERT INTO fit VALUES (101, 98, 97, 0)")
 
+    def found(self, *queries):
+        """What another program finds in the database by each of these queries."""
+        with sqlite3.connect(self.db) as db:
+            found = [db.execute(query).fetchall() for query in queries]
+        db.close()
+        return found
+
+    def refuses(self, name, fault):
+        """The database is refused with this fault, by a list and by a command, and stays as it is, byte for byte."""
+        before, rows = self.db.read_bytes(), self.rows()
+        for words in (["in-house"], ["refit", "101"]):
+            yield (name, words), (5, b"", f"{fault}\n".encode()), self.stored(b"", *words)
+            yield (name, words), (True, rows), (self.db.read_bytes() == before, self.rows())
+
     def rows(self):
         """The tables of the database and their rows, as another program finds them in its file and its log."""
         for file in self.folder.glob("read.db*"):
@@ -196,6 +248,23 @@ class Desk:
                              env=self.environment(calls))
         said = [exchange(port, asked, piece) for asked in requests]
         return said, server.wait(60), server.stderr.read()
+
+
+def free_port():
+    """A port that nothing has."""
+    with socket.socket() as probe:
+        probe.bind(("127.0.0.1", 0))
+        return probe.getsockname()[1]
+
+
+def serve(program, count, *words, env=None):
+    """A server for so many connections, and the port that it says it listens on."""
+    port = free_port()
+    server = subprocess.Popen([program, *words, "serve", str(port), str(count)], stdout=subprocess.PIPE,
+                              stderr=subprocess.PIPE, env=env)
+    line = server.stdout.readline().decode()
+    assert line == f"listening on 127.0.0.1:{port}\n", f"{line!r} {server.stderr.read()!r}"
+    return server, port
 
 
 def exchange(port, asked, piece):

@@ -15,9 +15,7 @@ import sys
 import tempfile
 
 import scripts
-
-HERE = pathlib.Path(__file__).resolve().parent
-DESK = HERE.parent / "crates" / "hotel_desk" / "out" / "hotel_desk"
+from http_routes import DESK, HERE
 
 
 def run(program, script, answers):

@@ -18,8 +18,8 @@ import subprocess
 import sys
 import tempfile
 
-from http_routes import serve
-from stored_desk import DESK, answered, faults_of
+from http_routes import DESK, serve
+from stored_desk import answered, faults_of
 
 CHECKED_IN = ["begin 2031-05-01", "add-kind DBL", "add-room 101 DBL", "reserve DBL 2031-05-01 2 Ann Lee",
               "check-in 1 101"]

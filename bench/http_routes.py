@@ -9,14 +9,15 @@ and at last 'N answers as wanted'; status 1 where something differs.
 import http.client
 import pathlib
 import re
-import socket
 import subprocess
 import sys
 import tempfile
 import urllib.parse
 
 HERE = pathlib.Path(__file__).resolve().parent
-DESK = HERE.parent / "crates" / "hotel_desk" / "out" / "hotel_desk"
+sys.path.insert(0, str(HERE.parent / ".ci"))
+from built_desk import DESK, serve  # noqa: E402
+
 CODE = "[0-9a-f]{12}"
 # The header of audit files, and that of the first version, under which each note is of its room's first lock.
 HEADER = "room,fit,count,kind,card,old,new,at"
@@ -96,18 +97,6 @@ def by_http_client(port, method, path, body, _):
     client.request(method, path, body)
     answer = client.getresponse()
     return answer.status, answer.getheader("Content-Type"), answer.read().decode()
-
-
-def serve(program, count, *words, env=None):
-    """A server for so many connections, and the port that it says it listens on."""
-    with socket.socket() as probe:
-        probe.bind(("127.0.0.1", 0))
-        port = probe.getsockname()[1]
-    server = subprocess.Popen([program, *words, "serve", str(port), str(count)], stdout=subprocess.PIPE,
-                              stderr=subprocess.PIPE, env=env)
-    line = server.stdout.readline().decode()
-    assert line == f"listening on 127.0.0.1:{port}\n", f"{line!r} {server.stderr.read()!r}"
-    return server, port
 
 
 def drive(program, client, folder):

@@ -22,8 +22,8 @@ import time
 import urllib.parse
 
 import scripts
-from http_routes import HEADER, serve
-from stored_desk import DESK, answered, faults_of, lists_of
+from http_routes import DESK, HEADER, serve
+from stored_desk import answered, faults_of, lists_of
 
 LINES = 600
 KINDS = {"entered": "in", "left": "out"}

@@ -30,7 +30,6 @@ from http_routes import DESK, serve
 
 TOP = pathlib.Path(__file__).resolve().parent.parent
 ROUTES = TOP / "crates" / "hotel_http" / "specs" / "Routes.antt"
-FORM = "application/x-www-form-urlencoded"
 METHODS = ["GET", "POST", "HEAD", "PUT", "DELETE", "OPTIONS", "BEGIN"]
 UNTRIED = "503"
 BEGUN = b"HTTP/1.1\r\nHost: desk\r\n"

@@ -8,40 +8,12 @@ Cards carry the codes that the desk draws from a seed of 32 zero bytes, so that 
 import datetime
 import itertools
 import pathlib
-import struct
 import sys
 
-MASK = 0xFFFFFFFF
+sys.path.insert(0, str(pathlib.Path(__file__).resolve().parent.parent / ".ci"))
+from built_desk import codes  # noqa: E402
+
 FIRST = "2031-05-01"
-
-
-def rotated(x, n):
-    return ((x << n) | (x >> (32 - n))) & MASK
-
-
-def quarter_round(s, a, b, c, d):
-    for x, y, z, n in ((a, b, d, 16), (c, d, b, 12), (a, b, d, 8), (c, d, b, 7)):
-        s[x] = (s[x] + s[y]) & MASK
-        s[z] = rotated(s[z] ^ s[x], n)
-
-
-def block(counter):
-    """One block of ChaCha20's keystream for a key of zeros and a nonce of zeros (RFC 8439, 2.3)."""
-    start = list(struct.unpack("<4I", b"expand 32-byte k")) + [0] * 8 + [counter, 0, 0, 0]
-    s = list(start)
-    for _ in range(10):
-        for column in range(4):
-            quarter_round(s, column, 4 + column, 8 + column, 12 + column)
-        for a, b, c, d in ((0, 5, 10, 15), (1, 6, 11, 12), (2, 7, 8, 13), (3, 4, 9, 14)):
-            quarter_round(s, a, b, c, d)
-    return struct.pack("<16I", *((x + y) & MASK for x, y in zip(s, start)))
-
-
-def codes():
-    """The codes of the source's words: each word is eight bytes, least first, and its upper 48 bits are the code."""
-    for counter in itertools.count():
-        for word in struct.unpack("<8Q", block(counter)):
-            yield word >> 16
 
 
 def day(number):

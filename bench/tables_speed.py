@@ -37,7 +37,7 @@ import time
 import typing
 
 import scripts
-from stored_desk import DESK, HERE
+from http_routes import DESK, HERE
 
 DAY = 11443  # 2031-05-01, counted from 2000-01-01
 ROOMS, GUESTS, ROUNDS = 300, 150, 12  # each guest of a round checks into one room, and moves to another

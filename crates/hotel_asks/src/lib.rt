@@ -1,5 +1,8 @@
 //! What a verb and the texts of its values ask of the desk, however they came: as a line, as words or as a form. A list
-//! that is asked for is written here.
+//! that is asked for is written here. `read_ask` answers a command or a list, the first value that is refused, or that
+//! it is out of memory.
+//!
+//! - specs: Values, Names, Verbs, Asks: what a verb and the texts of its values ask for. Listings: what a list shows.
 #![tactic(auto)]
 
 mod asks;

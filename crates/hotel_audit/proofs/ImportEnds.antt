@@ -11,8 +11,8 @@ use Rattle.hotel_audit.specs.{declared.answer.LineAnswer.LineAnswer, declared.au
 use Rattle.hotel_audit.specs.{declared.line.Line.Line}
 use Rattle.hotel_audit.specs.declared.audit_file.AuditFault.TheVariants as fault
 use Rattle.hotel_audit.specs.declared.imports.ImportFault.TheVariants.{File}
-use Rattle.hotel_audit.specs.Import.{AreAnswered, EndsAfter, Imports, IsFrontOf, LeavesBehind, LineGoes, LineHappens}
-use Rattle.hotel_audit.specs.Import.{NextFails, has_taken, stopped}
+use Rattle.hotel_audit.specs.Import.{AreAnswered, EndsAfter, Imports, IsFrontOf, ImportLeaves, ImportsLine}
+use Rattle.hotel_audit.specs.Import.{LineImported, NextFails, has_taken, stopped}
 
 -- an import that was stopped ended after a front of the file's lines
 ends_stopped : (by : LookFault) (file : Result (List Line) AuditFault) (lines : List Line)
@@ -24,7 +24,7 @@ ends_stopped look.Store file lines answers answered taken front = front
 -- it left what the line left that failed
 leaves_stopped : {B : Type 0} (K : KeptOf B) (rows : B → Rows) (by : LookFault) (file : Result (List Line) AuditFault)
     (lines : List Line) (old new : B) (answered : ℕ) (taken : Bool)
-    → NextFails K rows file lines old by new → LeavesBehind K rows file lines old (Err (stopped by answered taken)) new
+    → NextFails K rows file lines old by new → ImportLeaves K rows file lines old (Err (stopped by answered taken)) new
 leaves_stopped K rows look.Memory file lines old new answered taken fails = fails
 leaves_stopped K rows look.Store file lines old new answered taken fails = fails
 
@@ -37,8 +37,8 @@ around lines i next more = sym (take-append-drop (i + 1) lines) ∙ ap (λ front
 -- a line failed behind the state mid: those before it were answered
 pub answered_before : {B : Type 0} (K : KeptOf B) (rows : B → Rows) (old mid new : B) (lines : List Line) (i : ℕ)
     (answers : List LineAnswer) (by : LookFault) → AreAnswered (take i lines) answers
-    → Passes (LineHappens K rows) old (zip (take i lines) answers) mid
-    → (next : Line) → take (i + 1) lines ≡ take i lines ++ next ∷ [] → LineGoes K rows mid next (Err by) new
+    → Passes (LineImported K rows) old (zip (take i lines) answers) mid
+    → (next : Line) → take (i + 1) lines ≡ take i lines ++ next ∷ [] → ImportsLine K rows mid next (Err by) new
     → Imports K rows (Ok lines) old new (Err (stopped by (length answers) (has_taken answers)))
 answered_before K rows old mid new lines i answers by each through next more goes = record {
   lines = take i lines;

@@ -18,9 +18,9 @@ use Rattle.hotel_audit.specs.{declared.answer.LineAnswer.LineAnswer, declared.au
 use Rattle.hotel_audit.specs.{declared.imports.ImportFault.ImportFault, declared.line.Line.Line}
 use Rattle.hotel_audit.specs.declared.line.Line.TheVariants as line
 use Rattle.hotel_audit.specs.declared.imports.ImportFault.TheVariants.{File, Memory, Store}
-use Rattle.hotel_audit.specs.Import.{AreAnswered, ImportsLead, LeavesBehind}
-use Rattle.hotel_audit.specs.Import.{LineHappens, NextFails, answer_of, behind_reply, commands_of, failures_of, replies_in}
-use Rattle.hotel_audit.specs.Import.{told_by_import}
+use Rattle.hotel_audit.specs.Import.{AreAnswered, ImportsLead, ImportLeaves}
+use Rattle.hotel_audit.specs.Import.{LineImported, NextFails, answer_of, behind_reply, commands_of, failures_of}
+use Rattle.hotel_audit.specs.Import.{replies_in, told_by_import}
 use Rattle.hotel_audit.proofs.NoteReplies.{answered_is, answered_sure, failed_reply, failure_told}
 use Rattle.hotel_audit.proofs.ShutImports.{no_words, since_lines}
 
@@ -40,7 +40,7 @@ never e = cc
 module _ {B : Type 0} (K : KeptOf B) (rows : B → Rows) where
   -- no call of the answered lines told a failure
   calls_of : (old new : B) (lines : List Line) (answers : List LineAnswer) → AreAnswered lines answers
-      → Passes (LineHappens K rows) old (zip lines answers) new
+      → Passes (LineImported K rows) old (zip lines answers) new
       → Passes (Leaves K) old (map (λ command. None) (commands_of lines)) new
   calls_of old new [] [] each p = p
   calls_of old new [] (a ∷ answers) each p = absurd each
@@ -58,7 +58,7 @@ module _ {B : Type 0} (K : KeptOf B) (rows : B → Rows) where
 
   -- they ran
   runs_of : (source : Stream) (old new : B) (lines : List Line) (answers : List LineAnswer) → AreAnswered lines answers
-      → Passes (LineHappens K rows) old (zip lines answers) new
+      → Passes (LineImported K rows) old (zip lines answers) new
       → Happens K rows old (λ h h'. Runs h source (commands_of lines) (replies_in answers) h' source) new
   runs_of source old new [] [] each p =
       subst (λ b. Happens K rows old (λ h h'. Runs h source [] [] h' source) b) (sym p)
@@ -117,7 +117,7 @@ module _ {B : Type 0} (K : KeptOf B) (rows : B → Rows) where
 
   calls_behind : (file : Result (List Line) AuditFault) (lines : List Line) (behind new : B)
       (outcome : Result (List LineAnswer) ImportFault)
-      → LeavesBehind K rows file lines behind outcome new → Passes (Leaves K) behind (failures_of outcome) new
+      → ImportLeaves K rows file lines behind outcome new → Passes (Leaves K) behind (failures_of outcome) new
   calls_behind file lines behind new (Ok given) leaves = leaves
   calls_behind file lines behind new (Err (File why)) leaves = leaves
   calls_behind file lines behind new (Err (Memory answered taken)) leaves =
@@ -131,7 +131,7 @@ module _ {B : Type 0} (K : KeptOf B) (rows : B → Rows) where
 
   idle_behind : (file : Result (List Line) AuditFault) (lines : List Line) (behind new : B)
       (outcome : Result (List LineAnswer) ImportFault)
-      → LeavesBehind K rows file lines behind outcome new → Happens K rows behind (λ h h'. h' ≡ h) new
+      → ImportLeaves K rows file lines behind outcome new → Happens K rows behind (λ h h'. h' ≡ h) new
   idle_behind file lines behind new (Ok given) leaves = same_idle behind new leaves
   idle_behind file lines behind new (Err (File why)) leaves = same_idle behind new leaves
   idle_behind file lines behind new (Err (Memory answered taken)) leaves =

@@ -7,7 +7,7 @@ use Rattle.keycard_rules.specs.{Since.Since, declared.kept.Kept.Ghosts as KeptOf
 use Rattle.keycard_rules.proofs.Sinces.{since_refl, since_then}
 use Rattle.hotel_audit.specs.{declared.answer.LineAnswer.LineAnswer, declared.line.Line.Line}
 use Rattle.hotel_audit.specs.declared.line.Line.TheVariants as line
-use Rattle.hotel_audit.specs.{Import.LineGoes, Import.LineHappens, Shut.ImportsNothing, Shut.IsUnread}
+use Rattle.hotel_audit.specs.{Import.ImportsLine, Import.LineImported, Shut.ImportsNothing, Shut.IsUnread}
 use Rattle.hotel_audit.proofs.NoteReplies.{answered_sure}
 
 -- a source, of which an import takes nothing
@@ -15,18 +15,18 @@ pub no_words : Stream
 no_words = record { u32_after = λ calls. 0; u64_after = λ calls. 0; bytes_after = λ calls n. [] }
 
 module _ {B : Type 0} (K : KeptOf B) (rows : B → Rows) where
-  since_line : (old new : B) (l : Line) (a : LineAnswer) → LineGoes K rows old l (Ok a) new → Since K old new
+  since_line : (old new : B) (l : Line) (a : LineAnswer) → ImportsLine K rows old l (Ok a) new → Since K old new
   since_line old new (line.Unread cause) a went = subst (λ b. Since K old b) (sym went.1) since_refl
   since_line old new (line.Note note) a went = let s = went.3 no_words in s.leaves.since
 
   pub since_lines : (old new : B) (asked : List (Line × LineAnswer))
-      → Passes (LineHappens K rows) old asked new → Since K old new
+      → Passes (LineImported K rows) old asked new → Since K old new
   since_lines old new [] p = subst (λ b. Since K old b) (sym p) since_refl
   since_lines old new ((l, a) ∷ asked) p =
       since_then (since_line old p.0 l a p.1) (since_lines p.0 new asked p.2)
 
   unread_by : (old new : B) (l : Line) (a : LineAnswer)
-      → LineGoes K rows old l (Ok a) new → BeganShut K old new → IsUnread l
+      → ImportsLine K rows old l (Ok a) new → BeganShut K old new → IsUnread l
   unread_by old new (line.Unread cause) a went shut = tt
   unread_by old new (line.Note note) a went shut =
       let s = went.3 no_words in

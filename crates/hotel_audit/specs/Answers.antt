@@ -22,13 +22,13 @@ cause_name BadNew = codes "BadNew"
 cause_name BadMoment = codes "BadMoment"
 
 -- what is said of a line: the text of the reply to its note, or why it is none
-abbrev pub said_of : Result Reply Cause → List ℕ
-said_of (Ok given) = reply_text given
-said_of (Err cause) = codes "unread " ++ cause_name cause ++ (10 ∷ [])
+abbrev pub line_text : Result Reply Cause → List ℕ
+line_text (Ok given) = reply_text given
+line_text (Err cause) = codes "unread " ++ cause_name cause ++ (10 ∷ [])
 
 -- the text of an answer: the line's number, a space and what is said of it
 abbrev pub answer_text : ℕ → LineAnswer → List ℕ
-answer_text number answer = decimal number ++ codes " " ++ said_of (reply_or_cause answer)
+answer_text number answer = decimal number ++ codes " " ++ line_text (reply_or_cause answer)
 
 -- the texts of answers to the lines from a number on
 abbrev pub answers_text : ℕ → List LineAnswer → List ℕ

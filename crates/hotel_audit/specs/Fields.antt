@@ -15,8 +15,8 @@ pub record FieldTexts : Type 0 where
   pub moment : List ℕ
 
 -- the texts that fields borrow
-abbrev pub texts_of : Fields → FieldTexts
-texts_of f = record {
+abbrev pub field_texts : Fields → FieldTexts
+field_texts f = record {
   room = f.room.now;
   fit = f.fit.now;
   count = f.count.now;

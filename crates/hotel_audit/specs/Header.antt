@@ -5,10 +5,10 @@ use Rattle.hotel_audit.specs.{declared.header.Columns.Columns, declared.header.C
 use Rattle.hotel_audit.specs.{declared.header.Columns.TheVariants.WithoutFit}
 
 -- the names of the columns that the lines have: one of them is the number of the room's lock, or none is
-abbrev pub names_of : Columns → List (List ℕ)
-names_of WithFit = codes "room" ∷ codes "fit" ∷ codes "count" ∷ codes "kind" ∷ codes "card" ∷ codes "old" ∷ codes "new"
-    ∷ codes "at" ∷ []
-names_of WithoutFit =
+abbrev pub column_names : Columns → List (List ℕ)
+column_names WithFit = codes "room" ∷ codes "fit" ∷ codes "count" ∷ codes "kind" ∷ codes "card" ∷ codes "old"
+    ∷ codes "new" ∷ codes "at" ∷ []
+column_names WithoutFit =
     codes "room" ∷ codes "count" ∷ codes "kind" ∷ codes "card" ∷ codes "old" ∷ codes "new" ∷ codes "at" ∷ []
 
 -- as many texts, and each is the other's
@@ -21,5 +21,5 @@ are_same_texts (a ∷ texts) (b ∷ more) = bytes_eq a b && are_same_texts texts
 -- a header is the names of the columns and nothing else
 abbrev pub columns_of : List (List ℕ) → Option Columns
 columns_of fields =
-    if are_same_texts fields (names_of WithFit) then Some WithFit
-    else (if are_same_texts fields (names_of WithoutFit) then Some WithoutFit else None)
+    if are_same_texts fields (column_names WithFit) then Some WithFit
+    else (if are_same_texts fields (column_names WithoutFit) then Some WithoutFit else None)

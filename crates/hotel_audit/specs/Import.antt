@@ -107,29 +107,29 @@ answer_of _ = Err look.Store
 
 -- A line was carried out, and this came of it: by the reply to its note, which was reported; an unread line asked
 -- nothing of the books.
-abbrev pub LineGoes : {B : Type 0} → KeptOf B → (B → Rows) → B → Line → Result LineAnswer LookFault → B → Type 0
-LineGoes K rows old (line.Unread cause) came new = (came ≡ Ok (Unread cause)) × (new ≡ old)
-LineGoes K rows old (line.Note note) came new = (given : Reply) × (came ≡ answer_of given)
+abbrev pub ImportsLine : {B : Type 0} → KeptOf B → (B → Rows) → B → Line → Result LineAnswer LookFault → B → Type 0
+ImportsLine K rows old (line.Unread cause) came new = (came ≡ Ok (Unread cause)) × (new ≡ old)
+ImportsLine K rows old (line.Note note) came new = (given : Reply) × (came ≡ answer_of given)
     × (K.is_honest new → IsNoteReply given) × Noted K rows note old new given
 
 -- A line was carried out with this answer.
-abbrev pub LineHappens : {B : Type 0} → KeptOf B → (B → Rows) → B → Line × LineAnswer → B → Type 0
-LineHappens K rows old asked new = LineGoes K rows old asked.0 (Ok asked.1) new
+abbrev pub LineImported : {B : Type 0} → KeptOf B → (B → Rows) → B → Line × LineAnswer → B → Type 0
+LineImported K rows old asked new = ImportsLine K rows old asked.0 (Ok asked.1) new
 
 -- Behind these lines of the file there is one more, which failed for this cause.
 abbrev pub NextFails : {B : Type 0} → KeptOf B → (B → Rows) → Result (List Line) AuditFault → List Line
     → B → LookFault → B → Type 0
 NextFails K rows file lines old why new =
-    (next : Line) × (rest : List Line) × (file ≡ Ok (lines ++ next ∷ rest)) × LineGoes K rows old next (Err why) new
+    (next : Line) × (rest : List Line) × (file ≡ Ok (lines ++ next ∷ rest)) × ImportsLine K rows old next (Err why) new
 
 -- What became of books that were so behind these lines of the file, where the import ended so: it left them, or the
 -- next line failed.
-abbrev pub LeavesBehind : {B : Type 0} → KeptOf B → (B → Rows) → Result (List Line) AuditFault → List Line
+abbrev pub ImportLeaves : {B : Type 0} → KeptOf B → (B → Rows) → Result (List Line) AuditFault → List Line
     → B → Result (List LineAnswer) ImportFault → B → Type 0
-LeavesBehind K rows file lines old (Ok given) new = new ≡ old
-LeavesBehind K rows file lines old (Err (File why)) new = new ≡ old
-LeavesBehind K rows file lines old (Err (Memory answered taken)) new = NextFails K rows file lines old look.Memory new
-LeavesBehind K rows file lines old (Err (Store answered taken)) new = NextFails K rows file lines old look.Store new
+ImportLeaves K rows file lines old (Ok given) new = new ≡ old
+ImportLeaves K rows file lines old (Err (File why)) new = new ≡ old
+ImportLeaves K rows file lines old (Err (Memory answered taken)) new = NextFails K rows file lines old look.Memory new
+ImportLeaves K rows file lines old (Err (Store answered taken)) new = NextFails K rows file lines old look.Store new
 
 -- An import of a file into books from old to new ended so: some of its lines have these answers, by which the books
 -- went, from line to line.
@@ -140,8 +140,8 @@ pub record Imports {B : Type 0} (K : KeptOf B) (rows : B → Rows) (file : Resul
   pub each : AreAnswered lines answers
   pub ends : EndsAfter file outcome lines answers
   pub behind : B
-  pub through : Passes (LineHappens K rows) old (zip lines answers) behind
-  pub leaves : LeavesBehind K rows file lines behind outcome new
+  pub through : Passes (LineImported K rows) old (zip lines answers) behind
+  pub leaves : ImportLeaves K rows file lines behind outcome new
 
 -- the failure that stopped an import. That there was no memory to read the file or for its answers is none of the
 -- books', and isn't counted.

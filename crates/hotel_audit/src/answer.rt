@@ -7,7 +7,7 @@ use crate::line::Cause;
 use hotel_core::{Refusal, Reply};
 
 /// The answer to one line of an audit file.
-#[derive(Clone, Copy, Debug)]
+#[derive(Clone, Copy, Debug, PartialEq, Eq)]
 pub enum LineAnswer {
     /// The line's note was taken.
     Taken,

@@ -2,7 +2,7 @@
 
 ghost use Rattle.std.specs.Prelude.{◌≡◌, option_map};
 ghost use Rattle.csv.specs.Records.{fields_of};
-ghost use Rattle.hotel_audit.specs.Fields.{eight_fields, fields_under, seven_fields, texts_of};
+ghost use Rattle.hotel_audit.specs.Fields.{eight_fields, fields_under, seven_fields, field_texts};
 
 use crate::header::Columns;
 use csv::ByteRecord;
@@ -22,7 +22,7 @@ pub(crate) struct Fields<'a> {
 
 /// The fields of a record; None where they aren't eight.
 pub(crate) fn eight_fields(row: &ByteRecord) -> Option<Fields<'_>>
-    ensures { option_map texts_of result ≡ eight_fields (fields_of row.now) }
+    ensures { option_map field_texts result ≡ eight_fields (fields_of row.now) }
 {
     if row.len() != 8 {
         return None;
@@ -41,7 +41,7 @@ pub(crate) fn eight_fields(row: &ByteRecord) -> Option<Fields<'_>>
 
 /// The fields of a record, of the room's first lock; None where they aren't seven.
 pub(crate) fn seven_fields(row: &ByteRecord) -> Option<Fields<'_>>
-    ensures { option_map texts_of result ≡ seven_fields (fields_of row.now) }
+    ensures { option_map field_texts result ≡ seven_fields (fields_of row.now) }
 {
     if row.len() != 7 {
         return None;
@@ -60,7 +60,7 @@ pub(crate) fn seven_fields(row: &ByteRecord) -> Option<Fields<'_>>
 
 /// The fields of a record; None where they aren't as many as the columns.
 pub(crate) fn fields_of_record(row: &ByteRecord, columns: Columns) -> Option<Fields<'_>>
-    ensures { option_map texts_of result ≡ fields_under columns (fields_of row.now) }
+    ensures { option_map field_texts result ≡ fields_under columns (fields_of row.now) }
 {
     match columns {
         Columns::WithFit => eight_fields(row),

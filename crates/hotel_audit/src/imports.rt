@@ -2,7 +2,7 @@
 ghost use Rattle.std.specs.Prelude.{◌≡◌, ◌<◌, length, IfOk, Ok, Err};
 ghost use Rattle.hotel_audit.specs.{declared.audit_file.AuditFault.AuditFault, AuditFile.audit_lines};
 ghost use Rattle.hotel_audit.specs.declared.audit_file.TheConstants.{AUDIT_BYTES};
-ghost use Rattle.hotel_audit.specs.Import.{Imports, IsAnswerTo, LineGoes, answer_of, has_taken, outcome_of, stopped};
+ghost use Rattle.hotel_audit.specs.Import.{Imports, IsAnswerTo, ImportsLine, answer_of, has_taken, outcome_of, stopped};
 
 use crate::answer::{LineAnswer, has_taken};
 use crate::audit_file::{AuditFault, read_notes};
@@ -41,7 +41,7 @@ const fn answer_of(reply: &Reply) -> Result<LineAnswer, LookFault>
 /// Carries out one line.
 fn answer_line<B: Books>(books: &mut B, line: &Line) -> Result<LineAnswer, LookFault>
     ensures answer { IfOk result (λ answer. IsAnswerTo line.now answer) }
-    ensures went { LineGoes B.Kept B.rows books.old line.now result books.new }
+    ensures went { ImportsLine B.Kept B.rows books.old line.now result books.new }
 {
     match line {
         Line::Unread(cause) => Ok(LineAnswer::Unread(*cause)),

@@ -1,4 +1,10 @@
-//! Audit files of locks: the notes that staff read out of the locks and send to the desk.
+//! Audit files of locks: the notes that staff read out of the locks and send to the desk. Where the bytes come from
+//! isn't known here.
+//!
+//! - specs: Fields, Header, Line, AuditFile, Readings: what a file's records are read as. Answers, Import: the answers
+//!   to its lines; an import is a run of its notes.
+//! - specs: SentAgain, SentAtOnce, FilesCounted: files that come again, or in pieces. Shut: what an import answers over
+//!   shut books.
 #![tactic(auto)]
 
 mod answer;

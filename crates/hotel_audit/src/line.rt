@@ -2,7 +2,7 @@
 
 ghost use Rattle.std.specs.Prelude.{◌≡◌};
 ghost use Rattle.csv.specs.Records.{fields_of};
-ghost use Rattle.hotel_audit.specs.{Fields.texts_of, Line.act_of, Line.card_in, Line.happening, Line.note_of};
+ghost use Rattle.hotel_audit.specs.{Fields.field_texts, Line.act_of, Line.card_in, Line.happening, Line.note_of};
 ghost use Rattle.hotel_audit.specs.{Line.read_line};
 
 use crate::fields::{Fields, fields_of_record};
@@ -87,7 +87,7 @@ fn act_of(happening: Happening, link: Link) -> Act
 }
 
 fn read_note(fields: &Fields) -> Result<LockNote, Cause>
-    ensures { result ≡ note_of (texts_of fields.now) }
+    ensures { result ≡ note_of (field_texts fields.now) }
 {
     let room = RoomNo::read(fields.room).ok_or(Cause::BadRoom)?;
     let fit = FitNo::read(fields.fit).ok_or(Cause::BadFit)?;

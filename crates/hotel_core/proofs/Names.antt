@@ -10,7 +10,6 @@ pub use Rattle.hotel_core.specs.NightIndex.{HasNoEmptyBlock, HasTakenNight, bloc
 pub use Rattle.hotel_core.specs.Refinement.Finds.{AnyRows, DrawsCode, Drew, DrewNone, Finds, drawn_or, first_refusal}
 pub use Rattle.hotel_core.specs.Refinement.Finds.{failure_at, has_failed, reply_of}
 pub use Rattle.hotel_core.specs.Refinement.StepOnRows.{StepsAs}
-pub use Rattle.hotel_core.specs.Stops.{EndsAs, Stopping, StopsEither}
 pub use Rattle.hotel_core.specs.declared.books.Books.{Ghosts}
 pub use Rattle.hotel_model.specs.declared.change.Change.{Change}
 pub use Rattle.hotel_model.specs.declared.rows.CodeRow.{CodeRow}

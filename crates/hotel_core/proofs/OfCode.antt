@@ -12,4 +12,3 @@ pub mod Happened
 pub mod Happens
 pub mod Walking
 pub mod AnswerParts
-pub mod HandedOn

@@ -1,7 +1,44 @@
+-- The definitions of this crate.
 pub mod Books
 pub mod Refinement
 pub mod Memory
-pub mod Stops
 pub mod NightIndex
 pub mod KindRooms
 pub mod Texts
+-- Those of the model that its clauses cite, in the model's reading order, so that a caller's clauses name one crate.
+pub use Rattle.hotel_model.specs.Words
+pub use Rattle.hotel_model.specs.Rows
+pub use Rattle.hotel_model.specs.Event
+pub use Rattle.hotel_model.specs.History
+pub use Rattle.hotel_model.specs.Issued
+pub use Rattle.hotel_model.specs.Cards
+pub use Rattle.hotel_model.specs.Lock
+pub use Rattle.hotel_model.specs.Ledger
+pub use Rattle.hotel_model.specs.Guests
+pub use Rattle.hotel_model.specs.Stays
+pub use Rattle.hotel_model.specs.Notes
+pub use Rattle.hotel_model.specs.Refits
+pub use Rattle.hotel_model.specs.Standing
+pub use Rattle.hotel_model.specs.RowsOf
+pub use Rattle.hotel_model.specs.Cases
+pub use Rattle.hotel_model.specs.Outcome
+pub use Rattle.hotel_model.specs.Answer
+pub use Rattle.hotel_model.specs.NoteReplies
+pub use Rattle.hotel_model.specs.Ranges
+pub use Rattle.hotel_model.specs.SoundRooms
+pub use Rattle.hotel_model.specs.SoundStays
+pub use Rattle.hotel_model.specs.SoundCards
+pub use Rattle.hotel_model.specs.SoundNotes
+pub use Rattle.hotel_model.specs.SoundFits
+pub use Rattle.hotel_model.specs.Sound
+pub use Rattle.hotel_model.specs.Run
+pub use Rattle.hotel_model.specs.Lists
+pub use Rattle.hotel_model.specs.Moved
+pub use Rattle.hotel_model.specs.Headline
+pub use Rattle.hotel_model.specs.Leads
+-- The types of commands, replies, changes, rows and rows of lists.
+pub use Rattle.hotel_model.specs.declared.command
+pub use Rattle.hotel_model.specs.declared.reply
+pub use Rattle.hotel_model.specs.declared.change
+pub use Rattle.hotel_model.specs.declared.rows
+pub use Rattle.hotel_model.specs.declared.list_rows

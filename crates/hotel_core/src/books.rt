@@ -1,10 +1,10 @@
 //! The books of the desk, however they are kept.
-ghost use Rattle.std.specs.Prelude.{◌≡◌, ◌-◌, Option, Some, true, false, IsOk, length, not};
+ghost use Rattle.std.specs.Prelude.{◌≡◌, ◌-◌, Option, Some, true, false, IsOk, length, not, option_map};
 ghost use Rattle.keycard_rules.specs.Leaves.{Leaves, Rose, told_by};
 ghost use Rattle.keycard_rules.specs.{declared.issued.LookFault.TheVariants.Store};
 ghost use Rattle.hotel_model.specs.{Words.is_one_of, Rows.Rows, Rows.has_kind, Rows.fit_at, Rows.rooms_of_kind};
 ghost use Rattle.hotel_model.specs.Guests.{are_none};
-ghost use Rattle.hotel_core.specs.Books.{Reads.LooksUp, Changes.rows_after};
+ghost use Rattle.hotel_core.specs.Books.{Reads.LooksUp, Reads.placed_row, Changes.rows_after};
 ghost use Rattle.hotel_model.specs.Refinement.Lookups.{room_at, codes_in, code_place, code_at, stay_at, stays_of_kind};
 ghost use Rattle.hotel_model.specs.Refinement.Lookups.{card_at, inside_at, note_at, first_full_on};
 ghost use Rattle.hotel_model.specs.Refinement.Lookups.{number_after};
@@ -13,7 +13,7 @@ ghost use Rattle.hotel_model.specs.{declared.change.Change.Change};
 
 pub mod walks;
 
-use hotel_model::{Change, CodeRow, FitRow, NextNumbers, RoomRow};
+use hotel_model::{Change, FitRow, NextNumbers, RoomRow};
 use hotel_nights::{Day, Guest, KindCode, Stay};
 use keycard_rules::{
     Card, CardNo, Code, Count, FitNo, Issued, LockNote, LookFault, PartyNo, RoomNo,
@@ -45,9 +45,10 @@ pub trait Books: Issued {
     fn room(&mut self, room: RoomNo) -> Result<Option<RoomRow>, LookFault>
         ensures { LooksUp Self.Kept false (λ a. a) (room_at (rows self.old) room) self.old self.new result };
 
-    /// The room and the place at which a code stands.
-    fn code_place(&mut self, code: Code) -> Result<Option<CodeRow>, LookFault>
-        ensures { LooksUp Self.Kept false (λ a. a) (code_place (rows self.old) code) self.old self.new result };
+    /// The room at which a code stands, and its place among the room's codes, counted from 0 in order of issue.
+    fn code_place(&mut self, code: Code) -> Result<Option<(RoomNo, u32)>, LookFault>
+        ensures { LooksUp Self.Kept false (option_map placed_row) (code_place (rows self.old) code)
+            self.old self.new result };
 
     /// The code at a place of a room.
     fn code_at(&mut self, room: RoomNo, place: u32) -> Result<Option<Code>, LookFault>

@@ -9,7 +9,7 @@ use Rattle.std.proofs.lemmas.Int.Digits.{digits_value_more}
 use Rattle.std.proofs.lemmas.Str.{digit_value_digit}
 use Rattle.std.specs.Int.{IsInRange}
 use Rattle.std.specs.Str.Parse.{digits_value}
-use Rattle.hotel_http.specs.{Fields.Pair, Fields.is_named, Fields.values_named, Fields.Tells, Fields.is_expectation}
+use Rattle.hotel_http.specs.{Fields.Pair, Fields.is_named, Fields.values_named, Fields.IsFoundIn, Fields.is_expectation}
 use Rattle.hotel_http.specs.{Fields.expects_continue, declared.fields.Named.Named}
 
 one_value : (p : Pair → Bool) (field : Pair)
@@ -34,18 +34,19 @@ values_next name f hs i d h =
 -- The next field has the name.
 pub tells_named : {A : Type 0} (name : List ℕ) (f : A → Pair) (hs : List A) (i : ℕ) (d : A) (new : Named)
     → i < length hs → is_named name (f (get_or hs i d)) ≡ true
-    → Tells (values_named name (map f (take i hs)) ++ (f (get_or hs i d)).1 ∷ []) new
-    → Tells (values_named name (map f (take (i + 1) hs))) new
+    → IsFoundIn (values_named name (map f (take i hs)) ++ (f (get_or hs i d)).1 ∷ []) new
+    → IsFoundIn (values_named name (map f (take (i + 1) hs))) new
 tells_named name f hs i d new h e t =
-    subst (λ (l : List (List ℕ)). Tells l new) (sym (values_next name f hs i d h
+    subst (λ (l : List (List ℕ)). IsFoundIn l new) (sym (values_next name f hs i d h
     ∙ ap (λ b. values_named name (map f (take i hs)) ++ cond b ((f (get_or hs i d)).1 ∷ []) []) e)) t
 
 -- The next field has another name.
 pub tells_other : {A : Type 0} (name : List ℕ) (f : A → Pair) (hs : List A) (i : ℕ) (d : A) (found : Named)
     → i < length hs → is_named name (f (get_or hs i d)) ≡ false
-    → Tells (values_named name (map f (take i hs))) found → Tells (values_named name (map f (take (i + 1) hs))) found
+    → IsFoundIn (values_named name (map f (take i hs))) found
+    → IsFoundIn (values_named name (map f (take (i + 1) hs))) found
 tells_other name f hs i d found h e t =
-    subst (λ (l : List (List ℕ)). Tells l found) (sym (values_next name f hs i d h
+    subst (λ (l : List (List ℕ)). IsFoundIn l found) (sym (values_next name f hs i d h
     ∙ ap (λ b. values_named name (map f (take i hs)) ++ cond b ((f (get_or hs i d)).1 ∷ []) []) e ∙ append-nil _)) t
 
 pub tells_none : (name : List ℕ) → values_named name [] ≡ []

@@ -33,7 +33,7 @@ use Rattle.hotel_http.specs.{declared.serve.Exchange.Exchange, declared.serve.Se
 use Rattle.hotel_http.specs.{declared.serve.ServeFault.TheVariants.Write, Answer.list_answer, Body.interim_where}
 use Rattle.hotel_http.specs.Request.{EndsRequest, Requests, wanted_of}
 use Rattle.hotel_http.specs.declared.requests.Received.{Received}
-use Rattle.hotel_http.specs.Serve.{Outcome, outcome, rejected, replied, imported, listed, end_of}
+use Rattle.hotel_http.specs.Serve.{FullAnswer, full_answer, rejected, replied, imported, list_reply, end_of}
 use Rattle.hotel_http.specs.Serve.{ListComes, AskComes, FileComes, TaskComes, Comes, EndsAs, Answered, ended}
 use Rattle.hotel_http.specs.Serve.{IsListText, list_refusal, WasAnswered}
 
@@ -41,11 +41,11 @@ use Rattle.hotel_http.specs.Serve.{IsListText, list_refusal, WasAnswered}
 pub ends_as : (text : List ℕ) (status : Status) (acted : Bool) (written : Result (Unit {0}) WriteFailed)
     (old new : Option (List ℕ)) (end : Result Served Cut)
     → end ≡ ended written status acted → OnOk written (Appends old new text) → OnErr written (AppendsFront old new text)
-    → EndsAs (outcome text status acted) [] old new end
+    → EndsAs (full_answer text status acted) [] old new end
 ends_as text status acted (Ok done) old new end e ok err =
-    subst (EndsAs (outcome text status acted) [] old new) (sym e) (refl, refl, ok)
+    subst (EndsAs (full_answer text status acted) [] old new) (sym e) (refl, refl, ok)
 ends_as text status acted (Err failed) old new end e ok err =
-    subst (EndsAs (outcome text status acted) [] old new) (sym e) (refl, err)
+    subst (EndsAs (full_answer text status acted) [] old new) (sym e) (refl, err)
 
 -- a command is carried out
 pub command_came : {S : Type 0} {K : KeptOf S} {rows : S → Rows} {a b : S} (s t : Stream) (command : Command)
@@ -59,8 +59,8 @@ command_came {b = b} s t command given old new end step ends = record {
 }
 
 -- what is answered of a list's text
-abbrev pub out_of : Result (List ℕ) ListFault → Outcome
-out_of (Ok text) = outcome (list_answer text) Success false
+abbrev pub out_of : Result (List ℕ) ListFault → FullAnswer
+out_of (Ok text) = full_answer (list_answer text) Success false
 out_of (Err why) = replied (reply.Refused (list_refusal why))
 
 -- a list's answer, where what it was made of is the listing if no call failed
@@ -68,9 +68,9 @@ list_comes : (made : Result (List ℕ) ListFault) (told : Told) (on over : Optio
     → (NoCallFailed told → on ≡ over) → IsListText on made → ListTold (end_of made) told
     → ListComes over (out_of made) told
 list_comes (Ok text) told (Some on) over same is none =
-    inl (ap (λ (t : List ℕ). outcome (list_answer t) Success false) is ∙ ap listed (same none), none)
+    inl (ap (λ (t : List ℕ). full_answer (list_answer t) Success false) is ∙ ap list_reply (same none), none)
 list_comes (Ok text) told None over same is none = absurd is
-list_comes (Err fault.NoRoom) told on over same is none = inl (ap listed (sym is ∙ same none), none)
+list_comes (Err fault.NoRoom) told on over same is none = inl (ap list_reply (sym is ∙ same none), none)
 list_comes (Err fault.Memory) told on over same is t = inr (look.Memory, refl, t)
 list_comes (Err fault.Store) told on over same is t = inr (look.Store, refl, t)
 list_comes (Err fault.Write) told on over same is t = inr (look.Memory, refl, inl t)
@@ -133,7 +133,7 @@ rejection_came K rows a s why old new end ends = record {
 }
 
 -- the answer stands behind an interim one
-after_interim : (before : List ℕ) (out : Outcome) (old mid new : Option (List ℕ)) (end : Result Served Cut)
+after_interim : (before : List ℕ) (out : FullAnswer) (old mid new : Option (List ℕ)) (end : Result Served Cut)
     → Appends old mid before → EndsAs out [] mid new end
     → EndsAs out before old new end
 after_interim before out old mid new (Ok served) first ends =
@@ -145,7 +145,7 @@ after_interim before out old mid new (Err cut) first ends = (
 )
 
 pub behind_interim : {S : Type 0} {K : KeptOf S} {rows : S → Rows} {a b : S}
-    (came : History → Stream → Outcome → Told → History → Stream → Type 0) (s t : Stream) (before : List ℕ)
+    (came : History → Stream → FullAnswer → Told → History → Stream → Type 0) (s t : Stream) (before : List ℕ)
     (old mid new : Option (List ℕ)) (end : Result Served Cut) → Appends old mid before
     → HappensBy K rows a (Answered came s t [] mid new end) b
     → HappensBy K rows a (Answered came s t before old new end) b

@@ -14,13 +14,13 @@ abbrev pub lines_answer : List LineAnswer → List ℕ
 lines_answer answers = answer_text Success Plain None (answers_text 1 answers)
 
 -- the status of an import that has no answers
-abbrev pub fault_status : ImportFault → Status
-fault_status (fault.File file.TooLarge) = ContentTooLarge
-fault_status (fault.File file.NoHeader) = BadRequest
-fault_status (fault.File file.WrongHeader) = BadRequest
-fault_status (fault.File file.Memory) = Unavailable
-fault_status (fault.Memory answered taken) = Unavailable
-fault_status (fault.Store answered taken) = Unavailable
+abbrev pub import_status : ImportFault → Status
+import_status (fault.File file.TooLarge) = ContentTooLarge
+import_status (fault.File file.NoHeader) = BadRequest
+import_status (fault.File file.WrongHeader) = BadRequest
+import_status (fault.File file.Memory) = Unavailable
+import_status (fault.Memory answered taken) = Unavailable
+import_status (fault.Store answered taken) = Unavailable
 
 -- its text
 abbrev pub fault_body : ImportFault → List ℕ
@@ -33,4 +33,4 @@ fault_body (fault.Store answered taken) = stopped_text answered look.Store
 
 -- the answer to an audit file whose import has no answers
 abbrev pub fault_answer : ImportFault → List ℕ
-fault_answer why = answer_text (fault_status why) Plain None (fault_body why)
+fault_answer why = answer_text (import_status why) Plain None (fault_body why)

@@ -23,10 +23,10 @@ unfoldable pub values_named : List ℕ → List Pair → List (List ℕ)
 values_named name fields = map (λ field. field.1) (filter (is_named name) fields)
 
 -- How often a field stands is told, and its value where it stands once.
-abbrev pub Tells : List (List ℕ) → Named → Type 0
-Tells values Absent = values ≡ []
-Tells values (Once value) = values ≡ value.now ∷ []
-Tells values Often = 1 < length values
+abbrev pub IsFoundIn : List (List ℕ) → Named → Type 0
+IsFoundIn values Absent = values ≡ []
+IsFoundIn values (Once value) = values ≡ value.now ∷ []
+IsFoundIn values Often = 1 < length values
 
 -- HTTP/1.1 has one Host, and HTTP/1.0 at most one
 abbrev pub is_host_wrong : ℕ → List (List ℕ) → Bool

@@ -33,23 +33,23 @@ use Rattle.hotel_http.specs.{declared.status.Status.TheVariants.Success, declare
 use Rattle.hotel_http.specs.declared.requests.RequestFault.TheVariants as unread
 use Rattle.hotel_http.specs.declared.tasks.Task.TheVariants as task
 use Rattle.hotel_http.specs.Answer.{rejection_answer, rejection_status, reply_answer, reply_status, list_answer}
-use Rattle.hotel_http.specs.{AuditAnswer.lines_answer, AuditAnswer.fault_answer, AuditAnswer.fault_status}
+use Rattle.hotel_http.specs.{AuditAnswer.lines_answer, AuditAnswer.fault_answer, AuditAnswer.import_status}
 use Rattle.hotel_http.specs.{Body.interim_text, Body.interim_where}
 use Rattle.hotel_http.specs.{Request.Wanted, Request.Requests, Request.IsAwaited, Request.AtMostInterim}
 use Rattle.hotel_http.specs.{Status.number_of}
 
 -- An answer: its bytes, its status, and whether the books took something of the request.
-pub record Outcome : Type 0 where
+pub record FullAnswer : Type 0 where
   pub text : List ℕ
   pub status : ℕ
   pub acted : Bool
 
 -- an answer of this status
-abbrev pub outcome : List ℕ → Status → Bool → Outcome
-outcome text status acted = record { text = text; status = number_of status; acted = acted }
+abbrev pub full_answer : List ℕ → Status → Bool → FullAnswer
+full_answer text status acted = record { text = text; status = number_of status; acted = acted }
 
-abbrev pub rejected : Rejection → Outcome
-rejected why = outcome (rejection_answer why) (rejection_status why) false
+abbrev pub rejected : Rejection → FullAnswer
+rejected why = full_answer (rejection_answer why) (rejection_status why) false
 
 -- a command with this reply was accepted
 abbrev pub is_accepted : Reply → Bool
@@ -57,39 +57,39 @@ is_accepted (reply.Refused why) = false
 is_accepted _ = true
 
 -- the reply to what was asked
-abbrev pub replied : Reply → Outcome
-replied given = outcome (reply_answer given) (reply_status given) (is_accepted given)
+abbrev pub replied : Reply → FullAnswer
+replied given = full_answer (reply_answer given) (reply_status given) (is_accepted given)
 
 -- A list in full, or that its room isn't there.
-abbrev pub listed : Option Listing → Outcome
-listed None = replied (reply.Refused refusal.NoRoom)
-listed (Some listing) = outcome (list_answer (in_full [] (Some listing))) Success false
+abbrev pub list_reply : Option Listing → FullAnswer
+list_reply None = replied (reply.Refused refusal.NoRoom)
+list_reply (Some listing) = full_answer (list_answer (in_full [] (Some listing))) Success false
 
 -- a line was taken before an import ended without answers
-abbrev pub taken_by : ImportFault → Bool
-taken_by (import.File why) = false
-taken_by (import.Memory answered taken) = taken
-taken_by (import.Store answered taken) = taken
+abbrev pub taken_before_fault : ImportFault → Bool
+taken_before_fault (import.File why) = false
+taken_before_fault (import.Memory answered taken) = taken
+taken_before_fault (import.Store answered taken) = taken
 
 -- an import that ended so
-abbrev pub imported : Result (List LineAnswer) ImportFault → Outcome
-imported (Ok answers) = outcome (lines_answer answers) Success (has_taken answers)
-imported (Err why) = outcome (fault_answer why) (fault_status why) (taken_by why)
+abbrev pub imported : Result (List LineAnswer) ImportFault → FullAnswer
+imported (Ok answers) = full_answer (lines_answer answers) Success (has_taken answers)
+imported (Err why) = full_answer (fault_answer why) (import_status why) (taken_before_fault why)
 
 -- The answer to a list, by what its calls told: it in full or that its room isn't there; or the failure.
-abbrev pub ListComes : Option Listing → Outcome → Told → Type 0
-ListComes listing out told = ((out ≡ listed listing) × NoCallFailed told)
+abbrev pub ListComes : Option Listing → FullAnswer → Told → Type 0
+ListComes listing out told = ((out ≡ list_reply listing) × NoCallFailed told)
     ⊎ ((why : LookFault) × (out ≡ replied (reply.Refused (refusal_of why))) × ListFailed why told)
 
 -- What comes of a command, which is a step, or of a list, which changes nothing.
-abbrev pub AskComes : Ask → History → Stream → Outcome → Told → History → Stream → Type 0
+abbrev pub AskComes : Ask → History → Stream → FullAnswer → Told → History → Stream → Type 0
 AskComes (ask.Command command) h s out told h' s' =
     (given : Reply) × Steps h s command given h' s' × (out ≡ replied given) × (told ≡ failure_in given ∷ [])
 AskComes (ask.List its_list) h s out told h' s' =
     ListComes (listing_over h its_list) out told × (h' ≡ h) × (s' ≡ s)
 
 -- What comes of an audit file: the run of the notes of its answered lines.
-abbrev pub FileComes : List ℕ → History → Stream → Outcome → Told → History → Stream → Type 0
+abbrev pub FileComes : List ℕ → History → Stream → FullAnswer → Told → History → Stream → Type 0
 FileComes file h s out told h' s' =
     (end : Result (List LineAnswer) ImportFault) × (lines : List Line) × (answers : List LineAnswer)
     × AreAnswered lines answers
@@ -97,12 +97,12 @@ FileComes file h s out told h' s' =
     × (out ≡ imported end) × (told ≡ told_by_import lines end) × (s' ≡ s)
 
 -- What comes of a task with its body.
-abbrev pub TaskComes : Task → List ℕ → History → Stream → Outcome → Told → History → Stream → Type 0
+abbrev pub TaskComes : Task → List ℕ → History → Stream → FullAnswer → Told → History → Stream → Type 0
 TaskComes (task.Asks given) body = AskComes given
 TaskComes task.Audit body = FileComes body
 
 -- What comes of what a request asks for: a rejection changes nothing.
-abbrev pub Comes : Wanted → History → Stream → Outcome → Told → History → Stream → Type 0
+abbrev pub Comes : Wanted → History → Stream → FullAnswer → Told → History → Stream → Type 0
 Comes (Ok given) h s out told h' s' = TaskComes given.0 given.1 h s out told h' s'
 Comes (Err why) h s out told h' s' = (out ≡ rejected why) × (told ≡ []) × (h' ≡ h) × (s' ≡ s)
 
@@ -111,16 +111,16 @@ abbrev pub AnswerEnd : Type 0
 AnswerEnd = Result Served Cut
 
 -- The answer was written behind this text, whole; or a front of both.
-abbrev pub EndsAs : Outcome → List ℕ → Option (List ℕ) → Option (List ℕ) → AnswerEnd → Type 0
+abbrev pub EndsAs : FullAnswer → List ℕ → Option (List ℕ) → Option (List ℕ) → AnswerEnd → Type 0
 EndsAs out before old new (Ok served) =
     (served.status ≡ out.status) × (served.acted ≡ out.acted) × Appends old new (before ++ out.text)
 EndsAs out before old new (Err cut) = (cut.acted ≡ out.acted) × AppendsFront old new (before ++ out.text)
 
 -- This came of calls that told this, and its answer was written so behind this text.
-abbrev pub Answered : (History → Stream → Outcome → Told → History → Stream → Type 0) → Stream → Stream → List ℕ
+abbrev pub Answered : (History → Stream → FullAnswer → Told → History → Stream → Type 0) → Stream → Stream → List ℕ
     → Option (List ℕ) → Option (List ℕ) → AnswerEnd → Told → History → History → Type 0
 Answered came s s' before old new end told h h' =
-    (out : Outcome) × came h s out told h' s' × EndsAs out before old new end
+    (out : FullAnswer) × came h s out told h' s' × EndsAs out before old new end
 
 -- How an answer ends that was written or not.
 abbrev pub ended : Result (Unit {0}) WriteFailed → Status → Bool → Result Served Cut

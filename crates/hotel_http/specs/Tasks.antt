@@ -26,36 +26,36 @@ abbrev pub second_part : List ℕ → List ℕ
 second_part path = before_slash (after_slash (after_slash path))
 
 -- what is asked, where no value is refused
-abbrev pub accepted : Result Ask ValueFault → Option Ask
-accepted (Ok given) = Some given
-accepted (Err fault) = None
+abbrev pub if_accepted : Result Ask ValueFault → Option Ask
+if_accepted (Ok given) = Some given
+if_accepted (Err fault) = None
 
 -- what a verb and its values ask for
-abbrev pub asked : Verb → List (List ℕ) → Option Ask
-asked verb values = accepted (ask_of verb values)
+abbrev pub asked_by : Verb → List (List ℕ) → Option Ask
+asked_by verb values = if_accepted (ask_of verb values)
 
 -- a verb whose value is a field of the form
 abbrev pub of_field : Verb → List ℕ → List ℕ → Option Ask
 of_field verb name body = do
   value ← form_text name body
-  asked verb (value ∷ [])
+  asked_by verb (value ∷ [])
 
 -- a verb whose value stands in the path
 abbrev pub of_part : Verb → List ℕ → Option Ask
-of_part verb path = asked verb (second_part path ∷ [])
+of_part verb path = asked_by verb (second_part path ∷ [])
 
 -- a verb whose values are the party in the path and a room
 abbrev pub of_part_and_room : Verb → List ℕ → List ℕ → Option Ask
 of_part_and_room verb path body = do
   room ← form_text (codes "room") body
-  asked verb (second_part path ∷ room ∷ [])
+  asked_by verb (second_part path ∷ room ∷ [])
 
 -- a verb whose values are a room and a kind
 abbrev pub of_room_and_kind : Verb → List ℕ → Option Ask
 of_room_and_kind verb body = do
   room ← form_text (codes "room") body
   kind ← form_text (codes "kind") body
-  asked verb (room ∷ kind ∷ [])
+  asked_by verb (room ∷ kind ∷ [])
 
 -- a verb whose values are those of a reservation
 abbrev pub of_reservation : Verb → List ℕ → Option Ask
@@ -64,30 +64,30 @@ of_reservation verb body = do
   arrive ← form_text (codes "arrive") body
   nights ← form_text (codes "nights") body
   guest ← form_text (codes "guest") body
-  asked verb (kind ∷ arrive ∷ nights ∷ guest ∷ [])
+  asked_by verb (kind ∷ arrive ∷ nights ∷ guest ∷ [])
 
 -- What a verb asks for, its values from the path or the form; nothing where one is missing, stands twice or is refused.
-abbrev pub ask_in : Verb → List ℕ → List ℕ → Option Ask
-ask_in Begin path body = of_field Begin (codes "day") body
-ask_in AddKind path body = of_field AddKind (codes "kind") body
-ask_in AddRoom path body = of_room_and_kind AddRoom body
-ask_in Reserve path body = of_reservation Reserve body
-ask_in Cancel path body = of_part Cancel path
-ask_in CheckIn path body = of_part_and_room CheckIn path body
-ask_in Spare path body = of_part Spare path
-ask_in Reissue path body = of_part Reissue path
-ask_in Transfer path body = of_part_and_room Transfer path body
-ask_in CheckOut path body = of_part CheckOut path
-ask_in Refit path body = of_part Refit path
-ask_in NextDay path body = asked NextDay []
-ask_in Arrivals path body = of_part Arrivals path
-ask_in InHouse path body = asked InHouse []
-ask_in ChainOf path body = of_part ChainOf path
-ask_in LeftBehind path body = asked LeftBehind []
-ask_in AuditOf path body = of_part AuditOf path
-ask_in Entered path body = None
-ask_in Left path body = None
-ask_in Recoded path body = None
+abbrev pub ask_of_request : Verb → List ℕ → List ℕ → Option Ask
+ask_of_request Begin path body = of_field Begin (codes "day") body
+ask_of_request AddKind path body = of_field AddKind (codes "kind") body
+ask_of_request AddRoom path body = of_room_and_kind AddRoom body
+ask_of_request Reserve path body = of_reservation Reserve body
+ask_of_request Cancel path body = of_part Cancel path
+ask_of_request CheckIn path body = of_part_and_room CheckIn path body
+ask_of_request Spare path body = of_part Spare path
+ask_of_request Reissue path body = of_part Reissue path
+ask_of_request Transfer path body = of_part_and_room Transfer path body
+ask_of_request CheckOut path body = of_part CheckOut path
+ask_of_request Refit path body = of_part Refit path
+ask_of_request NextDay path body = asked_by NextDay []
+ask_of_request Arrivals path body = of_part Arrivals path
+ask_of_request InHouse path body = asked_by InHouse []
+ask_of_request ChainOf path body = of_part ChainOf path
+ask_of_request LeftBehind path body = asked_by LeftBehind []
+ask_of_request AuditOf path body = of_part AuditOf path
+ask_of_request Entered path body = None
+ask_of_request Left path body = None
+ask_of_request Recoded path body = None
 
 -- A value of the verb is a field of the form.
 abbrev pub has_fields : Verb → Bool
@@ -105,7 +105,7 @@ as_task (Some given) = Some (task.Asks given)
 
 -- What a route asks for, by its path and its body.
 abbrev pub task_in : Target → List ℕ → List ℕ → Option Task
-task_in (target.Asks verb) path body = as_task (ask_in verb path body)
+task_in (target.Asks verb) path body = as_task (ask_of_request verb path body)
 task_in target.Audit path body = Some task.Audit
 
 -- A form is read for the route.

@@ -4,7 +4,7 @@ ghost use Rattle.std.specs.Prelude.{◌≡◌, ◌≤◌, length};
 ghost use Rattle.hotel_lists.specs.Bytes.{Writes};
 ghost use Rattle.hotel_audit.specs.{Answers.answers_text};
 ghost use Rattle.hotel_core.specs.declared.reply_texts.TheConstants.{REPLY_BYTES};
-ghost use Rattle.hotel_http.specs.AuditAnswer.{lines_answer, fault_status, fault_body, fault_answer};
+ghost use Rattle.hotel_http.specs.AuditAnswer.{lines_answer, import_status, fault_body, fault_answer};
 
 use crate::answer::{Media, head_text, memory_text, write_short};
 use crate::buffer::HeadText;
@@ -42,7 +42,7 @@ pub fn write_audit<W: Write>(
 
 /// The status of an import that has no answers.
 pub fn fault_status(why: &ImportFault) -> Status
-    ensures { result ≡ fault_status why.now }
+    ensures { result ≡ import_status why.now }
 {
     match why {
         ImportFault::File(AuditFault::TooLarge) => Status::ContentTooLarge,

@@ -4,7 +4,7 @@ ghost use Rattle.std.specs.Prelude.{◌≡◌, List, ℕ, ◌∷◌, [], ◌++�
 ghost use Rattle.std.specs.Str.{str_eq_ignore_ascii_case};
 ghost use Rattle.httparse.specs.Spans.{IsHeaderWithin, header_bytes};
 ghost use Rattle.hotel_http.specs.Fields as spec;
-ghost use Rattle.hotel_http.specs.Fields.{Tells, values_named, length_said, framing, expects_continue};
+ghost use Rattle.hotel_http.specs.Fields.{IsFoundIn, values_named, length_said, framing, expects_continue};
 
 use crate::rejection::Rejection;
 use hotel_audit::AUDIT_BYTES;
@@ -27,7 +27,7 @@ fn is_same_text(a: &[u8], b: &[u8]) -> bool
 
 /// What is found with one more value.
 fn once_more<'b>(found: Named<'b>, value: &'b [u8]) -> Named<'b>
-    ensures { (values : List (List ℕ)) → Tells values found.entry → Tells (values ++ value.now ∷ []) result }
+    ensures { (values : List (List ℕ)) → IsFoundIn values found.entry → IsFoundIn (values ++ value.now ∷ []) result }
 {
     match found {
         Named::Absent => Named::Once(value),
@@ -38,7 +38,7 @@ fn once_more<'b>(found: Named<'b>, value: &'b [u8]) -> Named<'b>
 /// Looks for the fields of a name, in any case of its letters.
 fn find_named<'b>(bytes: &'b [u8], headers: &[HeaderSpan], name: &[u8]) -> Named<'b>
     requires { All (IsHeaderWithin (length bytes.now)) headers.now }
-    ensures { Tells (values_named name.now (map (header_bytes bytes.now) headers.now)) result }
+    ensures { IsFoundIn (values_named name.now (map (header_bytes bytes.now) headers.now)) result }
 {
     let mut found = Named::Absent;
     for header in headers {
@@ -51,7 +51,7 @@ fn find_named<'b>(bytes: &'b [u8], headers: &[HeaderSpan], name: &[u8]) -> Named
 
 /// Whether the Host fields are wrong for the minor version of HTTP/1.
 fn is_host_wrong(found: Named<'_>, minor: u8) -> bool
-    ensures { (values : List (List ℕ)) → Tells values found.entry → result ≡ spec.is_host_wrong minor values }
+    ensures { (values : List (List ℕ)) → IsFoundIn values found.entry → result ≡ spec.is_host_wrong minor values }
 {
     match found {
         Named::Absent => minor == 1,
@@ -82,7 +82,7 @@ fn read_length(text: &[u8]) -> Result<usize, Rejection>
 
 /// The length of the body by the Content-Length fields.
 fn body_length(lengths: Named<'_>) -> Result<usize, Rejection>
-    ensures { (values : List (List ℕ)) → Tells values lengths.entry → result ≡ spec.body_length values }
+    ensures { (values : List (List ℕ)) → IsFoundIn values lengths.entry → result ≡ spec.body_length values }
 {
     match lengths {
         Named::Absent => Ok(0),
@@ -93,7 +93,7 @@ fn body_length(lengths: Named<'_>) -> Result<usize, Rejection>
 
 /// The length of a body that is not coded for its transfer.
 fn plain_length(codings: Named<'_>, lengths: Named<'_>) -> Result<usize, Rejection>
-    ensures { (coded values : List (List ℕ)) → Tells coded codings.entry → Tells values lengths.entry
+    ensures { (coded values : List (List ℕ)) → IsFoundIn coded codings.entry → IsFoundIn values lengths.entry
         → result ≡ spec.plain_length coded values }
 {
     match codings {

@@ -1,4 +1,10 @@
-//! One HTTP request, one answer.
+//! One HTTP request, one answer. No port and no connection is known here.
+//!
+//! - src: requests reads and judges, and has no books: what is left of a request is a `Request`, or a `Rejection` with
+//!   its own status and text. serve asks the books. All answers but a list's text are written from buffers of fixed
+//!   size.
+//! - specs: Head, Fields: what an input begins with. Routes, Plan, Body, Form, Tasks, Request: what it asks for, or the
+//!   first rejection. Status, Answer, AuditAnswer, Serve: the bytes of answers, and what comes of a request.
 #![tactic(auto)]
 
 mod answer;

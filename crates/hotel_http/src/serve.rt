@@ -8,7 +8,7 @@ ghost use Rattle.hotel_lists.specs.Reads.{ReadsWhile};
 ghost use Rattle.hotel_http.specs.Request.{MayFollow, WantsMore};
 ghost use Rattle.hotel_core.specs.declared.asks.Ask.TheVariants as ask;
 ghost use Rattle.hotel_http.specs.declared.serve.ServeFault.TheVariants.{Read, Write};
-ghost use Rattle.hotel_http.specs.Serve.{rejected, replied, is_accepted, taken_by, AskComes};
+ghost use Rattle.hotel_http.specs.Serve.{rejected, replied, is_accepted, taken_before_fault, AskComes};
 ghost use Rattle.hotel_core.specs.Books.Happens.{HappensBy};
 ghost use Rattle.hotel_lists.specs.Lines.{LooksAt};
 ghost use Rattle.hotel_http.specs.Serve.{FileComes, TaskComes, EndsAs, Answered, ended, end_of, IsListText};
@@ -191,7 +191,7 @@ fn answer_list<W: Write, B: Walks>(
 
 /// Whether a line was taken before an import ended without answers.
 fn taken_by(why: &ImportFault) -> bool
-    ensures { result ≡ taken_by why.now }
+    ensures { result ≡ taken_before_fault why.now }
 {
     match why {
         ImportFault::File(_) => false,

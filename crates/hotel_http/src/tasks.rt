@@ -2,9 +2,9 @@
 
 ghost use Rattle.std.specs.Prelude.{◌≡◌, true, [], ◌∷◌, map, IfOk, OnErr};
 ghost use Rattle.hotel_asks.specs.{Asks.ask_of, Asks.ask_copies, Values.IsCopy};
-ghost use Rattle.hotel_http.specs.Tasks.{after_slash, before_slash, second_part, asked, of_field, of_part};
-ghost use Rattle.hotel_http.specs.Tasks.{of_part_and_room, of_room_and_kind, of_reservation, ask_in, has_fields};
-ghost use Rattle.hotel_http.specs.Tasks.{task_in, reads_form};
+ghost use Rattle.hotel_http.specs.Tasks.{after_slash, before_slash, second_part, asked_by, of_field, of_part};
+ghost use Rattle.hotel_http.specs.Tasks.{of_part_and_room, of_room_and_kind, of_reservation, ask_of_request};
+ghost use Rattle.hotel_http.specs.Tasks.{has_fields, task_in, reads_form};
 
 use crate::form::read_form;
 use crate::routes::Target;
@@ -47,7 +47,7 @@ fn second_part(path: &str) -> &str
 
 /// What a verb and its values ask for. None where one of them is refused.
 fn ask(alloc: Global, verb: Verb, values: &[&[u8]]) -> Result<Option<Ask>, AllocError>
-    ensures read { IfOk result (λ given. given ≡ asked verb (map (λ v. v.now) values.now)) }
+    ensures read { IfOk result (λ given. given ≡ asked_by verb (map (λ v. v.now) values.now)) }
     ensures memory { OnErr result (IsCopy ask_copies (ask_of verb (map (λ v. v.now) values.now))) }
 {
     match read_ask(alloc, verb, values) {
@@ -58,7 +58,7 @@ fn ask(alloc: Global, verb: Verb, values: &[&[u8]]) -> Result<Option<Ask>, Alloc
 }
 
 fn ask_one(alloc: Global, verb: Verb, value: &[u8]) -> Result<Option<Ask>, AllocError>
-    ensures read { IfOk result (λ given. given ≡ asked verb (value.now ∷ [])) }
+    ensures read { IfOk result (λ given. given ≡ asked_by verb (value.now ∷ [])) }
     ensures memory { OnErr result (IsCopy ask_copies (ask_of verb (value.now ∷ []))) }
 {
     ask(alloc, verb, &[value])
@@ -70,7 +70,7 @@ fn ask_two<'v>(
     first: &'v [u8],
     second: &'v [u8],
 ) -> Result<Option<Ask>, AllocError>
-    ensures { IfOk result (λ given. given ≡ asked verb (first.now ∷ second.now ∷ [])) }
+    ensures { IfOk result (λ given. given ≡ asked_by verb (first.now ∷ second.now ∷ [])) }
 {
     ask(alloc, verb, &[first, second])
 }
@@ -83,7 +83,7 @@ fn ask_four<'v>(
     nights: &'v [u8],
     guest: &'v [u8],
 ) -> Result<Option<Ask>, AllocError>
-    ensures { IfOk result (λ given. given ≡ asked verb (kind.now ∷ arrive.now ∷ nights.now ∷ guest.now ∷ [])) }
+    ensures { IfOk result (λ given. given ≡ asked_by verb (kind.now ∷ arrive.now ∷ nights.now ∷ guest.now ∷ [])) }
 {
     ask(alloc, verb, &[kind, arrive, nights, guest])
 }
@@ -168,7 +168,7 @@ fn ask_by_verb(
     path: &str,
     body: &[u8],
 ) -> Result<Option<Ask>, AllocError>
-    ensures read { IfOk result (λ given. given ≡ ask_in verb path.now body.now) }
+    ensures read { IfOk result (λ given. given ≡ ask_of_request verb path.now body.now) }
     ensures memory { OnErr result (has_fields verb ≡ true) }
 {
     match verb {

@@ -13,8 +13,8 @@ use Rattle.hotel_core.specs.declared.books.walks.WalkFault.{WalkFault}
 use Rattle.hotel_core.specs.declared.books.walks.WalkFault.TheVariants as walk
 use Rattle.hotel_lists.specs.{Bytes.AppendsFront, LineSink.SameEnds, LineSink.Gathers, LineSink.StopsAtWrite}
 use Rattle.hotel_lists.specs.{LineSink.Finishes, declared.lines.Lines.Lines}
-use Rattle.hotel_lists.specs.{declared.fault.ListFault.ListFault, Lines.ListTold, Lines.StopsBy, Lines.listed}
-use Rattle.hotel_lists.specs.{Listings.IsFront, Listings.ListEnds, Listings.listing}
+use Rattle.hotel_lists.specs.{declared.fault.ListFault.ListFault, Lines.ListTold, Lines.StopsAtLine, Lines.list_result}
+use Rattle.hotel_lists.specs.{Listings.IsListFront, Listings.ListEnds, Listings.listing}
 use Rattle.hotel_lists.specs.declared.fault.ListFault.TheVariants as fault
 use Rattle.hotel_lists.proofs.{BytesLemmas.front_next, CallsLemmas.none_forgotten, CallsLemmas.then_none_forgotten}
 
@@ -24,7 +24,7 @@ front_of_first a b bs cs (n, within, h) =
     (n, simp length-append (omega arith), subst (Appends a b) (sym (take-append-le n bs cs within)) h)
 
 -- a sink that stopped, and not for want of memory
-stopped_for_write : (failed : Bool) → listed (Err walk.Stopped) failed ≡ Err fault.Write → failed ≡ true
+stopped_for_write : (failed : Bool) → list_result (Err walk.Stopped) failed ≡ Err fault.Write → failed ≡ true
 stopped_for_write true e = refl
 stopped_for_write false e = cc
 
@@ -41,21 +41,21 @@ then_same a b c h k = record {
 -- a list told what its walk did
 pub walk_told : {W : Type 0} (contents : W → Option (List ℕ)) (b c : Lines W)
     (end result : Result (Unit {0}) WalkFault) (last : Result (Unit {0}) ListFault)
-    → Finishes contents b c end result → last ≡ listed result c.write_failed → ListTold last (failure_of end ∷ [])
+    → Finishes contents b c end result → last ≡ list_result result c.write_failed → ListTold last (failure_of end ∷ [])
 walk_told contents b c end result last f same =
     subst (λ l. ListTold l (failure_of end ∷ [])) (sym same) (by end result f)
   where
-    stopped : (failed : Bool) → ListTold (listed (Err walk.Stopped) failed) (None ∷ [])
+    stopped : (failed : Bool) → ListTold (list_result (Err walk.Stopped) failed) (None ∷ [])
     stopped true = refl
     stopped false = inl refl
 
     of_err : (result : Result (Unit {0}) WalkFault) (why : WalkFault) → result ≡ Err why
-        → ListTold (listed (Err why) c.write_failed) (failure_of (Err why) ∷ [])
-        → ListTold (listed result c.write_failed) (failure_of (Err why) ∷ [])
-    of_err result why e t = subst (λ r. ListTold (listed r c.write_failed) (failure_of (Err why) ∷ [])) (sym e) t
+        → ListTold (list_result (Err why) c.write_failed) (failure_of (Err why) ∷ [])
+        → ListTold (list_result result c.write_failed) (failure_of (Err why) ∷ [])
+    of_err result why e t = subst (λ r. ListTold (list_result r c.write_failed) (failure_of (Err why) ∷ [])) (sym e) t
 
     by : (end result : Result (Unit {0}) WalkFault) → Finishes contents b c end result
-        → ListTold (listed result c.write_failed) (failure_of end ∷ [])
+        → ListTold (list_result result c.write_failed) (failure_of end ∷ [])
     by (Err walk.Memory) result f = of_err result walk.Memory f.0 (inr ([], refl, refl))
     by (Err walk.Store) result f = of_err result walk.Store f.0 ([], refl, refl)
     by (Err walk.Stopped) result f = of_err result walk.Stopped f.0 (stopped c.write_failed)
@@ -97,7 +97,7 @@ module _ {R : Type 0} (line : R → List ℕ) (old new : Option (List ℕ)) (hea
 
   -- whole lines of it
   front_ends : (sent rest : List R) → rows ≡ sent ++ rest → Appends old new (list_text header line sent)
-      → (front : List ℕ) × IsFront (Some (listing header line rows)) front × Appends old new front
+      → (front : List ℕ) × IsListFront (Some (listing header line rows)) front × Appends old new front
   front_ends sent rest e written = (
     header ++ concat (map line sent),
     inr (map line sent, map line rest, ap (map line) e ∙ map-append line sent rest, refl),
@@ -177,11 +177,11 @@ module _ {W R : Type 0} (contents : W → Option (List ℕ)) (line : R → List 
   -- a list ends with Write only after a write that failed
   write_had_failed : (rows : List R) (a b c : Lines W) (end result : Result (Unit {0}) WalkFault)
       → Hands Wrote Stopped rows a b end → Finishes contents b c end result
-      → listed result c.write_failed ≡ Err fault.Write → c.calls.now.write_failed ≡ true
+      → list_result result c.write_failed ≡ Err fault.Write → c.calls.now.write_failed ≡ true
   write_had_failed rows a b c (Err walk.Stopped) result h f e =
-      let here : listed (Err walk.Stopped) b.write_failed ≡ Err fault.Write =
-      subst (λ (s : Lines W). listed (Err walk.Stopped) s.write_failed ≡ Err fault.Write) f.1
-      (subst (λ r. listed r c.write_failed ≡ Err fault.Write) f.0 e) in
+      let here : list_result (Err walk.Stopped) b.write_failed ≡ Err fault.Write =
+      subst (λ (s : Lines W). list_result (Err walk.Stopped) s.write_failed ≡ Err fault.Write) f.1
+      (subst (λ r. list_result r c.write_failed ≡ Err fault.Write) f.0 e) in
       subst (λ (s : Lines W). s.calls.now.write_failed ≡ true) (sym f.1)
       (h.6.1.1 (stopped_for_write b.write_failed here))
   write_had_failed rows a b c (Ok done) (Err walk.Stopped) h f e = f.1 (stopped_for_write c.write_failed e)
@@ -189,15 +189,16 @@ module _ {W R : Type 0} (contents : W → Option (List ℕ)) (line : R → List 
   write_had_failed rows a b c (Ok done) (Err walk.Memory) h f e = absurd f
   write_had_failed rows a b c (Ok done) (Err walk.Store) h f e = absurd f
   write_had_failed rows a b c (Err walk.Memory) result h f e =
-      let k = subst (λ r. listed r c.write_failed ≡ Err fault.Write) f.0 e in cc
+      let k = subst (λ r. list_result r c.write_failed ≡ Err fault.Write) f.0 e in cc
   write_had_failed rows a b c (Err walk.Store) result h f e =
-      let k = subst (λ r. listed r c.write_failed ≡ Err fault.Write) f.0 e in cc
+      let k = subst (λ r. list_result r c.write_failed ≡ Err fault.Write) f.0 e in cc
 
   -- a list was written at the same writer and calls, and ends with Write only after a write that failed
   pub list_ended : (rows : List R) (a b c : Lines W)
       (end result : Result (Unit {0}) WalkFault) (last : Result (Unit {0}) ListFault)
       → Hands Wrote Stopped rows a b end → SameEnds b c → Finishes contents b c end result
-      → last ≡ listed result c.write_failed → SameEnds a c × (last ≡ Err fault.Write → c.calls.now.write_failed ≡ true)
+      → last ≡ list_result result c.write_failed
+      → SameEnds a c × (last ≡ Err fault.Write → c.calls.now.write_failed ≡ true)
   list_ended rows a b c end result last h same f e = (
     then_same a b c (same_ends rows a b end h) same,
     λ failed. write_had_failed rows a b c end result h f (sym e ∙ failed),
@@ -206,8 +207,8 @@ module _ {W R : Type 0} (contents : W → Option (List ℕ)) (line : R → List 
   -- the sink stopped as it was to write the lines of rows
   stopped : (failed : Bool) (w old new : Option (List ℕ)) (header : List ℕ) (rows sent more rest : List R)
       (bytes : List ℕ) → rows ≡ (sent ++ more) ++ rest → bytes ≡ flat_map line more
-      → Appends w old (list_text header line sent) → StopsBy failed old new bytes
-      → Ends line w new header rows (listed (Err walk.Stopped) failed)
+      → Appends w old (list_text header line sent) → StopsAtLine failed old new bytes
+      → Ends line w new header rows (list_result (Err walk.Stopped) failed)
   stopped true w old new header rows sent more rest bytes e same first stop =
       let whole : list_text header line rows ≡ (list_text header line sent ++ bytes) ++ flat_map line rest =
       ap (λ l. list_text header line l) e ∙ sym (text_of_both header (sent ++ more) rest)
@@ -222,7 +223,7 @@ module _ {W R : Type 0} (contents : W → Option (List ℕ)) (line : R → List 
   -- the rest of the rows wasn't written, or the rest of them was
   rest_stopped : (w : Option (List ℕ)) (header : List ℕ) (rows taken rest : List R) (b c : Lines W)
       → rows ≡ taken ++ rest → Stands w header taken b → StopsAtWrite contents b c b.gathered.now
-      → Ends line w (contents c.writer.now) header rows (listed (Err walk.Stopped) c.write_failed)
+      → Ends line w (contents c.writer.now) header rows (list_result (Err walk.Stopped) c.write_failed)
   rest_stopped w header rows taken rest b c e (sent, held, all, written, gathered) f =
       stopped c.write_failed w (contents b.writer.now) (contents c.writer.now) header rows sent held rest b.gathered.now
       (e ∙ ap (λ l. l ++ rest) all) gathered written f.0
@@ -230,9 +231,9 @@ module _ {W R : Type 0} (contents : W → Option (List ℕ)) (line : R → List 
   -- what was gathered before the walk failed isn't written
   walk_failed : (w : Option (List ℕ)) (header : List ℕ) (rows taken rest : List R) (b c : Lines W)
       → rows ≡ taken ++ rest → Stands w header taken b → c ≡ b
-      → (front : List ℕ) × IsFront (Some (listing header line rows)) front × Appends w (contents c.writer.now) front
+      → (front : List ℕ) × IsListFront (Some (listing header line rows)) front × Appends w (contents c.writer.now) front
   walk_failed w header rows taken rest b c e (sent, held, all, written, gathered) same =
-      subst (λ (s : Lines W). (front : List ℕ) × IsFront (Some (listing header line rows)) front
+      subst (λ (s : Lines W). (front : List ℕ) × IsListFront (Some (listing header line rows)) front
       × Appends w (contents s.writer.now) front) (sym same)
       (front_ends line w (contents b.writer.now) header rows sent (held ++ rest)
       (e ∙ ap (λ l. l ++ rest) all ∙ append_assoc sent held rest) written)
@@ -251,7 +252,7 @@ module _ {W R : Type 0} (contents : W → Option (List ℕ)) (line : R → List 
   walk_stopped : (w : Option (List ℕ)) (header : List ℕ) (rows taken : List R) (row : R) (rest : List R)
       (last b : Lines W) → rows ≡ taken ++ row ∷ rest → Stands w header taken last
       → StopsAtWrite contents last b (last.gathered.now ++ line row)
-      → Ends line w (contents b.writer.now) header rows (listed (Err walk.Stopped) b.write_failed)
+      → Ends line w (contents b.writer.now) header rows (list_result (Err walk.Stopped) b.write_failed)
   walk_stopped w header rows taken row rest last b e (sent, held, all, written, gathered) f =
       stopped b.write_failed w (contents last.writer.now) (contents b.writer.now) header rows sent
       (held ++ row ∷ []) rest (last.gathered.now ++ line row)
@@ -262,13 +263,13 @@ module _ {W R : Type 0} (contents : W → Option (List ℕ)) (line : R → List 
   pub list_written : (w : Option (List ℕ)) (header : List ℕ) (rows handed : List R) (a b c : Lines W)
       (end result : Result (Unit {0}) WalkFault) → Appends w (contents a.writer.now) header → a.gathered.now ≡ []
       → handed ≡ rows → Hands Wrote Stopped handed a b end → Finishes contents b c end result
-      → Ends line w (contents c.writer.now) header rows (listed result c.write_failed)
+      → Ends line w (contents c.writer.now) header rows (list_result result c.write_failed)
   list_written w header rows handed a b c (Err walk.Stopped) result first none e h f =
       let here = walk_stopped w header rows h.0 h.1 h.2 h.4 b (sym e ∙ h.3)
       (from_header w header h.0 a h.4 first none h.5) h.6.1 in
-      subst (λ r. Ends line w (contents c.writer.now) header rows (listed r c.write_failed)) (sym f.0)
+      subst (λ r. Ends line w (contents c.writer.now) header rows (list_result r c.write_failed)) (sym f.0)
       (subst (λ (s : Lines W). Ends line w (contents s.writer.now) header rows
-      (listed (Err walk.Stopped) s.write_failed)) (sym f.1) here)
+      (list_result (Err walk.Stopped) s.write_failed)) (sym f.1) here)
   list_written w header rows handed a b c (Ok done) (Err walk.Stopped) first none e h f = rest_stopped w header rows
       handed [] b c (sym e ∙ sym (append-nil handed)) (from_header w header handed a b first none h) f
   list_written w header rows handed a b c (Ok done) (Ok ended) first none e h f =
@@ -278,8 +279,8 @@ module _ {W R : Type 0} (contents : W → Option (List ℕ)) (line : R → List 
   list_written w header rows handed a b c (Ok done) (Err walk.Memory) first none e h f = absurd f
   list_written w header rows handed a b c (Ok done) (Err walk.Store) first none e h f = absurd f
   list_written w header rows handed a b c (Err walk.Memory) result first none e h f =
-      subst (λ r. Ends line w (contents c.writer.now) header rows (listed r c.write_failed)) (sym f.0)
+      subst (λ r. Ends line w (contents c.writer.now) header rows (list_result r c.write_failed)) (sym f.0)
       (walk_failed w header rows h.0 h.1 b c (sym e ∙ h.2) (from_header w header h.0 a b first none h.3) f.1)
   list_written w header rows handed a b c (Err walk.Store) result first none e h f =
-      subst (λ r. Ends line w (contents c.writer.now) header rows (listed r c.write_failed)) (sym f.0)
+      subst (λ r. Ends line w (contents c.writer.now) header rows (list_result r c.write_failed)) (sym f.0)
       (walk_failed w header rows h.0 h.1 b c (sym e ∙ h.2) (from_header w header h.0 a b first none h.3) f.1)

@@ -3,7 +3,7 @@ use Rattle.std.specs.Prelude.{◌≡◌, ℕ, ◌⊎◌, true, List, [], ◌++�
 use Rattle.std.specs.Io.KnownBytes.{Appends, Keeps}
 use Rattle.hotel_core.specs.declared.books.walks.WalkFault.{WalkFault}
 use Rattle.hotel_core.specs.declared.books.walks.WalkFault.TheVariants as walk
-use Rattle.hotel_lists.specs.{Calls.NoneForgotten, Lines.StopsBy, declared.lines.Lines.Lines}
+use Rattle.hotel_lists.specs.{Calls.NoneForgotten, Lines.StopsAtLine, declared.lines.Lines.Lines}
 
 -- It has the same writer and the same calls, of which none was forgotten.
 pub record SameEnds {W : Type 0} (old new : Lines W) : Type 0 where
@@ -19,7 +19,8 @@ Gathers contents old new line =
 
 -- It stopped as it was to write these bytes: a write failed, or memory was refused.
 abbrev pub StopsAtWrite : {W : Type 0} → (W → Option (List ℕ)) → Lines W → Lines W → List ℕ → Type 0
-StopsAtWrite contents old new bytes = StopsBy new.write_failed (contents old.writer.now) (contents new.writer.now) bytes
+StopsAtWrite contents old new bytes =
+    StopsAtLine new.write_failed (contents old.writer.now) (contents new.writer.now) bytes
     × (new.write_failed ≡ true → new.calls.now.write_failed ≡ true)
 
 -- How a walk's end became that of the list: after its last row the sink wrote what it had gathered, or stopped; after

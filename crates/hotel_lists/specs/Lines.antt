@@ -79,16 +79,16 @@ abbrev pub audit_header : List ℕ
 audit_header = codes "room,fit,count,kind,card,old,new,at\n"
 
 -- A writer stopped at a line: it took a front of it where the write failed, and nothing of it otherwise.
-abbrev pub StopsBy : Bool → Option (List ℕ) → Option (List ℕ) → List ℕ → Type 0
-StopsBy true old new line = AppendsFront old new line
-StopsBy false old new line = Keeps old new
+abbrev pub StopsAtLine : Bool → Option (List ℕ) → Option (List ℕ) → List ℕ → Type 0
+StopsAtLine true old new line = AppendsFront old new line
+StopsAtLine false old new line = Keeps old new
 
 -- how a list ended, where its walk ended so, and the sink stopped for a failed write or not
-abbrev pub listed : Result (Unit {0}) WalkFault → Bool → Result (Unit {0}) ListFault
-listed (Ok done) write_failed = Ok tt
-listed (Err walk.Memory) write_failed = Err fault.Memory
-listed (Err walk.Store) write_failed = Err fault.Store
-listed (Err walk.Stopped) write_failed = if write_failed then Err fault.Write else Err fault.Memory
+abbrev pub list_result : Result (Unit {0}) WalkFault → Bool → Result (Unit {0}) ListFault
+list_result (Ok done) write_failed = Ok tt
+list_result (Err walk.Memory) write_failed = Err fault.Memory
+list_result (Err walk.Store) write_failed = Err fault.Store
+list_result (Err walk.Stopped) write_failed = if write_failed then Err fault.Write else Err fault.Memory
 
 -- What the calls of a list told that failed for this cause: the last one this. Memory of the list's own may have been
 -- wanting, which no call told.
@@ -113,14 +113,14 @@ pub record LooksAt {B : Type 0} (K : KeptOf B) (old new : B) (result : Result (U
   pub tells : ListTold result told
 
 -- no row and no header can have been written
-abbrev pub is_early : Result (Unit {0}) ListFault → Bool
-is_early (Ok done) = false
-is_early (Err fault.NoRoom) = true
-is_early (Err fault.Memory) = true
-is_early (Err fault.Store) = true
-is_early (Err fault.Write) = false
+abbrev pub is_before_rows : Result (Unit {0}) ListFault → Bool
+is_before_rows (Ok done) = false
+is_before_rows (Err fault.NoRoom) = true
+is_before_rows (Err fault.Memory) = true
+is_before_rows (Err fault.Store) = true
+is_before_rows (Err fault.Write) = false
 
 -- the room is there, or it isn't and the answer is NoRoom, unless memory or the store failed
 abbrev pub FindsRoom : Option RoomRow → Result (Unit {0}) ListFault → Type 0
 FindsRoom (Some row) result = (result ≡ Err fault.NoRoom → ⊥) × (result ≡ Err fault.Write → ⊥)
-FindsRoom None result = is_early result ≡ true
+FindsRoom None result = is_before_rows result ≡ true

@@ -48,9 +48,9 @@ in_full no_room None = no_room
 in_full no_room (Some listing) = listing.header ++ concat listing.lines
 
 -- The header of a list and some whole lines from the first on; or nothing.
-abbrev pub IsFront : Option Listing → List ℕ → Type 0
-IsFront None text = text ≡ []
-IsFront (Some listing) text = (text ≡ []) ⊎ ((taken : List (List ℕ)) × (rest : List (List ℕ))
+abbrev pub IsListFront : Option Listing → List ℕ → Type 0
+IsListFront None text = text ≡ []
+IsListFront (Some listing) text = (text ≡ []) ⊎ ((taken : List (List ℕ)) × (rest : List (List ℕ))
     × (listing.lines ≡ taken ++ rest) × (text ≡ listing.header ++ concat taken))
 
 -- What a writer took of a list that ended so, where this is said if its room isn't there: all; a front after a write of
@@ -61,5 +61,7 @@ ListEnds no_room listing old new (Err fault.NoRoom) =
     (is_some listing ≡ false) × Appends old new (in_full no_room listing)
 ListEnds no_room listing old new (Err fault.Write) =
     (is_some listing ≡ false → no_room ≢ []) × AppendsFront old new (in_full no_room listing)
-ListEnds no_room listing old new (Err fault.Memory) = (front : List ℕ) × IsFront listing front × Appends old new front
-ListEnds no_room listing old new (Err fault.Store) = (front : List ℕ) × IsFront listing front × Appends old new front
+ListEnds no_room listing old new (Err fault.Memory) =
+    (front : List ℕ) × IsListFront listing front × Appends old new front
+ListEnds no_room listing old new (Err fault.Store) =
+    (front : List ℕ) × IsListFront listing front × Appends old new front

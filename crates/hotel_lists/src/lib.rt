@@ -1,4 +1,11 @@
-//! The lists of the desk as text, and the loops over one reader or writer that carry texts.
+//! The lists of the desk as text, and the loops over one reader or writer that carry texts. Neither verbs nor tables
+//! are known here.
+//!
+//! - src: bytes, calls; specs: Bytes, Calls, Reads: a writer took all of some bytes or a front of them; the reads and
+//!   writes of one call; when a reader is read.
+//! - src: line, lines, gathered, listing, lists, write_lists; Lines, Gathered, LineSink, Listings: the line of each
+//!   row, by `csv`'s row text; what a list wrote, and which faults its calls reported, by how it ended.
+//! - src: fault; Faults: the refusal that a list's fault is answered by.
 #![tactic(auto)]
 
 mod bytes;

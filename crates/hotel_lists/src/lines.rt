@@ -1,7 +1,7 @@
 //! A sink that writes the lines of a list.
 ghost use Rattle.std.specs.Prelude.{◌≡◌, [], OnOk, OnErr};
 ghost use Rattle.std.specs.Io.KnownBytes.{Appends};
-ghost use Rattle.hotel_lists.specs.{LineSink.SameEnds, LineSink.StopsAtWrite, LineSink.Finishes, Lines.listed};
+ghost use Rattle.hotel_lists.specs.{LineSink.SameEnds, LineSink.StopsAtWrite, LineSink.Finishes, Lines.list_result};
 
 use crate::bytes::write_bytes;
 use crate::calls::IoCalls;
@@ -98,7 +98,7 @@ impl<'a, W: Write, R: Line> Sink<R> for Lines<'a, W> {
 
 /// How a list ended, where its walk ended so.
 pub(crate) fn listed(end: Result<(), WalkFault>, write_failed: bool) -> Result<(), ListFault>
-    ensures { result ≡ listed end write_failed }
+    ensures { result ≡ list_result end write_failed }
 {
     match end {
         Ok(()) => Ok(()),

@@ -3,7 +3,7 @@ use hotel_nights::Day;
 use keycard_rules::{Card, Code, FitNo, PartyNo};
 
 /// The answer to one command.
-#[derive(Clone, Copy, Debug)]
+#[derive(Clone, Copy, Debug, PartialEq, Eq)]
 pub enum Reply {
     Begun,
     KindAdded,
@@ -23,7 +23,7 @@ pub enum Reply {
 }
 
 /// Why a command was refused.
-#[derive(Clone, Copy, Debug)]
+#[derive(Clone, Copy, Debug, PartialEq, Eq)]
 pub enum Refusal {
     /// No business day is set.
     NotBegun,

@@ -1,8 +1,12 @@
-//! Days, moments, kinds of rooms, guests, stays, and the first night on which a kind of rooms is full.
+//! Days, moments, kinds of rooms, guests, stays, and the first night on which a kind of rooms is full. No lock is known
+//! here.
 //!
 //! Contracts see a day and a number of nights as numbers, a moment as a pair of numbers, and a kind and a guest as
 //! bytes. Each reader of bytes answers the value that one function of `specs/` gives for them, so it takes exactly that
 //! function's texts. Only `Guest::read` and the copies of guests and stays take memory.
+//!
+//! - Days, Moments, Kinds, Guests of specs: their texts and values. FullNight: full nights; Block: stays counted by
+//!   blocks of nights.
 #![tactic(auto)]
 
 mod block;

@@ -15,9 +15,9 @@ use Rattle.hotel_http.specs.declared.serve.Served.{Served}
 use Rattle.hotel_http.specs.declared.serve.ServeFault.{ServeFault}
 use Rattle.hotel_http.specs.declared.serve.ServeFault.TheVariants.{Closed, Read, Memory, Write}
 use Rattle.hotel_http.specs.{Body.interim_where, Serve.ServesOver}
-use Rattle.hotel_program.specs.Faults.{TellsAll}
+use Rattle.hotel_program.specs.Faults.{ReportsAll}
 use Rattle.hotel_program.specs.Connections.{AllCame, ConnectionCame, ConnectionEnd, ConnectionHappens, ServersFollow}
-use Rattle.hotel_program.specs.Connections.{connection_end, fault_in, faults_of}
+use Rattle.hotel_program.specs.Connections.{connection_end, faults_at, faults_of}
 use Rattle.hotel_program.specs.declared.faults.Fault.{Fault}
 
 module _ {S R : Type 0} (K : KeptOf S) (rows : S → Rows) (stream : R → Stream) where
@@ -99,16 +99,16 @@ module _ {S R : Type 0} (K : KeptOf S) (rows : S → Rows) (stream : R → Strea
 
 -- faults and then others
 told_both : {F : Type 0} (told : F → Fault → F → Type 0) (first more : List Fault) (old mid new : F)
-    → TellsAll told old first mid → TellsAll told mid more new → TellsAll told old (first ++ more) new
-told_both {F} told [] more old mid new came next = subst (λ (x : F). TellsAll told x more new) came next
+    → ReportsAll told old first mid → ReportsAll told mid more new → ReportsAll told old (first ++ more) new
+told_both {F} told [] more old mid new came next = subst (λ (x : F). ReportsAll told x more new) came next
 told_both told (fault ∷ first) more old mid new came next =
     (came.0, came.1, told_both told first more came.0 mid new came.2 next)
 
 -- The faults of connections and then of others.
 pub then_told : {F : Type 0} (told : F → Fault → F → Type 0) (first more : List ConnectionEnd) (old mid new : F)
-    → TellsAll told old (faults_of first) mid → TellsAll told mid (faults_of more) new
-    → TellsAll told old (faults_of (first ++ more)) new
+    → ReportsAll told old (faults_of first) mid → ReportsAll told mid (faults_of more) new
+    → ReportsAll told old (faults_of (first ++ more)) new
 then_told told first more old mid new came next =
-    subst (λ (faults : List Fault). TellsAll told old faults new)
-    (sym (flat_map-append (λ (end : ConnectionEnd). fault_in (connection_end end)) first more))
+    subst (λ (faults : List Fault). ReportsAll told old faults new)
+    (sym (flat_map-append (λ (end : ConnectionEnd). faults_at (connection_end end)) first more))
     (told_both told (faults_of first) (faults_of more) old mid new came next)

@@ -31,7 +31,7 @@ use Rattle.hotel_http.specs.declared.tasks.Task.TheVariants as task
 use Rattle.hotel_http.specs.declared.serve.ServeFault.TheVariants.{Closed, Read, Memory, Write}
 use Rattle.hotel_http.specs.Request.{Wanted}
 use Rattle.keycard_rules.specs.Calls.{Told}
-use Rattle.hotel_http.specs.Serve.{Comes, Outcome, TaskComes, imported, is_accepted, listed}
+use Rattle.hotel_http.specs.Serve.{Comes, FullAnswer, TaskComes, imported, is_accepted, list_reply}
 use Rattle.hotel_program.specs.Connections.{ConnectionCame, ConnectionEnd, ConnectionHappens}
 use Rattle.hotel_program.specs.Script.{Asks.ask_in, LineAnswers.AskGoes, LineAnswers.CommandTold, LineAnswers.ListAsked}
 use Rattle.hotel_program.specs.Script.LineAnswers.{Sure}
@@ -102,7 +102,7 @@ not_taken (line.Note note ∷ lines) (given ∷ answers) more each k = absurd (f
 not_taken [] (given ∷ answers) more each k = absurd each
 not_taken (asks ∷ lines) [] more each k = absurd each
 
-list_takes_nothing : (listing : Option Listing) → (listed listing).acted ≡ false
+list_takes_nothing : (listing : Option Listing) → (list_reply listing).acted ≡ false
 list_takes_nothing None = refl
 list_takes_nothing (Some listing) = refl
 
@@ -117,23 +117,23 @@ import_takes_nothing body (Err (import.Memory answered taken)) lines answers eac
 import_takes_nothing body (Err (import.Store answered taken)) lines answers each ends k =
     sym ends.3 ∙ not_taken lines answers (failures_of (Err (import.Store answered taken))) each k
 
-task_takes_nothing : (wanted : Task) (body : List ℕ) (h h' : History) (s s' : Stream) (out : Outcome) (told : Told)
+task_takes_nothing : (wanted : Task) (body : List ℕ) (h h' : History) (s s' : Stream) (out : FullAnswer) (told : Told)
     → TaskComes wanted body h s out told h' s' → AllByRecursion (λ t. IsSome t) told → out.acted ≡ false
 task_takes_nothing (task.Asks (ask.Command command)) body h h' s s' out told came k =
-    ap (λ (o : Outcome). o.acted) came.2
+    ap (λ (o : FullAnswer). o.acted) came.2
     ∙ not_accepted came.0 (subst (AllByRecursion (λ t. IsSome t)) came.3 k).0
 task_takes_nothing (task.Asks (ask.List its_list)) body h h' s s' out told (inl came, e, f) k =
-    ap (λ (o : Outcome). o.acted) came.0 ∙ list_takes_nothing (listing_over h its_list)
+    ap (λ (o : FullAnswer). o.acted) came.0 ∙ list_takes_nothing (listing_over h its_list)
 task_takes_nothing (task.Asks (ask.List its_list)) body h h' s s' out told (inr came, e, f) k =
-    ap (λ (o : Outcome). o.acted) came.1
+    ap (λ (o : FullAnswer). o.acted) came.1
 task_takes_nothing task.Audit body h h' s s' out told came k =
-    ap (λ (o : Outcome). o.acted) came.6
+    ap (λ (o : FullAnswer). o.acted) came.6
     ∙ import_takes_nothing body came.0 came.1 came.2 came.3 came.4 (subst (AllByRecursion (λ t. IsSome t)) came.7 k)
 
-takes_nothing : (wanted : Wanted) (h h' : History) (s s' : Stream) (out : Outcome) (told : Told)
+takes_nothing : (wanted : Wanted) (h h' : History) (s s' : Stream) (out : FullAnswer) (told : Told)
     → Comes wanted h s out told h' s' → AllByRecursion (λ t. IsSome t) told → out.acted ≡ false
 takes_nothing (Ok given) h h' s s' out told came k = task_takes_nothing given.0 given.1 h h' s s' out told came k
-takes_nothing (Err why) h h' s s' out told came k = ap (λ (o : Outcome). o.acted) came.0
+takes_nothing (Err why) h h' s s' out told came k = ap (λ (o : FullAnswer). o.acted) came.0
 
 took_nothing : (end : ConnectionEnd) (h h' : History) (s s' : Stream) (told : Told)
     → ConnectionCame end h s told h' s' → AllByRecursion (λ t. IsSome t) told → TookNothing end

@@ -17,7 +17,7 @@ use Rattle.hotel_audit.specs.declared.imports.ImportFault.{ImportFault}
 use Rattle.hotel_audit.specs.{AuditFile.audit_lines, Import.Imports}
 use Rattle.hotel_program.specs.Alone.AuditRuns.{audit_end, WritesAnswers}
 use Rattle.hotel_program.specs.Alone.CommandRuns.{command_end, WritesReply}
-use Rattle.hotel_program.specs.Faults.{end_status, Tells, TellsAll}
+use Rattle.hotel_program.specs.Faults.{end_status, Reports, ReportsAll}
 use Rattle.hotel_program.specs.Alone.ListRuns.{AnswerEndsFor, list_end}
 use Rattle.hotel_program.specs.Program.{script_end}
 use Rattle.hotel_program.specs.Script.WholeScript.{ScriptRan}
@@ -64,7 +64,7 @@ views kept rows stream contents told bound = record {
 -- An act ended by this status, or by this fault, which was told.
 abbrev pub EndsBy : {S R W F E : Type 0} → Views S R W F E → Result ℕ Fault → ℕ → Desk S R W F E → Desk S R W F E
     → Type 0
-EndsBy v end status old new = (status ≡ end_status end) × Tells v.told old.faults end new.faults
+EndsBy v end status old new = (status ≡ end_status end) × Reports v.told old.faults end new.faults
 
 -- One command: a step of the model, and its reply.
 abbrev pub OneEnds : {S R W F E : Type 0} → Views S R W F E → Command → ℕ → Desk S R W F E → Desk S R W F E → Type 0
@@ -102,9 +102,9 @@ abbrev pub listening_text : ℕ → List ℕ
 listening_text port = codes "listening on 127.0.0.1:" ++ decimal port ++ codes "\n"
 
 -- Connections were served: this many, each to its end, and the faults of these ends were told.
-abbrev pub Serves : {S R W F E : Type 0} → Views S R W F E → ℕ → Desk S R W F E → Desk S R W F E → Type 0
-Serves v count old new =
-    (ends : List ConnectionEnd) × (length ends ≡ count) × TellsAll v.told old.faults (faults_of ends) new.faults
+abbrev pub ServesConnections : {S R W F E : Type 0} → Views S R W F E → ℕ → Desk S R W F E → Desk S R W F E → Type 0
+ServesConnections v count old new =
+    (ends : List ConnectionEnd) × (length ends ≡ count) × ReportsAll v.told old.faults (faults_of ends) new.faults
     × Passes (ConnectionHappens v.kept v.rows v.stream) (old.books, old.source) ends (new.books, new.source)
 
 -- Books and source are as they were.
@@ -115,7 +115,7 @@ Untouched old new = (new.books ≡ old.books) × (new.source ≡ old.source)
 abbrev pub ListensTo : {S R W F E : Type 0} → Views S R W F E → ℕ → ℕ → Bool → ℕ → Desk S R W F E → Desk S R W F E
     → Type 0
 ListensTo v port count false status old new = (status ≡ 0)
-    × Appends (v.contents old.writer) (v.contents new.writer) (listening_text port) × Serves v count old new
+    × Appends (v.contents old.writer) (v.contents new.writer) (listening_text port) × ServesConnections v count old new
 ListensTo v port count true status old new = EndsBy v (Err fault.Write) status old new
     × AppendsFront (v.contents old.writer) (v.contents new.writer) (listening_text port) × Untouched old new
 

@@ -12,7 +12,7 @@ use Rattle.hotel_http.specs.declared.serve.ServeFault.TheVariants as serve
 use Rattle.hotel_http.specs.Request.{Wanted}
 use Rattle.keycard_rules.specs.Calls.{Told}
 use Rattle.hotel_core.specs.Books.Happens.{HappensBy}
-use Rattle.hotel_http.specs.Serve.{Comes, Outcome}
+use Rattle.hotel_http.specs.Serve.{Comes, FullAnswer}
 use Rattle.hotel_program.specs.Timed.{SecondSet}
 use Rattle.hotel_program.specs.declared.connections.TheConstants.{PAUSE}
 use Rattle.hotel_program.specs.declared.timed.TheConstants.{PATIENCE}
@@ -28,8 +28,8 @@ abbrev pub NothingCame : History → Stream → Told → History → Stream → 
 NothingCame h s told h' s' = (told ≡ []) × (h' ≡ h) × (s' ≡ s)
 
 -- What a request asks for came of calls that told this; its answer has this in it.
-abbrev pub RequestCame : (Outcome → Type 0) → History → Stream → Told → History → Stream → Type 0
-RequestCame said h s told h' s' = (wanted : Wanted) × (out : Outcome) × Comes wanted h s out told h' s' × said out
+abbrev pub RequestCame : (FullAnswer → Type 0) → History → Stream → Told → History → Stream → Type 0
+RequestCame said h s told h' s' = (wanted : Wanted) × (out : FullAnswer) × Comes wanted h s out told h' s' × said out
 
 -- What came of a connection that ended so.
 abbrev pub ConnectionCame : ConnectionEnd → History → Stream → Told → History → Stream → Type 0
@@ -83,23 +83,23 @@ LacksLimits {S} {L} reads_limited writes_limited =
     × SecondSet (λ l set l'. writes_limited stream l PATIENCE set l') first mid new false
 
 -- The fault of a request that wasn't served.
-abbrev pub fault_of : ServeFault → Fault
-fault_of serve.Closed = Closed
-fault_of serve.Read = Read
-fault_of serve.Memory = Memory
-fault_of (serve.Write acted) = Write
+abbrev pub connection_fault : ServeFault → Fault
+connection_fault serve.Closed = Closed
+connection_fault serve.Read = Read
+connection_fault serve.Memory = Memory
+connection_fault (serve.Write acted) = Write
 
 -- The fault of a connection that ended so: one that couldn't be taken is closed.
 abbrev pub connection_end : ConnectionEnd → Result (Unit {0}) Fault
 connection_end (Some (Ok served)) = Ok tt
-connection_end (Some (Err why)) = Err (fault_of why)
+connection_end (Some (Err why)) = Err (connection_fault why)
 connection_end None = Err Closed
 
 -- The fault that is told, if there is one.
-abbrev pub fault_in : Result (Unit {0}) Fault → List Fault
-fault_in (Ok done) = []
-fault_in (Err fault) = fault ∷ []
+abbrev pub faults_at : Result (Unit {0}) Fault → List Fault
+faults_at (Ok done) = []
+faults_at (Err fault) = fault ∷ []
 
 -- The faults that are told of connections that ended so.
 abbrev pub faults_of : List ConnectionEnd → List Fault
-faults_of ends = flat_map (λ end. fault_in (connection_end end)) ends
+faults_of ends = flat_map (λ end. faults_at (connection_end end)) ends

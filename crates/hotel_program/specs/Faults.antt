@@ -79,9 +79,9 @@ end_status (Ok status) = status
 end_status (Err fault) = fault_status fault
 
 -- A fault was told, once; nothing was where there is none.
-abbrev pub Tells : {F : Type 0} → (F → Fault → F → Type 0) → F → Result ℕ Fault → F → Type 0
-Tells told old (Ok status) new = new ≡ old
-Tells told old (Err fault) new = told old fault new
+abbrev pub Reports : {F : Type 0} → (F → Fault → F → Type 0) → F → Result ℕ Fault → F → Type 0
+Reports told old (Ok status) new = new ≡ old
+Reports told old (Err fault) new = told old fault new
 
 -- The line of a fault was heard, where the reads and writes of the call that came to it went so.
 abbrev pub IsHeard : {F : Type 0} → (F → List ℕ → Calls → F → Type 0) → F → Result ℕ Fault → Calls → F → Type 0
@@ -89,6 +89,6 @@ IsHeard heard old (Ok status) calls new = Unit {0}
 IsHeard heard old (Err fault) calls new = heard old (fault_text fault) calls new
 
 -- Faults were told, one after the other.
-abbrev pub TellsAll : {F : Type 0} → (F → Fault → F → Type 0) → F → List Fault → F → Type 0
-TellsAll {F} told old [] new = new ≡ old
-TellsAll {F} told old (fault ∷ faults) new = (mid : F) × told old fault mid × TellsAll told mid faults new
+abbrev pub ReportsAll : {F : Type 0} → (F → Fault → F → Type 0) → F → List Fault → F → Type 0
+ReportsAll {F} told old [] new = new ≡ old
+ReportsAll {F} told old (fault ∷ faults) new = (mid : F) × told old fault mid × ReportsAll told mid faults new

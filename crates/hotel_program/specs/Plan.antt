@@ -88,8 +88,8 @@ desk_with books source outer around =
     record { books = books; source = source; writer = outer.writer; faults = outer.faults; around = around }
 
 -- It stopped by a fault, which was told; nothing was written, and nothing more was asked of the surroundings.
-abbrev pub StopsBy : {D W F E : Type 0} → OuterViews D W F E → Fault → E → ℕ → Outer W F E → Outer W F E → Type 0
-StopsBy v why at status old new =
+abbrev pub EndsEarly : {D W F E : Type 0} → OuterViews D W F E → Fault → E → ℕ → Outer W F E → Outer W F E → Type 0
+EndsEarly v why at status old new =
     (status ≡ fault_status why) × v.told old.faults why new.faults × (new.writer ≡ old.writer) × (new.around ≡ at)
 
 -- An act over new books in memory.
@@ -105,7 +105,7 @@ abbrev pub AfterOpen : {D W F E : Type 0} → OuterViews D W F E → Option (Lis
 AfterOpen {D} v known act bytes source (Ok books) at status old new = (books' : D) × (later : ChaCha)
     × ActEnds (database_views v) known bytes act status (desk_with books source old at)
     (desk_with books' later new new.around)
-AfterOpen v known act bytes source (Err why) at status old new = StopsBy v why at status old new
+AfterOpen v known act bytes source (Err why) at status old new = EndsEarly v why at status old new
 
 -- An act over books in memory, or over those of the database that is named.
 abbrev pub OverBooks : {D W F E : Type 0} → OuterViews D W F E → Option (List ℕ) → DeskAct → List ℕ → ChaCha
@@ -126,7 +126,7 @@ abbrev pub AfterFile : {D W F E : Type 0} → OuterViews D W F E → Option (Lis
     → E → ℕ → Outer W F E → Outer W F E → Type 0
 AfterFile v known plan source (Ok bytes) at status old new =
     OverBooks v known plan.act bytes source plan.db at status old new
-AfterFile v known plan source (Err why) at status old new = StopsBy v why at status old new
+AfterFile v known plan source (Err why) at status old new = EndsEarly v why at status old new
 
 -- What comes of a seed that was asked for.
 abbrev pub AfterSeed : {D W F E : Type 0} → OuterViews D W F E → Option (List ℕ) → Plan → Result (List ℕ) Fault → E → ℕ
@@ -134,7 +134,7 @@ abbrev pub AfterSeed : {D W F E : Type 0} → OuterViews D W F E → Option (Lis
 AfterSeed {D} {W} {F} {E} v known plan (Ok seed) at status old new =
     (file : Result (List ℕ) Fault) × (then : E) × FileIsRead v.file_read plan.act at file then × AfterFile v known plan
     (of_seed seed) file then status old new
-AfterSeed v known plan (Err why) at status old new = StopsBy v why at status old new
+AfterSeed v known plan (Err why) at status old new = EndsEarly v why at status old new
 
 -- A plan was carried out: the seed was asked for, then the audit file, then the database, then the port; the first
 -- fault ended it.

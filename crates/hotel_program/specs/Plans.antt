@@ -26,14 +26,14 @@ use Rattle.hotel_program.specs.declared.command_line.plan.UsageFault.{UsageFault
 use Rattle.hotel_program.specs.declared.command_line.plan.UsageFault.TheVariants.{Shown, Usage, Value, Memory}
 
 -- The text that was given for a value.
-abbrev pub text_in : List Row → ValueName → Result Text ValueFault
-text_in rows name = ok_or (first_of (name_text name) rows) (fault.Value name)
+abbrev pub text_value : List Row → ValueName → Result Text ValueFault
+text_value rows name = ok_or (first_of (name_text name) rows) (fault.Value name)
 
 -- The texts that were given for values, in their order.
 abbrev pub texts_in : List Row → List ValueName → Result (List Text) ValueFault
 texts_in rows [] = Ok []
 texts_in rows (name ∷ names) = do
-  text ← text_in rows name
+  text ← text_value rows name
   texts ← texts_in rows names
   Ok (text ∷ texts)
 
@@ -56,9 +56,9 @@ verb_act verb rows = do
 -- The port and how many connections.
 abbrev pub serve_act : List Row → Result DeskAct ValueFault
 serve_act rows = do
-  port_text ← text_in rows Port
+  port_text ← text_value rows Port
   port ← number_in MOST_PORT Port port_text
-  count_text ← text_in rows Count
+  count_text ← text_value rows Count
   count ← number_in MOST_CONNECTIONS Count count_text
   Ok (Serve port count)
 
@@ -66,7 +66,7 @@ serve_act rows = do
 abbrev pub own_act : Text → List Row → Result DeskAct ValueFault
 own_act name rows =
     if bytes_eq name (codes "audit") then (do
-      file ← text_in rows File
+      file ← text_value rows File
       Ok (Audit file))
     else (if bytes_eq name (codes "serve") then serve_act rows else Ok Script)
 
@@ -76,12 +76,12 @@ act_by (Some verb) name rows = verb_act verb rows
 act_by None name rows = own_act name rows
 
 -- What a subcommand asks for, its values read from left to right.
-abbrev pub act_of : Text → List Row → Result DeskAct ValueFault
-act_of name rows = act_by (read_verb name) name rows
+abbrev pub desk_act : Text → List Row → Result DeskAct ValueFault
+desk_act name rows = act_by (read_verb name) name rows
 
 -- What the subcommand asks for, if there is one.
 abbrev pub act_in : Option (Text × List Row) → Option (Result DeskAct ValueFault)
-act_in = option_map (λ p. act_of p.0 p.1)
+act_in = option_map (λ p. desk_act p.0 p.1)
 
 -- A reading is as wanted, in the words of contracts, or there was no memory for it.
 abbrev pub IsRead : {A B : Type 0} → (B → A) → Result A ValueFault → Result B UsageFault → Type 0

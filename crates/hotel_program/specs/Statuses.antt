@@ -12,6 +12,6 @@ refusal_status Store = 4
 refusal_status _ = 3
 
 -- The status of a reply: 0 where it is no refusal.
-abbrev pub reply_status : Reply → ℕ
-reply_status (Refused why) = refusal_status why
-reply_status _ = 0
+abbrev pub exit_of_reply : Reply → ℕ
+exit_of_reply (Refused why) = refusal_status why
+exit_of_reply _ = 0

@@ -59,8 +59,8 @@ is_first waits (Err why) = false
 
 -- What a read leaves of the time of a connection, and whether its first byte is still waited for: as much as the call
 -- left; or, behind the first byte, `PATIENCE`.
-abbrev pub LeavesBehind : Bool → Result ℕ Error → ℕ → ℕ → Bool → Type 0
-LeavesBehind waits got left new waits' =
+abbrev pub LeavesTime : Bool → Result ℕ Error → ℕ → ℕ → Bool → Type 0
+LeavesTime waits got left new waits' =
     (new ≡ (if is_first waits got then PATIENCE else left)) × (waits' ≡ (if is_first waits got then false else waits))
 
 -- The shorter of two times.

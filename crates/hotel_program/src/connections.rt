@@ -7,10 +7,10 @@ ghost use Rattle.hotel_lists.specs.Calls.{CountsCalls, NoneForgotten, OnErrOf};
 ghost use Rattle.hotel_lists.specs.Reads.{ReadsWhile};
 ghost use Rattle.hotel_http.specs.{Request.WantsMore, Serve.IfUnwritten, Serve.ServesOver, Serve.served_in};
 ghost use Rattle.hotel_http.specs.declared.serve.ServeFault.TheVariants as serve;
-ghost use Rattle.hotel_program.specs.Faults.{TellsAll};
+ghost use Rattle.hotel_program.specs.Faults.{ReportsAll};
 ghost use Rattle.hotel_program.specs.declared.faults.Fault.TheVariants.{Read, Write};
 ghost use Rattle.hotel_program.specs.Connections.{ConnectionEnd, ConnectionHappens, LacksLimits, Takes, connection_end};
-ghost use Rattle.hotel_program.specs.Connections.{fault_of, faults_of};
+ghost use Rattle.hotel_program.specs.Connections.{connection_fault, faults_of};
 
 use crate::faults::{Fault, FaultSink};
 use crate::listener::{Link, Listener};
@@ -30,7 +30,7 @@ pub const PAUSE: u64 = 100_000_000;
 
 /// The fault of a request that wasn't served.
 fn fault_of(why: ServeFault) -> Fault
-    ensures { result ≡ fault_of why }
+    ensures { result ≡ connection_fault why }
 {
     match why {
         ServeFault::Closed => Fault::Closed,
@@ -139,7 +139,7 @@ fn serve_and_tell<L: Listener, B: Walks, R: Rng, F: FaultSink>(
     faults: &mut F,
     calls: &mut IoCalls,
 )
-    ensures ends { (end : ConnectionEnd) × TellsAll F.told faults.old (faults_of (end ∷ [])) faults.new
+    ensures ends { (end : ConnectionEnd) × ReportsAll F.told faults.old (faults_of (end ∷ [])) faults.new
         × Takes L.taken L.waited (LacksLimits L.Link.reads_limited L.Link.writes_limited) listener.old end listener.new
         × ConnectionHappens B.Kept B.rows R.stream (books.old, source.old) end (books.new, source.new) }
     ensures calls { NoneForgotten calls.old calls.new }
@@ -166,7 +166,7 @@ pub fn serve_connections<L: Listener + Drop, B: Walks, R: Rng, F: FaultSink>(
 ) -> u8
     ensures status { result ≡ 0 }
     ensures ends { (ends : List ConnectionEnd) × (length ends ≡ count)
-        × TellsAll F.told faults.old (faults_of ends) faults.new
+        × ReportsAll F.told faults.old (faults_of ends) faults.new
         × Passes (ConnectionHappens B.Kept B.rows R.stream) (books.old, source.old) ends (books.new, source.new)
         × (last : L) × Passes (Takes L.taken L.waited (LacksLimits L.Link.reads_limited L.Link.writes_limited))
         listener ends last }

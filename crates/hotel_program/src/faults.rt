@@ -3,7 +3,7 @@
 ghost use Rattle.std.specs.Prelude.{◌≡◌, ◌≤◌, length};
 ghost use Rattle.hotel_lists.specs.Calls.{NoneForgotten};
 ghost use Rattle.hotel_lists.specs.Bytes.{Writes};
-ghost use Rattle.hotel_program.specs.Faults.{table_text, fault_text, fault_status, end_status, IsHeard, Tells};
+ghost use Rattle.hotel_program.specs.Faults.{table_text, fault_text, fault_status, end_status, IsHeard, Reports};
 
 use crate::statuses::{BROKEN, FAILED, USAGE};
 use hotel_asks::ValueName;
@@ -182,7 +182,7 @@ impl<W: Write> FaultSink for W {
 /// The exit status of a call that came to this end. A fault is told first.
 pub fn finish<F: FaultSink>(end: Result<u8, Fault>, faults: &mut F, calls: &mut IoCalls) -> u8
     ensures status { result ≡ end_status end }
-    ensures told { Tells F.told faults.old end faults.new }
+    ensures told { Reports F.told faults.old end faults.new }
     ensures heard { IsHeard F.heard faults.old end calls.new faults.new }
     ensures calls { NoneForgotten calls.old calls.new }
 {

@@ -5,7 +5,7 @@ ghost use Rattle.hotel_lists.specs.declared.bytes.TheConstants.{READ_BYTES};
 ghost use Rattle.hotel_lists.specs.Calls.{CountsReads, OnErrOf};
 ghost use Rattle.hotel_lists.specs.Reads.{ReadsWhile};
 ghost use Rattle.hotel_program.specs.Faults.{IsOfFiles, IsOfReading, IsOfSeed};
-ghost use Rattle.hotel_program.specs.Files.{IsFront, read_fault};
+ghost use Rattle.hotel_program.specs.Files.{IsFrontUpTo, read_fault};
 ghost use Rattle.hotel_program.specs.declared.faults.Fault.TheVariants.{File, Seed};
 
 use crate::faults::Fault;
@@ -25,7 +25,7 @@ fn read_front<R: Read>(
     most: usize,
     calls: &mut IoCalls,
 ) -> Result<Vec<u8>, ReadFault>
-    ensures front { IfOk result (λ bytes. IfSome (R.remaining reader.old) (IsFront most bytes.items)) }
+    ensures front { IfOk result (λ bytes. IfSome (R.remaining reader.old) (IsFrontUpTo most bytes.items)) }
     ensures few { IfOk result (λ bytes. length bytes.items ≤ most + READ_BYTES) }
     ensures wanted { ReadsWhile (λ came. length came ≤ most) (R.remaining reader.old) (R.remaining reader.new) }
     ensures counted { CountsReads calls.old calls.new (OnErrOf result ReadFault.Read) }
@@ -80,7 +80,7 @@ pub fn audit_file_in<R: Read>(
     reader: &mut R,
     calls: &mut IoCalls,
 ) -> Result<Vec<u8>, Fault>
-    ensures bytes { IfOk result (λ bytes. IfSome (R.remaining reader.old) (IsFront AUDIT_BYTES bytes.items)) }
+    ensures bytes { IfOk result (λ bytes. IfSome (R.remaining reader.old) (IsFrontUpTo AUDIT_BYTES bytes.items)) }
     ensures few { IfOk result (λ bytes. length bytes.items ≤ AUDIT_BYTES + READ_BYTES) }
     ensures wanted { ReadsWhile (λ came. length came ≤ AUDIT_BYTES) (R.remaining reader.old) (R.remaining reader.new) }
     ensures fault { IfErr result IsOfFiles }

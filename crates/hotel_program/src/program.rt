@@ -8,7 +8,7 @@ ghost use Rattle.hotel_program.specs.declared.faults.Fault.TheVariants.{Usage, M
 ghost use Rattle.hotel_program.specs.declared.command_line.plan.DeskAct.TheVariants.{Script};
 ghost use Rattle.hotel_program.specs.declared.script.ScriptEnd.{ScriptEnd};
 ghost use Rattle.hotel_program.specs.declared.script.ScriptFault.{ScriptFault};
-ghost use Rattle.hotel_program.specs.Faults.{end_status, IsOfFiles, Tells};
+ghost use Rattle.hotel_program.specs.Faults.{end_status, IsOfFiles, Reports};
 ghost use Rattle.hotel_program.specs.Plan.{outer_views, AskForScript, FileIsRead, InMemory, OverBooks, PlanEnds};
 ghost use Rattle.hotel_program.specs.Plan.{UsageSaid, WordsEnd};
 ghost use Rattle.hotel_program.specs.Program.{HasNoWords, IfWords, IsNoText, LacksMemory, EndsOverNewDesk, script_end};
@@ -259,7 +259,7 @@ pub fn run_program<I: Read, W: Write, F: FaultSink, B: Walks + Drop, E: Database
     ensures memory { LacksMemory words → (result ≡ 4) × F.told faults.old Memory faults.new × (reader.new ≡ reader.old)
         × (writer.new ≡ writer.old) × (around.new ≡ around.old) }
     ensures script { HasNoWords words → (end : Result ScriptEnd ScriptFault) × (result ≡ end_status (script_end end))
-        × Tells F.told faults.old (script_end end) faults.new
+        × Reports F.told faults.old (script_end end) faults.new
         × EndsOverNewDesk W.contents (I.remaining reader.old) writer.old writer.new end × (around.new ≡ around.old) }
     ensures words { IfWords words (λ texts. WordsEnd (outer_views W.contents F.told F.shown E.seed_read E.file_read
         E.books_opened E.port_bound ⟦<ListBooks as Kept>⟧ B.Kept B.rows)

@@ -5,7 +5,7 @@ ghost use Rattle.hotel_lists.specs.{Calls.CountsCalls, Calls.CountsWrites, Calls
 ghost use Rattle.hotel_program.specs.declared.script.ScriptFault.TheVariants.{Read};
 ghost use Rattle.hotel_program.specs.Script.Lines.{answered_lines};
 ghost use Rattle.hotel_program.specs.Script.WholeScript.{IfCut, IfUnbegun, LinesAnswered, LinesCut, ScriptRan};
-ghost use Rattle.hotel_program.specs.Script.WholeScript.{fault_of};
+ghost use Rattle.hotel_program.specs.Script.WholeScript.{fault_of_script};
 
 mod asks;
 mod line_answers;
@@ -51,7 +51,7 @@ pub enum ScriptFault {
 }
 
 impl From<WholeFault> for ScriptFault {
-    ghost from_gives = { λ fault e. e ≡ fault_of fault };
+    ghost from_gives = { λ fault e. e ≡ fault_of_script fault };
 
     fn from(fault: WholeFault) -> ScriptFault {
         match fault {

@@ -1,7 +1,7 @@
 //! The exit statuses, and that of a reply.
 
 ghost use Rattle.std.specs.Prelude.{◌≡◌, ◌≢◌};
-ghost use Rattle.hotel_program.specs.Statuses.{reply_status};
+ghost use Rattle.hotel_program.specs.Statuses.{exit_of_reply};
 
 use hotel_core::{Refusal, Reply};
 
@@ -22,7 +22,7 @@ pub const BROKEN: u8 = 5;
 
 /// The exit status of a reply.
 pub fn status_of(reply: &Reply) -> u8
-    ensures status { result ≡ reply_status reply.now }
+    ensures status { result ≡ exit_of_reply reply.now }
     ensures no_usage { result ≢ 2 }
 {
     match reply {

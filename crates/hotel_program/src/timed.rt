@@ -5,7 +5,7 @@ ghost use Rattle.std.specs.Duration.{as_nanos};
 ghost use Rattle.std.specs.Io.{ReadsAtMost, WritesAtMost};
 ghost use Rattle.std.specs.Io.KnownBytes.{ReadConsumes, WriteAppends};
 ghost use Rattle.std.specs.declared.io.Error.{Error};
-ghost use Rattle.hotel_program.specs.Timed.{CallInTime, LeavesBehind, LingersOn, ReadsRest, SecondSet};
+ghost use Rattle.hotel_program.specs.Timed.{CallInTime, LeavesTime, LingersOn, ReadsRest, SecondSet};
 ghost use Rattle.hotel_program.specs.Timed.{is_first, left_after, shorter};
 
 use crate::listener::Link;
@@ -177,7 +177,7 @@ impl<'s, S, L: Link<S>> Read for TimedReader<'s, S, L> {
         ensures timed { (left : ℕ) × CallInTime (L.reads_limited self.old.stream.now) L.clock_read
             (λ old got new. L.was_read self.old.stream.now old got room.new new)
             self.old.link (as_nanos self.old.left) result left self.new.link
-            × LeavesBehind self.old.waits result left (as_nanos self.new.left) self.new.waits }
+            × LeavesTime self.old.waits result left (as_nanos self.new.left) self.new.waits }
     {
         let got = read_within(&mut self.link, self.stream, &mut self.left, room);
         if is_first(self.waits, &got) {

@@ -88,24 +88,24 @@ one_more_known before after plain_rows i d low known there others kind named =
 pub night_told : (s : Stored) (counts : Counts) (plain : PlainStay) (kind : List ℕ) (arrive more to : ℕ)
     (full : Option ℕ) → IsCountedOf s counts → kind ≡ string_bytes plain.kind
     → arrive ≡ number_of plain.arrive → more ≡ rooms_in counts.kinds kind + 1 → to ≡ arrive + 1
-    → full ≡ first_day (is_full (values_of (map stay_entry s.stays.items)) kind more) arrive (to - arrive)
+    → full ≡ first_day (is_full (values_of (map stay_entry s.stay.items)) kind more) arrive (to - arrive)
     → not (is_some full) ≡ has_night s plain
 unfolding first_day nights_taken
 night_told s counts plain kind arrive more to full h same from rooms next is =
     let one : to - arrive ≡ 1 = omega (arith, next) in
-    let taken = count_by (takes kind arrive) (values_of (map stay_entry s.stays.items)) in
+    let taken = count_by (takes kind arrive) (values_of (map stay_entry s.stay.items)) in
     let first : full ≡ cond (nat_le more taken) (Some arrive) None =
-    is ∙ ap (first_day (is_full (values_of (map stay_entry s.stays.items)) kind more) arrive) one in
+    is ∙ ap (first_day (is_full (values_of (map stay_entry s.stay.items)) kind more) arrive) one in
     let told : not (is_some full) ≡ nat_le taken (rooms_in counts.kinds kind) =
     ap (λ o. not (is_some o)) first ∙ by (nat_le more taken) refl in
     let counted_here : nat_le taken (rooms_in counts.kinds kind) ≡ nat_le (count_by
-    (λ (l : PlainStay). takes kind arrive (stay_row l)) s.stays.items) (count_by (is_room_of_kind kind) s.rooms.items) =
-    λ i. nat_le (sym (count_stays kind arrive s.stays.items) i) (h.0 kind i) in
-    told ∙ counted_here ∙ λ i. nat_le (count_by (λ (l : PlainStay). takes (same i) (from i) (stay_row l)) s.stays.items)
-    (count_by (is_room_of_kind (same i)) s.rooms.items)
+    (λ (l : PlainStay). takes kind arrive (stay_row l)) s.stay.items) (count_by (is_room_of_kind kind) s.room.items) =
+    λ i. nat_le (sym (count_stays kind arrive s.stay.items) i) (h.0 kind i) in
+    told ∙ counted_here ∙ λ i. nat_le (count_by (λ (l : PlainStay). takes (same i) (from i) (stay_row l)) s.stay.items)
+    (count_by (is_room_of_kind (same i)) s.room.items)
   where
-    by : (b : Bool) → nat_le more (count_by (takes kind arrive) (values_of (map stay_entry s.stays.items))) ≡ b
+    by : (b : Bool) → nat_le more (count_by (takes kind arrive) (values_of (map stay_entry s.stay.items))) ≡ b
         → not (is_some (cond b (Some arrive) None))
-        ≡ nat_le (count_by (takes kind arrive) (values_of (map stay_entry s.stays.items))) (rooms_in counts.kinds kind)
+        ≡ nat_le (count_by (takes kind arrive) (values_of (map stay_entry s.stay.items))) (rooms_in counts.kinds kind)
     by true e = grind (arith, nat_tests)
     by false e = grind (arith, nat_tests)

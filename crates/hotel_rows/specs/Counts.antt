@@ -29,8 +29,8 @@ KnowsKinds counts plain_rows = (kind : List ℕ) → names_kind kind plain_rows 
 -- the counts are those of the plain rows
 abbrev pub IsCountedOf : Stored → Counts → Type 0
 IsCountedOf s c =
-    ((kind : List ℕ) → kinds.rooms_in c.kinds kind ≡ count_by (is_room_of_kind kind) s.rooms.items)
-    × (CountsNights c.nights (values_of (map stay_entry s.stays.items)) × KnowsKinds c.kinds s.kinds.items)
+    ((kind : List ℕ) → kinds.rooms_in c.kinds kind ≡ count_by (is_room_of_kind kind) s.room.items)
+    × (CountsNights c.nights (values_of (map stay_entry s.stay.items)) × KnowsKinds c.kinds s.kind.items)
 
 -- The counts tell whether a stay has its first night: its kind reads, its first night and the day after it are days,
 -- and its kind has fewer rooms than the greatest count.

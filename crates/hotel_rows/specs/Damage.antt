@@ -29,17 +29,17 @@ use Rattle.hotel_rows.specs.declared.stored.TableName.TheVariants as table
 use Rattle.hotel_rows.specs.Stored.{number_of, rows_of}
 
 -- a room's column `secured` is 0 or 1
-abbrev pub room_columns : PlainRoom → Bool
-room_columns plain = nat_le (number_of plain.secured) 1
+abbrev pub are_room_columns : PlainRoom → Bool
+are_room_columns plain = nat_le (number_of plain.secured) 1
 
 -- a stay's state is 0 to 3, and it has a room exactly in state 1, in house
-abbrev pub stay_columns : PlainStay → Bool
-stay_columns plain = nat_le (number_of plain.state) 3 && (if is_some plain.room then number_of plain.state == 1
+abbrev pub are_stay_columns : PlainStay → Bool
+are_stay_columns plain = nat_le (number_of plain.state) 3 && (if is_some plain.room then number_of plain.state == 1
     else not (number_of plain.state == 1))
 
 -- a note's act is 0 to 2, and it has a card but in act 2, recoded
-abbrev pub note_columns : PlainNote → Bool
-note_columns plain = nat_le (number_of plain.act) 2 && (if is_some plain.card then nat_le (number_of plain.act) 1
+abbrev pub are_note_columns : PlainNote → Bool
+are_note_columns plain = nat_le (number_of plain.act) 2 && (if is_some plain.card then nat_le (number_of plain.act) 1
     else number_of plain.act == 2)
 
 abbrev pub meta_holds : Stored → Bool
@@ -50,21 +50,21 @@ kind_holds s = are_in_order (slice_cmp nat_cmp) (rows_of s).kinds && kinds_read 
 
 -- the most notes of a room: those that all its fits can count, or one in the first version
 abbrev pub most_notes : Stored → ℕ
-most_notes s = said_of s.fits LAST_NUMBER (λ fits. LAST_FIT * LAST_NUMBER)
+most_notes s = said_of s.fit LAST_NUMBER (λ fits. LAST_FIT * LAST_NUMBER)
 
 abbrev pub notes_few : Stored → Bool
 notes_few s = each_room (rows_of s) (λ row. nat_le row.notes (most_notes s))
 
 abbrev pub room_holds : Stored → Bool
 room_holds s =
-    are_in_order nat_cmp (keys_of (rows_of s).rooms) && list_all room_columns s.rooms.items && room_numbers (rows_of s)
-    && lock_places (rows_of s) && room_kinds_there (rows_of s)
+    are_in_order nat_cmp (keys_of (rows_of s).rooms) && list_all are_room_columns s.room.items
+    && room_numbers (rows_of s) && lock_places (rows_of s) && room_kinds_there (rows_of s)
     && codes_few (rows_of s) && notes_few s && parties_in_house (rows_of s) && secured_hold_last (rows_of s)
 
 abbrev pub stay_holds : Stored → Bool
 stay_holds s =
-    are_in_order nat_cmp (keys_of (rows_of s).stays) && list_all stay_columns s.stays.items && stay_numbers (rows_of s)
-    && guests_read (rows_of s) && stay_kinds_there (rows_of s)
+    are_in_order nat_cmp (keys_of (rows_of s).stays) && list_all are_stay_columns s.stay.items
+    && stay_numbers (rows_of s) && guests_read (rows_of s) && stay_kinds_there (rows_of s)
     && stay_days (rows_of s) && stay_rooms (rows_of s) && nights_fit (rows_of s)
 
 abbrev pub code_holds : Stored → Bool
@@ -82,7 +82,7 @@ abbrev pub inside_holds : Stored → Bool
 inside_holds s = are_in_order pair_cmp (rows_of s).inside && insides_fit (rows_of s)
 
 abbrev pub note_holds : Stored → Bool
-note_holds s = are_in_order pair_cmp (keys_of (rows_of s).notes) && list_all note_columns s.notes.items
+note_holds s = are_in_order pair_cmp (keys_of (rows_of s).notes) && list_all are_note_columns s.note.items
     && notes_counted (rows_of s) && notes_fit (rows_of s)
 
 -- that a room's row and a note are of a fit follows: they have no columns for it
@@ -93,21 +93,21 @@ fit_holds s =
     && last_fits_noted (rows_of s) && fit_notes_few (rows_of s)
 
 -- Each rule of a table holds, and its rows are in the order of their keys, no key twice.
-abbrev pub holds : TableName → Stored → Bool
-holds table.Meta s = meta_holds s
-holds table.Kind s = kind_holds s
-holds table.Room s = room_holds s
-holds table.Stay s = stay_holds s
-holds table.Code s = code_holds s
-holds table.Card s = card_holds s
-holds table.Inside s = inside_holds s
-holds table.Note s = note_holds s
-holds table.Fit s = fit_holds s
+abbrev pub table_holds : TableName → Stored → Bool
+table_holds table.Meta s = meta_holds s
+table_holds table.Kind s = kind_holds s
+table_holds table.Room s = room_holds s
+table_holds table.Stay s = stay_holds s
+table_holds table.Code s = code_holds s
+table_holds table.Card s = card_holds s
+table_holds table.Inside s = inside_holds s
+table_holds table.Note s = note_holds s
+table_holds table.Fit s = fit_holds s
 
 -- the first of the tables that doesn't hold
 abbrev pub first_of_tables : List TableName → Stored → Option TableName
 first_of_tables [] s = None
-first_of_tables (t ∷ ts) s = if holds t s then first_of_tables ts s else Some t
+first_of_tables (t ∷ ts) s = if table_holds t s then first_of_tables ts s else Some t
 
 -- The first damaged table.
 abbrev pub first_damaged_of : Stored → Option TableName
@@ -118,7 +118,8 @@ first_damaged_of = first_of_tables
 -- what the rows of the books don't show: each column is of its range
 abbrev pub columns_fit : Stored → Bool
 columns_fit s =
-    list_all room_columns s.rooms.items && list_all stay_columns s.stays.items && list_all note_columns s.notes.items
+    list_all are_room_columns s.room.items && list_all are_stay_columns s.stay.items
+    && list_all are_note_columns s.note.items
 
 -- No table is damaged exactly where the rows are sound and each column is of its range.
 abbrev pub UndamagedIsSound : Type 0

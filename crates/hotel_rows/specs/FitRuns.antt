@@ -49,8 +49,8 @@ abbrev pub first_in : FitRun → FitRow
 first_in run = record { room = 0; fit = run.fit; place = run.place; before = run.before }
 
 -- how many fits a room has
-abbrev pub fits_in : List (ℕ × FitRun) → ℕ → ℕ
-fits_in runs room = said_of (at_number runs room) 0 (λ run. run.fits)
+abbrev pub fit_count : List (ℕ × FitRun) → ℕ → ℕ
+fit_count runs room = said_of (at_number runs room) 0 (λ run. run.fits)
 
 -- the place of the code that the room's last fit begins with, 0 where it has none
 abbrev pub last_place_in : List (ℕ × FitRun) → ℕ → ℕ
@@ -80,8 +80,8 @@ pub record FitsOf (fits : RoomFits) (plain_rows : List PlainFit) : Type 0 where
   pub begins : BeginsOf fits.begins.entries plain_rows
 
 -- the fits of a room are 1 to n, n from 1 on, the first at place 0 with no note before it
-abbrev pub is_begun : FitRun → Bool
-is_begun run = run.in_order && (run.fit == 1) && (run.place == 0) && (run.before == 0) && nat_le run.fits LAST_FIT
+abbrev pub starts_at_one : FitRun → Bool
+starts_at_one run = run.in_order && (run.fit == 1) && (run.place == 0) && (run.before == 0) && nat_le run.fits LAST_FIT
 
 -- the last of them isn't after the lock's place, nor after the notes, of which it has no more than it can count
 abbrev pub is_ended : PlainRoom → FitRun → Bool
@@ -92,4 +92,4 @@ is_ended plain run =
 -- the room's fits are as they must be
 abbrev pub fitted_as_due : List (ℕ × FitRun) → PlainRoom → Bool
 fitted_as_due runs plain =
-    said_of (at_number runs (number_of plain.room)) false (λ run. is_begun run && is_ended plain run)
+    said_of (at_number runs (number_of plain.room)) false (λ run. starts_at_one run && is_ended plain run)

@@ -34,10 +34,10 @@ abbrev pub under_fit : FitEntries → NoteKey × Note → NoteKey × Note
 under_fit fits e = (e.0, with_count (fit_of_number (fits_at fits e.0.0) e.0.1) e.0.1 e.1)
 
 -- rows whose rooms and notes are joined with these fits
-abbrev pub joined : FitEntries → Rows → Rows
-joined fits rows =
+abbrev pub joined_with : FitEntries → Rows → Rows
+joined_with fits rows =
     record rows { rooms = map (with_fit fits) rows.rooms; notes = map (under_fit fits) rows.notes; fits = fits }
 
 -- the fits of rooms of which each has the one that it began with
-abbrev pub first_fits : List (ℕ × RoomRow) → FitEntries
-first_fits rooms = map (λ e. ((e.0, 1), fit_row e.0 1 0 0)) rooms
+abbrev pub initial_fits : List (ℕ × RoomRow) → FitEntries
+initial_fits rooms = map (λ e. ((e.0, 1), fit_row e.0 1 0 0)) rooms

@@ -45,8 +45,8 @@ place_in [] q = None
 place_in (k ∷ ks) q = if k == q then Some 0 else option_map suc (place_in ks q)
 
 -- the map has where each key stands first
-abbrev pub Finds : List (ℕ × ℕ) → List ℕ → Type 0
-Finds places keys = (q : ℕ) → at_number places q ≡ place_in keys q
+abbrev pub IndexesFirst : List (ℕ × ℕ) → List ℕ → Type 0
+IndexesFirst places keys = (q : ℕ) → at_number places q ≡ place_in keys q
 
 -- the numbers are 1 and on, in order, at most the last number
 abbrev pub are_numbered : List ℕ → Bool

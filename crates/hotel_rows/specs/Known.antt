@@ -18,4 +18,4 @@ pub record KindsOf (kinds : List (List ℕ × ℕ)) (s : Stored) : Type 0 where
 pub record IsOfRows (known : Known) (s : Stored) : Type 0 where
   pub places : AreOf known.places s
   pub fits : FitsOf known.fits (plain_fits s)
-  pub placed : PlacesOf known.placed.entries s.codes.items
+  pub placed : PlacesOf known.placed.entries s.code.items

@@ -31,7 +31,7 @@ use Rattle.hotel_rows.specs.declared.stored.PlainNote.{PlainNote}
 use Rattle.hotel_rows.specs.declared.stored.PlainFit.{PlainFit}
 use Rattle.hotel_rows.specs.declared.stored.Stored.{Stored}
 use Rattle.hotel_rows.specs.Stored.{number_of, room_row, stay_row, note_row, link_row, fits_of, rows_of}
-use Rattle.hotel_rows.specs.Damage.{most_notes, room_columns, stay_columns, note_columns}
+use Rattle.hotel_rows.specs.Damage.{most_notes, are_room_columns, are_stay_columns, are_note_columns}
 
 -- the map has exactly these kinds
 abbrev pub HasKinds : List (List ℕ × ℕ) → List (List ℕ) → Type 0
@@ -62,14 +62,14 @@ is_secured_as_due s plain =
 -- the room has at most as many codes as there are cards, and those that its fits begin with
 abbrev pub has_few_codes : Stored → PlainRoom → Bool
 has_few_codes s plain =
-    nat_le (number_of plain.codes) (length s.cards.items + length (fits_at (fits_of s) (number_of plain.room)))
+    nat_le (number_of plain.codes) (length s.card.items + length (fits_at (fits_of s) (number_of plain.room)))
 
 abbrev pub is_at_home : Rows → RoomRow → Bool
 is_at_home rows row = said_of row.party true (is_home_of rows row)
 
 abbrev pub room_fits : Stored → PlainRoom → Bool
 room_fits s plain =
-    room_columns plain && is_room_number plain && nat_lt (number_of plain.lock_place) (number_of plain.codes)
+    are_room_columns plain && is_room_number plain && nat_lt (number_of plain.lock_place) (number_of plain.codes)
     && has_kind (rows_of s) (string_bytes plain.kind)
     && has_few_codes s plain && nat_le (number_of plain.notes) (most_notes s) && is_at_home (rows_of s) (room_row plain)
     && is_secured_as_due s plain
@@ -90,7 +90,7 @@ stay_has_home s plain = has_home (rows_of s) (stay_row plain)
 
 abbrev pub stay_fits : Stored → PlainStay → Bool
 stay_fits s plain =
-    stay_columns plain && is_guest (string_bytes plain.guest) && has_kind (rows_of s) (string_bytes plain.kind)
+    are_stay_columns plain && is_guest (string_bytes plain.guest) && has_kind (rows_of s) (string_bytes plain.kind)
     && are_stay_days plain && stay_has_home s plain
 
 abbrev pub is_room_of_kind : List ℕ → PlainRoom → Bool
@@ -100,8 +100,8 @@ is_room_of_kind kind plain = bytes_eq (string_bytes plain.kind) kind
 abbrev pub has_night : Stored → PlainStay → Bool
 has_night s plain =
     nat_le (count_by (λ (stay : PlainStay). takes (string_bytes plain.kind) (number_of plain.arrive) (stay_row stay))
-    s.stays.items)
-    (count_by (is_room_of_kind (string_bytes plain.kind)) s.rooms.items)
+    s.stay.items)
+    (count_by (is_room_of_kind (string_bytes plain.kind)) s.room.items)
 
 -- ---- code
 
@@ -123,11 +123,11 @@ abbrev pub agree : PlainCard → PlainCard → Bool
 agree a b = not (same_link (link_row a) (link_row b)) || (number_of a.party == number_of b.party)
 
 abbrev pub agrees : Stored → PlainCard → Bool
-agrees s plain = list_all (agree plain) s.cards.items
+agrees s plain = list_all (agree plain) s.card.items
 
 -- a card brought the code
 abbrev pub has_card : Stored → PlainCode → Bool
-has_card s plain = list_any (λ (card : PlainCard). number_of card.new_code == number_of plain.code) s.cards.items
+has_card s plain = list_any (λ (card : PlainCard). number_of card.new_code == number_of plain.code) s.card.items
 
 -- a fit begins with the code
 abbrev pub begins_one : Stored → PlainCode → Bool
@@ -146,7 +146,7 @@ is_owned s room party card = not (is_newest (rows_of s) room (link_row card)) ||
 -- all cards of the room's newest link are of its party, where it has one
 abbrev pub has_owner : Stored → PlainRoom → Bool
 has_owner s plain = said_of (option_map number_of plain.party) true
-    (λ party. list_all (is_owned s (number_of plain.room) party) s.cards.items)
+    (λ party. list_all (is_owned s (number_of plain.room) party) s.card.items)
 
 -- the last card of a party in house has the newest link of its room
 abbrev pub has_last : Stored → PlainStay → Bool
@@ -155,8 +155,8 @@ has_last s plain = said_of (room_of_state (stay_row plain).state) true (has_newe
 -- the rules on links, each a test of each row
 abbrev pub links_hold : Stored → Bool
 links_hold s =
-    list_all (agrees s) s.cards.items && list_all (is_brought s) s.codes.items && list_all (has_owner s) s.rooms.items
-    && list_all (has_last s) s.stays.items
+    list_all (agrees s) s.card.items && list_all (is_brought s) s.code.items && list_all (has_owner s) s.room.items
+    && list_all (has_last s) s.stay.items
 
 -- ---- inside
 
@@ -167,7 +167,7 @@ inside_fits rows e = room_is rows e.0 (λ row. card_is rows e.1 (fits_inside row
 
 abbrev pub plain_note_fits : Rows → PlainNote → Bool
 plain_note_fits rows plain =
-    note_columns plain && is_some (at_number rows.rooms (number_of plain.room))
+    are_note_columns plain && is_some (at_number rows.rooms (number_of plain.room))
     && act_fits rows (number_of plain.room) (note_row plain).act && is_day (number_of plain.day)
     && nat_le (number_of plain.second) LAST_SECOND
 

@@ -133,7 +133,7 @@ first_fit plain = record { room = plain.room; fit = pos 1; place = pos 0; before
 
 -- the fits; in the first version each room has the one that it began with
 abbrev pub plain_fits : Stored → List PlainFit
-plain_fits s = said_of s.fits (map first_fit s.rooms.items) (λ fits. fits.items)
+plain_fits s = said_of s.fit (map first_fit s.room.items) (λ fits. fits.items)
 
 -- the fits of all rooms, by room and fit
 abbrev pub fits_of : Stored → FitEntries
@@ -151,12 +151,12 @@ joined_note fits plain = (under_fit fits (note_entry plain)).1
 abbrev pub rows_of : Stored → Rows
 rows_of s = record {
   day = option_map number_of s.day;
-  kinds = map kind_text s.kinds.items;
-  rooms = map (with_fit (fits_of s)) (map room_entry s.rooms.items);
-  codes = map code_entry s.codes.items;
-  stays = map stay_entry s.stays.items;
-  cards = map card_entry s.cards.items;
+  kinds = map kind_text s.kind.items;
+  rooms = map (with_fit (fits_of s)) (map room_entry s.room.items);
+  codes = map code_entry s.code.items;
+  stays = map stay_entry s.stay.items;
+  cards = map card_entry s.card.items;
   inside = map inside_pair s.inside.items;
-  notes = map (under_fit (fits_of s)) (map note_entry s.notes.items);
+  notes = map (under_fit (fits_of s)) (map note_entry s.note.items);
   fits = fits_of s;
 }

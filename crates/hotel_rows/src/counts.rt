@@ -99,12 +99,12 @@ fn count_rooms(
 
 /// How many standing stays take each night.
 fn count_nights(alloc: Global, stored: &Stored) -> Result<NightIndex, LookFault>
-    ensures ok { IfOk result (λ nights. CountsNights nights (values_of (map stay_entry stored.now.stays.items))) }
-    ensures err { IfErr result (λ why. why ≡ Store → list_all tells_stay stored.now.stays.items ≡ false) }
+    ensures ok { IfOk result (λ nights. CountsNights nights (values_of (map stay_entry stored.now.stay.items))) }
+    ensures err { IfErr result (λ why. why ≡ Store → list_all tells_stay stored.now.stay.items ≡ false) }
 {
     let mut nights = NightIndex::empty(alloc);
-    for i in 0..stored.stays.len() {
-        let stay = stay_of(alloc, &stored.stays[i])?;
+    for i in 0..stored.stay.len() {
+        let stay = stay_of(alloc, &stored.stay[i])?;
         let Ok(()) = nights.add(&stay) else {
             return Err(LookFault::Memory);
         };
@@ -119,7 +119,7 @@ pub fn counts_of(alloc: Global, stored: &Stored) -> Result<Counts, LookFault>
     ensures ok { IfOk result (IsCountedOf stored.now) }
     ensures err { first_damaged_of stored.now ≡ None → IfErr result (λ why. why ≡ Memory) }
 {
-    let kinds = count_rooms(alloc, &stored.kinds, &stored.rooms)?;
+    let kinds = count_rooms(alloc, &stored.kind, &stored.room)?;
     let nights = count_nights(alloc, stored)?;
     Ok(Counts { kinds, nights })
 }

@@ -49,7 +49,7 @@ fn first_of_later(
 ) -> Result<Option<TableName>, Memory>
     requires known { IsOfRows known.now stored.now }
     requires plain { plain.now ≡ plain_fits stored.now }
-    requires homes { list_all (stay_has_home stored.now) stored.now.stays.items ≡ true }
+    requires homes { list_all (stay_has_home stored.now) stored.now.stay.items ≡ true }
     ensures { IfOk result (λ first.
         first ≡ first_of_tables (table.Code ∷ table.Card ∷ table.Inside ∷ table.Note ∷ table.Fit ∷ []) stored.now) }
 {
@@ -112,8 +112,8 @@ fn first_with(
 pub fn first_damaged(alloc: Global, stored: &Stored) -> Result<Option<TableName>, Memory>
     ensures { IfOk result (λ first. first ≡ first_damaged_of stored.now) }
 {
-    let Some(fits) = &stored.fits else {
-        let fits = first_fits(alloc, &stored.rooms)?;
+    let Some(fits) = &stored.fit else {
+        let fits = first_fits(alloc, &stored.room)?;
         return first_with(alloc, stored, &fits);
     };
     first_with(alloc, stored, fits)

@@ -1,5 +1,13 @@
 //! The rows of a desk's tables as plain data: whether they are sound, which table is damaged first, and what books
-//! count of them. How they are read and written `hotel_statements` knows; here is no store.
+//! count of them. How they are read and written `hotel_statements` knows; here is no store, so all is checked without
+//! `sqlite`.
+//!
+//! - src/stored, specs/Stored: plain rows, and the books' rows that they stand for. Joined: rooms and notes joined with
+//!   the fits of their rooms.
+//! - src/damage, specs/Damage: the rules of sound rows as tests, table by table. RowTests: tests of a row alone. Keys,
+//!   Places, Known: where rows stand. NoteRuns, FitRuns, Placed: each room's notes, fits and codes. Lasts, Owners: each
+//!   party's last card; whose cards are.
+//! - src/counts and rooms, specs/Counts: what books keep in memory of the rows. src/values: columns as values.
 #![tactic(auto)]
 
 mod counts;

@@ -99,17 +99,15 @@ pub struct PlainFit {
 /// The rows of the tables, each table in the order of its key.
 #[derive(Debug, Drop)]
 pub struct Stored {
-    /// The version of the tables, from meta's row.
-    pub version: i64,
     /// The business day, from meta's row.
     pub day: Option<i64>,
-    pub kinds: Vec<PlainKind>,
-    pub rooms: Vec<PlainRoom>,
-    pub stays: Vec<PlainStay>,
-    pub codes: Vec<PlainCode>,
-    pub cards: Vec<PlainCard>,
+    pub kind: Vec<PlainKind>,
+    pub room: Vec<PlainRoom>,
+    pub stay: Vec<PlainStay>,
+    pub code: Vec<PlainCode>,
+    pub card: Vec<PlainCard>,
     pub inside: Vec<PlainInside>,
-    pub notes: Vec<PlainNote>,
+    pub note: Vec<PlainNote>,
     /// None in tables of the first version, where each room has the one fit that it began with.
-    pub fits: Option<Vec<PlainFit>>,
+    pub fit: Option<Vec<PlainFit>>,
 }

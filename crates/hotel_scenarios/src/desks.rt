@@ -53,7 +53,11 @@ impl<B: Books> Desk<B> {
     where
         B: Drop,
     {
-        let source = ListedWords::new(words_of(alloc, codes)?).ok_or("no words")?;
+        let words = words_of(alloc, codes)?;
+        if words.is_empty() {
+            return Err(Fail::from("no words"));
+        }
+        let source = ListedWords::new(words);
         Ok(Desk {
             alloc,
             books,

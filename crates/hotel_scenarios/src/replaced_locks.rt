@@ -1,9 +1,6 @@
-//! The worked scenarios of locks that are replaced: notes by the lock that they are of, and a room's last lock.
-use crate::desks::Desk;
+//! The worked scenarios of locks that are replaced: notes by the lock that they are of. `.ci/scenarios` has a room's last
+//! lock.
 use crate::scenarios::{CHECKED_IN, OPENED, Scenario, Step, TAKEN_TWICE, TWO_NOTES};
-use hotel_core::Walks;
-use std::alloc::Global;
-use std::test::Fail;
 
 /// The guest of room 101 entered and was checked out. Its lock is replaced, and Bo's party is checked in.
 pub const REPLACED: &[Step] = &[
@@ -230,24 +227,3 @@ pub static OF_REPLACED_LOCKS: [Scenario; 5] = [
         parts: &[OPENED, CHECKED_IN, REPLACED, LATE_FILES],
     },
 ];
-
-/// Scenario `fits-used-up` over these empty books: whether a room gets 98 locks after its first one, each with the code
-/// of its number, and no more.
-pub fn fits_are_used_up<B: Walks + Drop>(alloc: Global, books: B) -> Result<bool, Fail> {
-    let mut codes = Vec::new(alloc);
-    for code in 1..=100u64 {
-        codes.push(code)?;
-    }
-    let mut desk = Desk::over(alloc, books, codes.as_slice())?;
-    desk.told_each(&[b"begin 2031-05-01", b"add-kind DBL"])?;
-    if !desk.answers(b"add-room 101 DBL", b"room code 000000000001\n")? {
-        return Ok(false);
-    }
-    for number in 2..100u32 {
-        let lock = format!(in alloc; "lock {number} code {number:012x}\n")?;
-        if !desk.answers(b"refit 101", lock.as_bytes())? {
-            return Ok(false);
-        }
-    }
-    desk.answers(b"refit 101", b"refused 33 FitsUsedUp\n")
-}

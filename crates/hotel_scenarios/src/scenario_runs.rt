@@ -19,7 +19,7 @@ pub fn desk_of<B: Walks + Drop>(
 ) -> Result<Desk<B>, Fail> {
     let mut words = words_of(alloc, codes)?;
     words.push(last.wrapping_mul(65_536))?;
-    let source = ListedWords::new(words).ok_or("no words")?;
+    let source = ListedWords::new(words);
     Ok(Desk {
         alloc,
         books,

@@ -25,7 +25,7 @@ use Rattle.hotel_statements.specs.Trees.{note_tree, fit_tree}
 use Rattle.hotel_statements.specs.Values.{int}
 use Rattle.hotel_statements.specs.Columns.{note_columns, note_row_of, note_of, note_written, fit_columns, fit_row_of}
 use Rattle.hotel_statements.specs.Columns.{fit_of, fit_written}
-use Rattle.hotel_statements.specs.Tables.{AreTables, IsTable, IsWrittenAs, by_key, listed, rows_in, fits_in}
+use Rattle.hotel_statements.specs.Tables.{AreTables, IsTable, IsWrittenAs, by_key, in_key_order, rows_in, fits_in}
 use Rattle.hotel_statements.specs.Tables.{bare_notes_in}
 use Rattle.hotel_statements.specs.LookUps.{AnswersAll, numbered_fit}
 use Rattle.hotel_statements.specs.Walks.{note_under}
@@ -51,9 +51,9 @@ module _ {V : Type 0} (tree : ℕ) (project : List Term) (columns : Row → Row)
     (shows : (r : Row) → eval_all project (env (int room ∷ []) r) ≡ columns r) where
   pub in_order : IsTable (by_key pair_cmp) columns of written (db tree) → (rows : List Row)
       → IsAnswer (single tree (column_is 1 0 ∷ []) project by_count) (overlay db []) (int room ∷ []) rows
-      → rows ≡ map written (filter (is_in room) (listed (by_key pair_cmp) (λ r. of (columns r)) (db tree)))
+      → rows ≡ map written (filter (is_in room) (in_key_order (by_key pair_cmp) (λ r. of (columns r)) (db tree)))
   in_order table rows answer =
-      let es = listed (by_key pair_cmp) (λ r. of (columns r)) (db tree) in
+      let es = in_key_order (by_key pair_cmp) (λ r. of (columns r)) (db tree) in
       let rises : IsAscending (λ x y. by_key pair_cmp x y ≡ Less) es = sort_rises (by_key pair_cmp)
       (key_total pair_cmp_total) _ table.apart in
       let fs = filter (is_in room) es in

@@ -24,7 +24,7 @@ use Rattle.sqlite.specs.Program.{overlay}
 use Rattle.sqlite.specs.Term.{Term, eval_all}
 use Rattle.sqlite.specs.Tree.{Trees, IsAscending}
 use Rattle.sqlite.proofs.Callers.{one_permutation}
-use Rattle.hotel_statements.specs.Tables.{IsTableOf, listed, by_key}
+use Rattle.hotel_statements.specs.Tables.{IsTableOf, in_key_order, by_key}
 use Rattle.hotel_statements.specs.LookUps.{AnswersFirst}
 use Rattle.hotel_statements.proofs.Answers.{single, env, passes, made_of_shown}
 use Rattle.hotel_statements.proofs.Perm.{filter_mapped}
@@ -38,20 +38,20 @@ module _ {X : Type 0} (cmp : X → X → Ordering) (total : IsTotalOrder cmp) (G
   -- the rows that pass a test are those of the sorted list
   kept_rows : (p : Row → Bool) (q : X → Bool) (rows : List Row)
       → IsTableOf cmp Good of rows → ((r : Row) → Good r → p r ≡ q (of r))
-      → IsPermutation (map of (filter p rows)) (filter q (listed cmp of rows))
+      → IsPermutation (map of (filter p rows)) (filter q (in_key_order cmp of rows))
   kept_rows p q rows was test =
       let all = all_weaker Good (λ r. p r ≡ q (of r)) test rows was.good in
-      subst (λ xs. IsPermutation xs (filter q (listed cmp of rows)))
+      subst (λ xs. IsPermutation xs (filter q (in_key_order cmp of rows)))
       (sym (filter_mapped cmp total Good of p q rows all))
       (IsPermutation-filter q _ _ (IsPermutation-sym _ _ (IsPermutation-sort_by cmp total (map of rows))))
 
   -- so is what is made of them
   pub made_rows : {Y : Type 0} (p : Row → Bool) (q : X → Bool) (f : Row → Y) (g : X → Y) (rows : List Row)
       → IsTableOf cmp Good of rows → ((r : Row) → Good r → p r ≡ q (of r)) → ((r : Row) → Good r → f r ≡ g (of r))
-      → IsPermutation (map f (filter p rows)) (map g (filter q (listed cmp of rows)))
+      → IsPermutation (map f (filter p rows)) (map g (filter q (in_key_order cmp of rows)))
   made_rows p q f g rows was tests shows =
       let good = all_weaker Good (λ r. f r ≡ g (of r)) shows _ (all-filter Good p rows was.good) in
-      subst (λ xs. IsPermutation xs (map g (filter q (listed cmp of rows))))
+      subst (λ xs. IsPermutation xs (map g (filter q (in_key_order cmp of rows))))
       (map-map g of (filter p rows) ∙ sym (map_all f (λ r. g (of r)) (filter p rows) good))
       (IsPermutation-map g _ _ (kept_rows p q rows was tests))
 
@@ -62,7 +62,7 @@ module _ {X : Type 0} (cmp : X → X → Ordering) (total : IsTotalOrder cmp) (G
       → IsTableOf cmp Good of (db tree) → ((r : Row) → Good r → passes test params r ≡ q (of r))
       → ((r : Row) → out (eval_all project (env params r)) ≡ value (of r))
       → IsAnswer (single tree test project order) (overlay db []) params rows
-      → IsPermutation (map out rows) (map value (filter q (listed cmp of (db tree))))
+      → IsPermutation (map out rows) (map value (filter q (in_key_order cmp of (db tree))))
   found_rows tree test project order params q out value db rows was tests shows a =
       IsPermutation-trans _ _ _ (IsPermutation-sym _ _ (made_of_shown tree test project order db params rows out a))
       (made_rows (passes test params) q (λ r. out (eval_all project (env params r))) value (db tree) was tests

@@ -24,9 +24,9 @@ use Rattle.hotel_model.specs.Words.{pair_cmp}
 use Rattle.hotel_model.specs.Rows.{Rows, at_number}
 use Rattle.hotel_model.proofs.OfTables.Pairs.{pair_cmp_total, pair_is}
 use Rattle.hotel_statements.specs.Values.{number_of, int}
-use Rattle.hotel_statements.specs.Tables.{IsTable, IsWrittenAs, listed, by_key, rows_in, AreTables}
+use Rattle.hotel_statements.specs.Tables.{IsTable, IsWrittenAs, in_key_order, by_key, rows_in, AreTables}
 use Rattle.hotel_statements.specs.Books.{IsKept, IsBooks, KeepsRows}
-use Rattle.hotel_statements.specs.LookUps.{Asks, AnswersFirst, LooksUp, Finds, HasCause, LeavesNoMore}
+use Rattle.hotel_statements.specs.LookUps.{Asks, AnswersFirst, Selects, SelectsIn, HasCause, LeavesNoMore}
 use Rattle.sqlite_keyed.proofs.ListLemmas.{map-map}
 use Rattle.hotel_statements.proofs.Answers.{single, env, passes}
 use Rattle.hotel_statements.proofs.Statements.Terms.{by_rowid, by_pair}
@@ -59,9 +59,9 @@ module _ {V A : Type 0} (tree : ℕ) (project : List Term) (columns : Row → Ro
 
   pub by_number : IsTable (by_key nat_cmp) columns of written (db tree) → (o : Option A)
       → AnswersFirst out (single tree by_rowid project []) (int k ∷ []) db o
-      → o ≡ option_map shown (at_number (listed (by_key nat_cmp) (λ r. of (columns r)) (db tree)) k)
+      → o ≡ option_map shown (at_number (in_key_order (by_key nat_cmp) (λ r. of (columns r)) (db tree)) k)
   by_number table o a =
-      let es = listed (by_key nat_cmp) (λ r. of (columns r)) (db tree) in
+      let es = in_key_order (by_key nat_cmp) (λ r. of (columns r)) (db tree) in
       let rises : IsAscending (λ x y. by_key nat_cmp x y ≡ Less) es =
       sort_rises (by_key nat_cmp) (key_total nat_cmp_total) _ table.apart in
       let one : map (λ (e : ℕ × V). shown e.1) (filter (λ (e : ℕ × V). is_at (nat_cmp k) e.0) es)
@@ -105,9 +105,9 @@ module _ {V : Type 0} (tree : ℕ) (project : List Term) (columns : Row → Row)
 
   pub by_two : IsTable (by_key pair_cmp) columns of_two written (db tree) → (o : Option V)
       → AnswersFirst value (single tree (by_pair 1 2) project []) (int a ∷ int b ∷ []) db o
-      → o ≡ lookup (is_at (pair_cmp (a, b))) (listed (by_key pair_cmp) (λ r. of_two (columns r)) (db tree))
+      → o ≡ lookup (is_at (pair_cmp (a, b))) (in_key_order (by_key pair_cmp) (λ r. of_two (columns r)) (db tree))
   by_two table o answers =
-      let es = listed (by_key pair_cmp) (λ r. of_two (columns r)) (db tree) in
+      let es = in_key_order (by_key pair_cmp) (λ r. of_two (columns r)) (db tree) in
       let rises : IsAscending (λ x y. by_key pair_cmp x y ≡ Less) es =
       sort_rises (by_key pair_cmp) (key_total pair_cmp_total) _ table.apart in
       first_found value (single tree (by_pair 1 2) project []) (int a ∷ int b ∷ []) db
@@ -135,7 +135,7 @@ pub looks_to : {A B R : Type 0} {Fails : State → State → Type 0} (text : Lis
     → LeavesNoMore old new → Asks text q
     → (IsKept old → AreTables old.now.trees → IfOk found (AnswersFirst out q params old.now.trees)
     → IfOk result (λ a. said a ≡ wanted (rows_in old.now.trees)))
-    → LooksUp Fails said wanted old new result
+    → Selects Fails said wanted old new result
 looks_to text params old new out q found result said wanted was books keeps finds unchanged cause crash asks is =
     record {
       books = books;
@@ -157,7 +157,7 @@ pub finds_to : {A : Type 0} {Fails : State → State → Type 0} (text : List �
     → LeavesNoMore old new → Asks text q
     → (AreTables old.now.trees → IfOk result (AnswersFirst out q params old.now.trees)
     → IfOk result (λ a. a ≡ wanted old.now.trees))
-    → Finds Fails wanted old new result
+    → SelectsIn Fails wanted old new result
 finds_to text params old new out q result wanted was books keeps finds unchanged cause crash asks is = record {
   books = books;
   keeps = keeps;

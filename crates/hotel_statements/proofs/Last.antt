@@ -22,7 +22,7 @@ use Rattle.sqlite.specs.Term.{Term, col}
 use Rattle.sqlite.specs.Tree.{Trees, IsAscending}
 use Rattle.hotel_model.specs.SoundRooms.{count_up}
 use Rattle.hotel_statements.specs.Values.{number_of, int}
-use Rattle.hotel_statements.specs.Tables.{IsTable, IsWrittenAs, listed, by_key}
+use Rattle.hotel_statements.specs.Tables.{IsTable, IsWrittenAs, in_key_order, by_key}
 use Rattle.hotel_statements.specs.LookUps.{AnswersFirst}
 use Rattle.hotel_statements.proofs.Answers.{single}
 use Rattle.hotel_statements.proofs.Statements.Terms.{columns}
@@ -80,7 +80,7 @@ module _ (V : Type 0) where
     said = map (λ r. of (project r)) (db tree)
 
     abbrev es : List Entry
-    es = listed (by_key nat_cmp) (λ r. of (project r)) (db tree)
+    es = in_key_order (by_key nat_cmp) (λ r. of (project r)) (db tree)
 
     abbrev mine : List Entry
     mine = sort_by flipped said

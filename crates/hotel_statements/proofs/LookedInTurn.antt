@@ -9,7 +9,7 @@ use Rattle.keycard_rules.specs.declared.issued.LookFault.{LookFault}
 use Rattle.hotel_model.specs.Rows.{Rows}
 use Rattle.hotel_statements.specs.Tables.{rows_in}
 use Rattle.hotel_statements.specs.Books.{IsKept, IsBooks, KeepsRows}
-use Rattle.hotel_statements.specs.LookUps.{LooksUp, Finds, LeavesNoMore, HasCause}
+use Rattle.hotel_statements.specs.LookUps.{Selects, SelectsIn, LeavesNoMore, HasCause}
 use Rattle.hotel_statements.proofs.Keeps.{then_keeps, then_survives}
 use Rattle.hotel_statements.proofs.Since.{then_unchanged, clean_before}
 
@@ -32,7 +32,7 @@ of_statement books keeps unchanged crash = record {
 }
 
 pub of_look : {A R : Type 0} {Fails : State → State → Type 0} {said : R → A} {wanted : Rows → A} {old new : State}
-    {answer : R} → LooksUp Fails said wanted old new (Ok answer) → IsAnswered old new
+    {answer : R} → Selects Fails said wanted old new (Ok answer) → IsAnswered old new
 of_look look = record {
   books = look.books;
   keeps = look.keeps;
@@ -42,7 +42,7 @@ of_look look = record {
 }
 
 pub of_find : {R : Type 0} {Fails : State → State → Type 0} {wanted : Trees → R} {old new : State} {answer : R}
-    → Finds Fails wanted old new (Ok answer) → IsAnswered old new
+    → SelectsIn Fails wanted old new (Ok answer) → IsAnswered old new
 of_find find = record {
   books = find.books;
   keeps = find.keeps;
@@ -73,7 +73,7 @@ then_found first second wanted found kept =
 -- what is made of that answer, where it is what is wanted
 pub answers_so : {A R : Type 0} {Fails : State → State → Type 0} {said : R → A} {wanted : Rows → A} {old new : State}
     {answer : R} → IsAnswered old new → (IsKept new → said answer ≡ wanted (rows_in old.now.trees))
-    → LooksUp Fails said wanted old new (Ok answer)
+    → Selects Fails said wanted old new (Ok answer)
 answers_so was found = record {
   books = was.books;
   keeps = was.keeps;
@@ -87,7 +87,7 @@ answers_so was found = record {
 -- it failed, or what is made of it did
 pub fails_so : {A R : Type 0} {Fails : State → State → Type 0} {said : R → A} {wanted : Rows → A} {old new : State}
     (result : Result R LookFault) → IsErr result → IsBooks new → KeepsRows old new → LeavesNoMore old new
-    → HasCause Fails old new result → LooksUp Fails said wanted old new result
+    → HasCause Fails old new result → Selects Fails said wanted old new result
 fails_so (Ok answer) err books keeps crash cause = absurd (let none = err in cc)
 fails_so (Err fault) err books keeps crash cause = record {
   books = books;
@@ -103,7 +103,7 @@ fails_so (Err fault) err books keeps crash cause = record {
 pub then_fails : {A R : Type 0} {Fails : State → State → Type 0} {said : R → A} {wanted : Rows → A}
     {old mid new : State} (result : Result R LookFault) → IsErr result → IsAnswered old mid → IsBooks new
     → KeepsRows mid new → LeavesNoMore mid new → HasCause Fails old new result
-    → LooksUp Fails said wanted old new result
+    → Selects Fails said wanted old new result
 then_fails {old = old} {mid = mid} {new = new} result err first books keeps crash cause =
     fails_so result err books (then_keeps old mid new first.keeps keeps)
     (then_survives old mid new first.open_on first.crash crash) cause

@@ -25,7 +25,7 @@ use Rattle.hotel_statements.specs.Columns.{card_written, inside_of, inside_writt
 use Rattle.hotel_statements.specs.Columns.{fit_written, act_number, act_card, act_first, act_second}
 use Rattle.hotel_rows.specs.Stored.{number_of, state_of, act_of, kind_text, room_entry, stay_entry}
 use Rattle.hotel_rows.specs.Stored.{code_entry, card_entry, inside_pair, note_entry, fit_entry}
-use Rattle.hotel_rows.specs.Damage.{room_columns, stay_columns, note_columns}
+use Rattle.hotel_rows.specs.Damage.{are_room_columns, are_stay_columns, are_note_columns}
 use Rattle.hotel_statements.specs.PlainRows.{maybe, is_natural, may_be_natural, meta_shown, kind_shown, room_shown}
 use Rattle.hotel_statements.specs.PlainRows.{room_natural, stay_shown, stay_natural, code_shown, code_natural}
 use Rattle.hotel_statements.specs.PlainRows.{card_shown, card_natural, inside_shown, inside_natural, note_shown}
@@ -186,7 +186,7 @@ fit_good l h =
       rw (says l.room a.0, says l.fit a.1, says l.place b.1, says l.before c.1) refl,
     )
 
-pub room_good : (l : PlainRoom) → room_natural l ≡ true → room_columns l ≡ true
+pub room_good : (l : PlainRoom) → room_natural l ≡ true → are_room_columns l ≡ true
     → Good room_of room_written room_shown room_entry l
 room_good l h bit =
     let f = and_true _ (is_natural l.notes) h in
@@ -214,7 +214,7 @@ room_good l h bit =
       ) refl,
     )
 
-pub stay_good : (l : PlainStay) → stay_natural l ≡ true → stay_columns l ≡ true
+pub stay_good : (l : PlainStay) → stay_natural l ≡ true → are_stay_columns l ≡ true
     → Good stay_of stay_written stay_shown stay_entry l
 stay_good l h fits =
     let e = and_true _ (may_be_natural l.room) h in
@@ -234,7 +234,7 @@ stay_good l h fits =
       rw (says l.party a.0, says l.arrive a.1, says l.depart b.1, says l.state d.1, may_say l.room e.1) refl,
     )
 
-pub note_good : (l : PlainNote) → note_natural l ≡ true → note_columns l ≡ true
+pub note_good : (l : PlainNote) → note_natural l ≡ true → are_note_columns l ≡ true
     → Good note_of note_written note_shown note_entry l
 note_good l h fits =
     let i = and_true _ (is_natural l.second) h in

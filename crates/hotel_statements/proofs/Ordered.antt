@@ -22,7 +22,7 @@ use Rattle.sqlite.specs.Term.{Term}
 use Rattle.sqlite.specs.Tree.{Trees, IsAscending}
 use Rattle.hotel_model.specs.Words.{pair_cmp}
 use Rattle.hotel_statements.specs.Values.{int}
-use Rattle.hotel_statements.specs.Tables.{IsTableOf, IsTable, IsWrittenAs, listed, by_key}
+use Rattle.hotel_statements.specs.Tables.{IsTableOf, IsTable, IsWrittenAs, in_key_order, by_key}
 use Rattle.hotel_statements.proofs.Answers.{answered, single, env, passes}
 use Rattle.hotel_statements.proofs.Perm.{every_shuffled}
 use Rattle.hotel_statements.proofs.Found.{made_rows, map_all}
@@ -44,8 +44,8 @@ then_nothing Greater = refl
 module _ {X : Type 0} (cmp : X → X → Ordering) (total : IsTotalOrder cmp) (Good : Row → Type 0) (of : Row → X) where
   -- what is known of each row is known of the sorted list
   pub all_listed : (P : X → Type 0) (rows : List Row)
-      → AllByRecursion P (map of rows) → AllByRecursion P (listed cmp of rows)
-  all_listed P rows all = every_shuffled P (map of rows) (listed cmp of rows)
+      → AllByRecursion P (map of rows) → AllByRecursion P (in_key_order cmp of rows)
+  all_listed P rows all = every_shuffled P (map of rows) (in_key_order cmp of rows)
       (IsPermutation-sym _ _ (IsPermutation-sort_by cmp total (map of rows))) all
 
   -- the answer, where these are what the query sorts by and shows, in an order that rises
@@ -54,7 +54,7 @@ module _ {X : Type 0} (cmp : X → X → Ordering) (total : IsTotalOrder cmp) (G
       (mine : List X)
       → IsTableOf cmp Good of (db tree) → ((r : Row) → Good r → passes test params r ≡ q (of r))
       → ((r : Row) → Good r → output (single tree test project order) (env params r) ≡ outs (of r))
-      → IsPermutation (filter q (listed cmp of (db tree))) mine
+      → IsPermutation (filter q (in_key_order cmp of (db tree))) mine
       → IsAscending (λ a b. output_cmp (single tree test project order) a b ≡ Less) (map outs mine)
       → IsAnswer (single tree test project order) (overlay db []) params rows → rows ≡ map (λ x. (outs x).1) mine
   ordered_rows tree test project order params q outs db rows mine was tests shows same up a =
@@ -75,7 +75,8 @@ module _ {X : Type 0} (cmp : X → X → Ordering) (total : IsTotalOrder cmp) (G
       → IsTableOf cmp Good of (db tree) → ((r : Row) → Good r → passes test params r ≡ q (of r))
       → ((r : Row) → Good r → output (single tree test project (rising term)) (env params r)
       ≡ (int (n (of r)) ∷ [], shown (of r)))
-      → IsPermutation (filter q (listed cmp of (db tree))) mine → IsAscending (λ a b. nat_cmp (n a) (n b) ≡ Less) mine
+      → IsPermutation (filter q (in_key_order cmp of (db tree))) mine
+      → IsAscending (λ a b. nat_cmp (n a) (n b) ≡ Less) mine
       → IsAnswer (single tree test project (rising term)) (overlay db []) params rows → rows ≡ map shown mine
   numbered_rows tree test project term params q n shown db rows mine was tests shows same up =
       ordered_rows tree test project (rising term) params q (λ e. (int (n e) ∷ [], shown e)) db rows mine was tests
@@ -117,7 +118,7 @@ module _ {K V : Type 0} (cmp : K → K → Ordering) (total : IsTotalOrder cmp) 
     (written : K × V → Row) (read : Row → V) (says : (v : Row) → read v ≡ (of v).1) (rows : List Row)
     (was : IsTable (by_key cmp) columns of written rows) where
   abbrev es : List (K × V)
-  es = listed (by_key cmp) (λ r. of (columns r)) rows
+  es = in_key_order (by_key cmp) (λ r. of (columns r)) rows
 
   pub reads_back : AllByRecursion (λ (e : K × V). read (written e) ≡ e.1) es
   reads_back =

@@ -17,7 +17,7 @@ use Rattle.sqlite_keyed.specs.Lists.{insert_sorted, sort_by}
 use Rattle.std.proofs.lemmas.List.Elements.{recursion_from_All, All-from_recursion}
 use Rattle.sqlite_keyed.proofs.ListLemmas.{filter-map, all_weaker, all-filter, along_permutation, IsPermutation-filter}
 use Rattle.sqlite_keyed.proofs.ListLemmas.{filter_all, ascending-filter}
-use Rattle.hotel_statements.specs.Tables.{IsTableOf, listed, AreApartIds}
+use Rattle.hotel_statements.specs.Tables.{IsTableOf, in_key_order, AreApartIds}
 use Rattle.sqlite_keyed.proofs.SortLemmas.{HasNoTies, sorted_is-sort_by, sorted_unique, IsPermutation-sort_by}
 
 pub every_shuffled : {X : Type 0} (P : X → Type 0) (xs ys : List X)
@@ -141,7 +141,7 @@ module _ {X : Type 0} (cmp : X → X → Ordering) (total : IsTotalOrder cmp) wh
     pub put_makes : (new : Row) (rows : List Row) → IsTableOf cmp Good of rows → Good new → is_taken rows new ≡ false
         → AllByRecursion (λ y. is_eq (cmp (of new) y) ≡ false) (map of rows)
         → IsTableOf cmp Good of (put_row new rows)
-        × (listed cmp of (put_row new rows) ≡ insert_sorted cmp (of new) (listed cmp of rows))
+        × (in_key_order cmp of (put_row new rows) ≡ insert_sorted cmp (of new) (in_key_order cmp of rows))
     put_makes new rows was fits fresh new_key =
         let moved = IsPermutation-sym _ _ (put_fresh new rows fresh) in
         let mapped : IsPermutation (of new ∷ map of rows) (map of (put_row new rows)) =
@@ -161,7 +161,8 @@ module _ {X : Type 0} (cmp : X → X → Ordering) (total : IsTotalOrder cmp) wh
 
     pub filter_makes : (p : Row → Bool) (q : X → Bool) (rows : List Row)
         → IsTableOf cmp Good of rows → AllByRecursion (λ r. p r ≡ q (of r)) rows
-        → IsTableOf cmp Good of (filter p rows) × (listed cmp of (filter p rows) ≡ filter q (listed cmp of rows))
+        → IsTableOf cmp Good of (filter p rows)
+        × (in_key_order cmp of (filter p rows) ≡ filter q (in_key_order cmp of rows))
     filter_makes p q rows was all =
         let same = filter_mapped p q rows all in
         let left : HasNoTies cmp total (filter q (map of rows)) = ascending-filter _ q _ was.apart in (

@@ -12,7 +12,7 @@ use Rattle.sqlite_keyed.proofs.SortLemmas.{sorted_is-sort_by}
 use Rattle.hotel_model.specs.SoundRooms.{are_in_order}
 use Rattle.hotel_model.proofs.OfTables.KeysInOrder.{AllAfter, InOrder}
 use Rattle.hotel_model.proofs.Starts.StartOrder.{in_order_from}
-use Rattle.hotel_statements.specs.Tables.{IsTable, IsWrittenAs, AreApart, listed}
+use Rattle.hotel_statements.specs.Tables.{IsTable, IsWrittenAs, AreApart, in_key_order}
 use Rattle.hotel_statements.specs.PlainRows.{ArePlainRows}
 use Rattle.hotel_statements.proofs.Found.{map_all}
 use Rattle.hotel_statements.proofs.Perm.{every_shuffled, sorted_rises, apart_permuted}
@@ -47,7 +47,7 @@ module _ {L X : Type 0} (cmp : X → X → Ordering) (total : IsTotalOrder cmp) 
   pub read_back : (plain_rows : List L) (rows : List Row)
       → ArePlainRows columns shown plain_rows rows → AllByRecursion IsGood plain_rows
       → IsAscending (λ a b. cmp a b ≡ Less) (map entry plain_rows)
-      → IsTable cmp columns of written rows × (listed cmp (λ r. of (columns r)) rows ≡ map entry plain_rows)
+      → IsTable cmp columns of written rows × (in_key_order cmp (λ r. of (columns r)) rows ≡ map entry plain_rows)
   read_back plain_rows rows same all up =
       let good : AllByRecursion (IsWrittenAs columns of written) rows = all_unmap (λ v. v ≡ written (of v)) columns rows
       (every_shuffled (λ v. v ≡ written (of v)) (map shown plain_rows) (map columns rows) (IsPermutation-sym _ _ same)

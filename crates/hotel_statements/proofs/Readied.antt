@@ -8,7 +8,7 @@ use Rattle.keycard_rules.specs.declared.issued.LookFault.{LookFault}
 use Rattle.hotel_statements.specs.Values.{int}
 use Rattle.hotel_statements.specs.Texts as text
 use Rattle.hotel_statements.specs.Books.{IsBooks}
-use Rattle.hotel_statements.specs.Readable.{IsDay, OrNull, BeginsWith}
+use Rattle.hotel_statements.specs.Readable.{IsDay, OrNull, FirstColumnIs}
 use Rattle.hotel_statements.specs.LookUps.{Asks, fault_of}
 use Rattle.hotel_statements.specs.Ready.{IsReady}
 use Rattle.hotel_statements.proofs.Looked.{fault_books, fault_keeps, fault_cause}
@@ -28,6 +28,6 @@ module _ (old new : State) (books : IsBooks old) (mode : old.in_transaction ≡ 
         keeps = fault_keeps text.select_day (int 1 ∷ []) old new books asked mode weaker e fails;
         unchanged = λ _. tt;
         cause = λ clean other. fault_cause text.select_day (int 1 ∷ []) old new books asked mode weaker e fails
-            (BeginsWith (OrNull IsDay)) (λ memory. other (is ∙ memory)) clean;
+            (FirstColumnIs (OrNull IsDay)) (λ memory. other (is ∙ memory)) clean;
         crash = survives;
       }

@@ -10,15 +10,15 @@ use Rattle.keycard_rules.specs.declared.issued.LookFault.{LookFault}
 use Rattle.keycard_rules.specs.declared.issued.LookFault.TheVariants as why
 use Rattle.sqlite.specs.State.{State}
 use Rattle.hotel_statements.specs.LookUps.{fault_of, HasCause}
-use Rattle.hotel_statements.specs.Readable.{FailsToRead}
+use Rattle.hotel_statements.specs.Readable.{IsUnreadAt}
 
 pub not_wanting : (e : Error) → fault_of e ≢ why.Memory → e ≢ SqliteFailure OutOfMemory
 not_wanting e other is = other (ap fault_of is)
 
 -- what isn't read as one isn't read as less
 pub unread_so : {Is Has : Value → Type 0} → ((v : Value) → Has v → Is v) → (r : Row) (at : ℕ) (fault : LookFault)
-    → FailsToRead Is r at fault
-    → FailsToRead Has r at fault
+    → IsUnreadAt Is r at fault
+    → IsUnreadAt Has r at fault
 unread_so gives r at fault fails other within has = fails other within (gives _ has)
 
 -- what `?` hands over is the error

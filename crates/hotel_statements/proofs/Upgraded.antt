@@ -20,7 +20,7 @@ use Rattle.hotel_model.specs.declared.rows.FitRow.{FitRow}
 use Rattle.hotel_model.specs.Rows.{FitKey}
 use Rattle.hotel_model.specs.Refits.{fit_row}
 use Rattle.hotel_model.proofs.OfTables.KeysInOrder.{AllAfter, InOrder}
-use Rattle.hotel_rows.specs.Joined.{joined, first_fits, FitEntries}
+use Rattle.hotel_rows.specs.Joined.{joined_with, initial_fits, FitEntries}
 use Rattle.hotel_statements.specs.declared.version.Version.TheVariants.{First}
 use Rattle.hotel_statements.specs.declared.version.Layout.{Layout}
 use Rattle.hotel_statements.specs.declared.version.Layout.TheVariants.{Eight, Nine}
@@ -33,7 +33,7 @@ use Rattle.hotel_statements.specs.Statements.{RunsStatements, MakesBy, adds_firs
 use Rattle.hotel_statements.specs.Statements.{sets_version}
 use Rattle.hotel_statements.specs.Steps.{IsMidOf, RunsStatement}
 use Rattle.hotel_statements.specs.Upgrade.{AreRoomsIn, BecomesDesk, Completes, IsWholeOf, IsOutdated, IsFilling}
-use Rattle.hotel_statements.specs.Upgrade.{with_first, GivesFits}
+use Rattle.hotel_statements.specs.Upgrade.{with_first_fit, GivesFits}
 use Rattle.hotel_statements.proofs.Answers.{fused}
 use Rattle.hotel_statements.proofs.Transaction.{Begins, LeavesDesk, Committed, Finishes, start_mid, finished}
 use Rattle.hotel_statements.proofs.Transaction.{start_kept, or_committed}
@@ -95,10 +95,10 @@ map_more f rooms i room low is =
 
 -- those so far have their fits
 abbrev pub GivesSoFar : List ℕ → ℕ → State → State → Type 0
-GivesSoFar rooms i = GivesFits (IsMidOf Eight) (fold with_first [] (take i rooms))
+GivesSoFar rooms i = GivesFits (IsMidOf Eight) (fold with_first_fit [] (take i rooms))
 
 pub room_then : {a b c : State} (rooms : List ℕ) (i room : ℕ) → i < length rooms → room ≡ get_or rooms i room
-    → GivesSoFar rooms i a b → GivesFits IsFilling (with_first (fits_in b.now.trees) room) b c
+    → GivesSoFar rooms i a b → GivesFits IsFilling (with_first_fit (fits_in b.now.trees) room) b c
     → GivesSoFar rooms (i + 1) a c
 room_then rooms i room low is did next before =
     let first = did before in
@@ -112,8 +112,9 @@ room_then rooms i room low is did next before =
         sound = last.desk.sound;
         bare_rows_are = last.desk.bare_rows_are ∙ first.desk.bare_rows_are;
       };
-      fits_are = last.fits_are ∙ ap (λ fits. with_first fits room) first.fits_are
-          ∙ ap (with_first (fold with_first [] (take i rooms))) is ∙ sym (fold_more with_first [] rooms i room low);
+      fits_are = last.fits_are ∙ ap (λ fits. with_first_fit fits room) first.fits_are
+          ∙ ap (with_first_fit (fold with_first_fit [] (take i rooms))) is
+          ∙ sym (fold_more with_first_fit [] rooms i room low);
       numbered = last.numbered;
     }
 
@@ -127,7 +128,7 @@ first_of room = ((room, 1), fit_row room 1 0 0)
 abbrev AreEarlier : ℕ → FitEntries → Type 0
 AreEarlier room fits = AllByRecursion (λ (e : FitKey × FitRow). e.0.0 < room) fits
 
-put_last : (room : ℕ) (fits : FitEntries) → AreEarlier room fits → with_first fits room ≡ fits ++ first_of room ∷ []
+put_last : (room : ℕ) (fits : FitEntries) → AreEarlier room fits → with_first_fit fits room ≡ fits ++ first_of room ∷ []
 put_last room [] earlier = refl
 put_last room (e ∷ fits) earlier =
     let over : nat_cmp room e.0.0 ≡ Greater = grind (arith, nat_tests, earlier.0) in
@@ -147,10 +148,10 @@ all_behind room (x ∷ rooms) fits after earlier =
     behind (e ∷ fits) low earlier = (earlier.0, behind fits low earlier.1)
 
 all_put : (rooms : List ℕ) (fits : FitEntries) → InOrder nat_cmp rooms
-    → AllByRecursion (λ room. AreEarlier room fits) rooms → fold with_first fits rooms ≡ fits ++ map first_of rooms
+    → AllByRecursion (λ room. AreEarlier room fits) rooms → fold with_first_fit fits rooms ≡ fits ++ map first_of rooms
 all_put [] fits up earlier = sym (append-nil fits)
 all_put (r ∷ rooms) fits up earlier =
-    ap (λ so_far. fold with_first so_far rooms) (put_last r fits earlier.0)
+    ap (λ so_far. fold with_first_fit so_far rooms) (put_last r fits earlier.0)
     ∙ all_put rooms (fits ++ first_of r ∷ []) up.1 (all_behind r rooms fits up.0 earlier.1)
     ∙ append_assoc fits (first_of r ∷ []) (map first_of rooms)
 
@@ -163,11 +164,11 @@ all_given {rooms} {a} {b} i past did before =
           let bare = bare_rooms_in a.now.trees in
           let up : InOrder nat_cmp rooms = subst (InOrder nat_cmp) (sym rooms_are) (keys_rise nat_cmp bare
           (rooms_rise {version = First} a.now.trees (before all.desk.was_open).tables)) in
-          let fits : fold with_first [] (take i rooms) ≡ first_fits bare =
-          ap (fold with_first []) (take_all i rooms past)
+          let fits : fold with_first_fit [] (take i rooms) ≡ initial_fits bare =
+          ap (fold with_first_fit []) (take_all i rooms past)
           ∙ all_put rooms [] up (all_of (λ room. AreEarlier room []) (λ room. tt) rooms)
           ∙ ap (map first_of) rooms_are ∙ fused first_of (λ e. e.0) bare in
-          ap₂ joined (all.fits_are ∙ fits) all.desk.bare_rows_are,
+          ap₂ joined_with (all.fits_are ∙ fits) all.desk.bare_rows_are,
     )
 
 -- the statements for those so far, and for one more

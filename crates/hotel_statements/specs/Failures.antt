@@ -14,7 +14,7 @@ use Rattle.hotel_model.specs.Rows.{at_number, fits_at, last_fit}
 use Rattle.hotel_statements.specs.Values.{int}
 use Rattle.hotel_statements.specs.Tables.{fits_in, bare_rooms_in, bare_notes_in}
 use Rattle.hotel_statements.specs.Books.{IsKept}
-use Rattle.hotel_statements.specs.Readable.{IsNumber, IsCode, IsDay, IsKind, OrNull, BeginsWith}
+use Rattle.hotel_statements.specs.Readable.{IsNumber, IsCode, IsDay, IsKind, OrNull, FirstColumnIs}
 use Rattle.hotel_statements.specs.Readable.{IsStay, IsCodeRow, IsCard, IsFit, IsRoom, IsNote, IsUnderFits}
 use Rattle.hotel_statements.specs.Readable.{IsInHouse, IsOfChain, IsBehind}
 use Rattle.hotel_statements.specs.Columns.{note_row_of}
@@ -26,10 +26,10 @@ use Rattle.hotel_statements.specs.LookUps.{FailsAt}
 -- ---- one statement
 
 abbrev pub DayFails : State → State → Type 0
-DayFails = FailsAt (BeginsWith (OrNull IsDay)) text.select_day (int 1 ∷ [])
+DayFails = FailsAt (FirstColumnIs (OrNull IsDay)) text.select_day (int 1 ∷ [])
 
 abbrev pub KindFails : List ℕ → State → State → Type 0
-KindFails kind = FailsAt (BeginsWith IsKind) text.select_kind (Text kind ∷ [])
+KindFails kind = FailsAt (FirstColumnIs IsKind) text.select_kind (Text kind ∷ [])
 
 abbrev pub FitsFail : ℕ → State → State → Type 0
 FitsFail room = FailsAt IsFit text.select_fits (int room ∷ [])
@@ -53,25 +53,26 @@ abbrev pub BareNoteFails : ℕ → ℕ → State → State → Type 0
 BareNoteFails room at = FailsAt IsNote text.select_note (int room ∷ int at ∷ [])
 
 abbrev pub IsInsideFails : ℕ → ℕ → State → State → Type 0
-IsInsideFails room number = FailsAt (BeginsWith (IsNumber LAST_NUMBER)) text.select_inside (int room ∷ int number ∷ [])
+IsInsideFails room number =
+    FailsAt (FirstColumnIs (IsNumber LAST_NUMBER)) text.select_inside (int room ∷ int number ∷ [])
 
 abbrev pub HasInsideFails : ℕ → State → State → Type 0
-HasInsideFails room = FailsAt (BeginsWith (IsNumber LAST_NUMBER)) text.select_any_inside (int room ∷ [])
+HasInsideFails room = FailsAt (FirstColumnIs (IsNumber LAST_NUMBER)) text.select_any_inside (int room ∷ [])
 
 abbrev pub InsideFails : ℕ → State → State → Type 0
-InsideFails room = FailsAt (BeginsWith (IsNumber LAST_NUMBER)) text.select_cards_inside (int room ∷ [])
+InsideFails room = FailsAt (FirstColumnIs (IsNumber LAST_NUMBER)) text.select_cards_inside (int room ∷ [])
 
 abbrev pub CodeAtFails : ℕ → ℕ → State → State → Type 0
-CodeAtFails room place = FailsAt (BeginsWith IsCode) text.select_code_at (int room ∷ int place ∷ [])
+CodeAtFails room place = FailsAt (FirstColumnIs IsCode) text.select_code_at (int room ∷ int place ∷ [])
 
 abbrev pub StaysFail : List ℕ → State → State → Type 0
 StaysFail kind = FailsAt IsStay text.select_stays_of_kind (Text kind ∷ [])
 
 abbrev pub LastPartyFails : State → State → Type 0
-LastPartyFails = FailsAt (BeginsWith (IsNumber LAST_NUMBER)) text.select_last_party []
+LastPartyFails = FailsAt (FirstColumnIs (IsNumber LAST_NUMBER)) text.select_last_party []
 
 abbrev pub LastCardFails : State → State → Type 0
-LastCardFails = FailsAt (BeginsWith (IsNumber LAST_NUMBER)) text.select_last_card []
+LastCardFails = FailsAt (FirstColumnIs (IsNumber LAST_NUMBER)) text.select_last_card []
 
 -- ---- several
 

@@ -116,8 +116,8 @@ pub record LooksIf {A R : Type 0} (was : Type 0) (said : R → A) (wanted : Rows
 
 -- The same of a look-up that is a statement: where it is answered over a disk that returned what was written,
 -- the connection is open.
-abbrev pub Looks : {A R : Type 0} → (R → A) → (Rows → A) → State → State → Result R LookFault → Type 0
-Looks said wanted old new result = LooksIf (Unit {0}) said wanted old new result
+abbrev pub IsLookUp : {A R : Type 0} → (R → A) → (Rows → A) → State → State → Result R LookFault → Type 0
+IsLookUp said wanted old new result = LooksIf (Unit {0}) said wanted old new result
 
 -- The same of one that may ask nothing: only a connection that was open is open.
 abbrev pub MayLook : {A R : Type 0} → (R → A) → (Rows → A) → State → State → Result R LookFault → Type 0
@@ -125,7 +125,7 @@ MayLook said wanted old new result = LooksIf (IsKept old) said wanted old new re
 
 -- All that a look-up which is a statement promises, and why it fails: where it is answered over a disk that returned
 -- what was written, it left the connection unchanged.
-pub record LooksUp {A R : Type 0} (Fails : State → State → Type 0) (said : R → A) (wanted : Rows → A) (old new : State)
+pub record Selects {A R : Type 0} (Fails : State → State → Type 0) (said : R → A) (wanted : Rows → A) (old new : State)
     (result : Result R LookFault) : Type 0 where
   pub books : IsBooks new
   pub keeps : KeepsRows old new
@@ -136,7 +136,7 @@ pub record LooksUp {A R : Type 0} (Fails : State → State → Type 0) (said : R
   pub crash : LeavesNoMore old new
 
 -- A look-up in the tables as they stand, which promises as much.
-pub record Finds {R : Type 0} (Fails : State → State → Type 0) (wanted : Trees → R) (old new : State)
+pub record SelectsIn {R : Type 0} (Fails : State → State → Type 0) (wanted : Trees → R) (old new : State)
     (result : Result R LookFault) : Type 0 where
   pub books : IsBooks new
   pub keeps : KeepsRows old new

@@ -50,8 +50,8 @@ abbrev pub OrNull : (Value → Type 0) → Value → Type 0
 OrNull Is v = (v ≡ Null) ⊎ Is v
 
 -- why a column isn't read so, but for want of memory: it says no such value
-abbrev pub FailsToRead : (Value → Type 0) → Row → ℕ → LookFault → Type 0
-FailsToRead Is r at fault = fault ≢ why.Memory → at < length r → ¬ Is (column r at)
+abbrev pub IsUnreadAt : (Value → Type 0) → Row → ℕ → LookFault → Type 0
+IsUnreadAt Is r at fault = fault ≢ why.Memory → at < length r → ¬ Is (column r at)
 
 -- ---- two columns
 
@@ -91,8 +91,8 @@ IsNote r = (8 ≤ length r) × IsNumber LAST_ROOM (column r 0) × IsCount (colum
     × IsCode (column r 4) × IsCode (column r 5) × IsDay (column r 6) × IsCount (column r 7)
 
 -- the first column says such a value
-abbrev pub BeginsWith : (Value → Type 0) → Row → Type 0
-BeginsWith Is r = (1 ≤ length r) × Is (column r 0)
+abbrev pub FirstColumnIs : (Value → Type 0) → Row → Type 0
+FirstColumnIs Is r = (1 ≤ length r) × Is (column r 0)
 
 -- ---- rows of lists
 

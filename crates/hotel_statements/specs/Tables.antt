@@ -15,7 +15,7 @@ use Rattle.keycard_rules.specs.Note.{Note}
 use Rattle.hotel_model.specs.declared.rows.RoomRow.{RoomRow}
 use Rattle.hotel_model.specs.Words.{pair_cmp, said_of}
 use Rattle.hotel_model.specs.Rows.{Rows, NoteKey, at_number}
-use Rattle.hotel_rows.specs.Joined.{with_fit, under_fit, joined, first_fits, FitEntries}
+use Rattle.hotel_rows.specs.Joined.{with_fit, under_fit, joined_with, initial_fits, FitEntries}
 use Rattle.hotel_statements.specs.declared.version.Version.{Version}
 use Rattle.hotel_statements.specs.declared.version.Version.TheVariants.{First, Second}
 use Rattle.hotel_statements.specs.Trees.{meta_tree, kind_tree, room_tree, stay_tree, code_tree, card_tree, inside_tree}
@@ -41,8 +41,8 @@ pub record IsTableOf {X : Type 0} (cmp : X → X → Ordering) (Good : Row → T
   pub apart : AreApart cmp (map of rows)
 
 -- what they say, in the order of the key
-abbrev pub listed : {X : Type 0} → (X → X → Ordering) → (Row → X) → List Row → List X
-listed cmp of rows = sort_by cmp (map of rows)
+abbrev pub in_key_order : {X : Type 0} → (X → X → Ordering) → (Row → X) → List Row → List X
+in_key_order cmp of rows = sort_by cmp (map of rows)
 
 -- the columns of a row are those that the books write of what it says
 abbrev pub IsWrittenAs : {X : Type 0} → (Row → Row) → (Row → X) → (X → Row) → Row → Type 0
@@ -90,29 +90,29 @@ AreApartIds = IsAscending (λ a b. is_eq (value_cmp (rowid a) (rowid b)) ≡ fal
 -- ---- the trees of the tables; the numbers between are those of their indexes
 
 abbrev pub metas_in : Trees → List (ℕ × (ℕ × Option ℕ))
-metas_in db = listed (by_key nat_cmp) (λ r. meta_of (meta_columns r)) (db meta_tree)
+metas_in db = in_key_order (by_key nat_cmp) (λ r. meta_of (meta_columns r)) (db meta_tree)
 
 -- the fits of all rooms
 abbrev pub fits_in : Trees → FitEntries
-fits_in db = listed (by_key pair_cmp) (λ r. fit_of (fit_columns r)) (db fit_tree)
+fits_in db = in_key_order (by_key pair_cmp) (λ r. fit_of (fit_columns r)) (db fit_tree)
 
 -- the rooms and the notes as their tables have them
 abbrev pub bare_rooms_in : Trees → List (ℕ × RoomRow)
-bare_rooms_in db = listed (by_key nat_cmp) (λ r. room_of (room_columns r)) (db room_tree)
+bare_rooms_in db = in_key_order (by_key nat_cmp) (λ r. room_of (room_columns r)) (db room_tree)
 
 abbrev pub bare_notes_in : Trees → List (NoteKey × Note)
-bare_notes_in db = listed (by_key pair_cmp) (λ r. note_of (note_columns r)) (db note_tree)
+bare_notes_in db = in_key_order (by_key pair_cmp) (λ r. note_of (note_columns r)) (db note_tree)
 
 -- The nine lists that the trees hold, those of rooms and notes joined with the fits.
 abbrev pub rows_in : Trees → Rows
 rows_in db = record {
   day = said_of (at_number (metas_in db) 1) None (λ meta. meta.1);
-  kinds = listed (slice_cmp nat_cmp) (λ r. kind_of (kind_columns r)) (db kind_tree);
+  kinds = in_key_order (slice_cmp nat_cmp) (λ r. kind_of (kind_columns r)) (db kind_tree);
   rooms = map (with_fit (fits_in db)) (bare_rooms_in db);
-  stays = listed (by_key nat_cmp) (λ r. stay_of (stay_columns r)) (db stay_tree);
-  codes = listed (by_key nat_cmp) (λ r. code_of (code_columns r)) (db code_tree);
-  cards = listed (by_key nat_cmp) (λ r. card_of (card_columns r)) (db card_tree);
-  inside = listed pair_cmp (λ r. inside_of (inside_columns r)) (db inside_tree);
+  stays = in_key_order (by_key nat_cmp) (λ r. stay_of (stay_columns r)) (db stay_tree);
+  codes = in_key_order (by_key nat_cmp) (λ r. code_of (code_columns r)) (db code_tree);
+  cards = in_key_order (by_key nat_cmp) (λ r. card_of (card_columns r)) (db card_tree);
+  inside = in_key_order pair_cmp (λ r. inside_of (inside_columns r)) (db inside_tree);
   notes = map (under_fit (fits_in db)) (bare_notes_in db);
   fits = fits_in db;
 }
@@ -123,7 +123,7 @@ bare_rows_in db = record (rows_in db) { rooms = bare_rooms_in db; notes = bare_n
 
 -- The lists that the tables of a version hold: in the first each room has the one fit that it began with.
 abbrev pub rows_of_version : Version → Trees → Rows
-rows_of_version First db = joined (first_fits (bare_rooms_in db)) (bare_rows_in db)
+rows_of_version First db = joined_with (initial_fits (bare_rooms_in db)) (bare_rows_in db)
 rows_of_version Second db = rows_in db
 
 -- the number of a version, which meta tells

@@ -54,22 +54,22 @@ pub record IsOutdated (s : State) : Type 0 where
   pub empty : s.now.trees fit_tree ≡ []
 
 -- each row of a fit has a number, by which SQLite tells it from another
-abbrev pub AreNumbered : State → Type 0
-AreNumbered s = AllByRecursion HasId (s.now.trees fit_tree)
+abbrev pub HaveIds : State → Type 0
+HaveIds s = AllByRecursion HasId (s.now.trees fit_tree)
 
 -- Within a transaction, the tables are those of a desk, to which fits are added.
 pub record IsFilling (s : State) : Type 0 where
   pub mid : IsMid s
-  pub numbered : AreNumbered s
+  pub numbered : HaveIds s
 
 -- the fits, with the one that a room began with
-abbrev pub with_first : FitEntries → ℕ → FitEntries
-with_first fits room = insert_entry pair_cmp fits (room, 1) (fit_row room 1 0 0)
+abbrev pub with_first_fit : FitEntries → ℕ → FitEntries
+with_first_fit fits room = insert_entry pair_cmp fits (room, 1) (fit_row room 1 0 0)
 
 -- The tables became those of a desk with these fits.
 pub record HasFits (fits : FitEntries) (old new : State) : Type 0 where
   pub desk : BecomesDesk old new
-  pub numbered : AreNumbered new
+  pub numbered : HaveIds new
   pub fits_are : fits_in new.now.trees ≡ fits
 
 -- where the connection was open, and the state was such, the desk has these fits, and its other rows stayed

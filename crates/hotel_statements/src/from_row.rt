@@ -5,8 +5,8 @@ ghost use Rattle.hotel_statements.specs.LookUps.{fault_of};
 ghost use Rattle.hotel_statements.specs.Values.{number_of, option_of, text_of};
 ghost use Rattle.hotel_statements.specs.Readable.{IsNatural, IsCount, IsText, IsNumber, IsCode, IsDay};
 ghost use Rattle.hotel_statements.specs.Readable.{IsBit, IsKind, IsGuest, OrNull};
-ghost use Rattle.hotel_statements.specs.Readable.{FailsToRead, IsState, IsAct};
-ghost use Rattle.hotel_statements.specs.Readable.{IsStay, IsCodeRow, IsCard, IsFit, BeginsWith};
+ghost use Rattle.hotel_statements.specs.Readable.{IsUnreadAt, IsState, IsAct};
+ghost use Rattle.hotel_statements.specs.Readable.{IsStay, IsCodeRow, IsCard, IsFit, FirstColumnIs};
 ghost use Rattle.hotel_statements.specs.Columns.{stay_row_of, code_row_of, card_row_of, fit_row_of};
 ghost use Rattle.hotel_rows.specs.Stored.{state_of, act_of};
 
@@ -48,7 +48,7 @@ pub(crate) trait FromRow: Sized {
 /// The number of a column.
 fn integer(row: &Row, at: usize) -> Result<u64, LookFault>
     ensures reads { IfOk result (λ n. number_of (column row.now at) ≡ n) }
-    ensures unread { IfErr result (FailsToRead IsNatural row.now at) }
+    ensures unread { IfErr result (IsUnreadAt IsNatural row.now at) }
 {
     match row.get::<u64>(at) {
         Ok(n) => Ok(n),
@@ -59,7 +59,7 @@ fn integer(row: &Row, at: usize) -> Result<u64, LookFault>
 /// The number of a column, at most the greatest `u32`.
 fn small_integer(row: &Row, at: usize) -> Result<u32, LookFault>
     ensures reads { IfOk result (λ n. number_of (column row.now at) ≡ n) }
-    ensures unread { IfErr result (FailsToRead IsCount row.now at) }
+    ensures unread { IfErr result (IsUnreadAt IsCount row.now at) }
 {
     match row.get::<u32>(at) {
         Ok(n) => Ok(n),
@@ -70,7 +70,7 @@ fn small_integer(row: &Row, at: usize) -> Result<u32, LookFault>
 /// The number of a column that may be null.
 fn maybe_integer(row: &Row, at: usize) -> Result<Option<u64>, LookFault>
     ensures reads { IfOk result (λ n. option_of (column row.now at) ≡ n) }
-    ensures unread { IfErr result (FailsToRead (OrNull IsNatural) row.now at) }
+    ensures unread { IfErr result (IsUnreadAt (OrNull IsNatural) row.now at) }
 {
     match row.get::<Option<u64>>(at) {
         Ok(n) => Ok(n),
@@ -81,7 +81,7 @@ fn maybe_integer(row: &Row, at: usize) -> Result<Option<u64>, LookFault>
 /// The text of a column.
 fn text(row: &Row, at: usize) -> Result<String, LookFault>
     ensures reads { IfOk result (λ text. text_of (column row.now at) ≡ string_bytes text) }
-    ensures unread { IfErr result (FailsToRead IsText row.now at) }
+    ensures unread { IfErr result (IsUnreadAt IsText row.now at) }
 {
     match row.get::<String>(at) {
         Ok(text) => Ok(text),
@@ -92,7 +92,7 @@ fn text(row: &Row, at: usize) -> Result<String, LookFault>
 /// A number from 1 up to a greatest one.
 fn counted<K, const MOST: u32>(row: &Row, at: usize) -> Result<Number<K, MOST>, LookFault>
     ensures reads { IfOk result (λ n. n ≡ number_of (column row.now at)) }
-    ensures unread { IfErr result (FailsToRead (IsNumber MOST) row.now at) }
+    ensures unread { IfErr result (IsUnreadAt (IsNumber MOST) row.now at) }
 {
     let n = integer(row, at)?;
     values::counted(n)
@@ -104,7 +104,7 @@ fn maybe_counted<K, const MOST: u32>(
     at: usize,
 ) -> Result<Option<Number<K, MOST>>, LookFault>
     ensures reads { IfOk result (λ n. n ≡ option_of (column row.now at)) }
-    ensures unread { IfErr result (FailsToRead (OrNull (IsNumber MOST)) row.now at) }
+    ensures unread { IfErr result (IsUnreadAt (OrNull (IsNumber MOST)) row.now at) }
 {
     let Some(n) = maybe_integer(row, at)? else {
         return Ok(None);
@@ -114,7 +114,7 @@ fn maybe_counted<K, const MOST: u32>(
 
 fn code(row: &Row, at: usize) -> Result<Code, LookFault>
     ensures reads { IfOk result (λ c. c ≡ number_of (column row.now at)) }
-    ensures unread { IfErr result (FailsToRead IsCode row.now at) }
+    ensures unread { IfErr result (IsUnreadAt IsCode row.now at) }
 {
     let n = integer(row, at)?;
     match Code::new(n) {
@@ -140,7 +140,7 @@ fn link(row: &Row, at: usize) -> Result<Link, LookFault>
 
 fn day(row: &Row, at: usize) -> Result<Day, LookFault>
     ensures reads { IfOk result (λ d. d ≡ number_of (column row.now at)) }
-    ensures unread { IfErr result (FailsToRead IsDay row.now at) }
+    ensures unread { IfErr result (IsUnreadAt IsDay row.now at) }
 {
     let n = integer(row, at)?;
     values::day(n)
@@ -148,7 +148,7 @@ fn day(row: &Row, at: usize) -> Result<Day, LookFault>
 
 fn kind_code(row: &Row, at: usize) -> Result<KindCode, LookFault>
     ensures reads { IfOk result (λ k. k ≡ text_of (column row.now at)) }
-    ensures unread { IfErr result (FailsToRead IsKind row.now at) }
+    ensures unread { IfErr result (IsUnreadAt IsKind row.now at) }
 {
     let text = text(row, at)?;
     values::kind_code(text.as_str())
@@ -156,7 +156,7 @@ fn kind_code(row: &Row, at: usize) -> Result<KindCode, LookFault>
 
 fn guest(alloc: Global, row: &Row, at: usize) -> Result<Guest, LookFault>
     ensures reads { IfOk result (λ g. g ≡ text_of (column row.now at)) }
-    ensures unread { IfErr result (FailsToRead IsGuest row.now at) }
+    ensures unread { IfErr result (IsUnreadAt IsGuest row.now at) }
 {
     let text = text(row, at)?;
     values::guest(alloc, text.as_str())
@@ -165,7 +165,7 @@ fn guest(alloc: Global, row: &Row, at: usize) -> Result<Guest, LookFault>
 /// Whether the column is 1 and not 0.
 fn bit(row: &Row, at: usize) -> Result<bool, LookFault>
     ensures reads { IfOk result (λ b. b ≡ (number_of (column row.now at) == 1)) }
-    ensures unread { IfErr result (FailsToRead IsBit row.now at) }
+    ensures unread { IfErr result (IsUnreadAt IsBit row.now at) }
 {
     match small_integer(row, at)? {
         0 => Ok(false),
@@ -271,7 +271,7 @@ impl FromRow for FitRow {
 impl FromRow for Code {
     ghost of = { λ v. number_of (column v 0) };
 
-    ghost is_readable = { BeginsWith IsCode };
+    ghost is_readable = { FirstColumnIs IsCode };
 
     fn from_row(_: Global, row: &Row) -> Result<Code, LookFault> {
         code(row, 0)
@@ -282,7 +282,7 @@ impl FromRow for Code {
 impl<K, const MOST: u32> FromRow for Number<K, MOST> {
     ghost of = { λ v. number_of (column v 0) };
 
-    ghost is_readable = { BeginsWith (IsNumber MOST) };
+    ghost is_readable = { FirstColumnIs (IsNumber MOST) };
 
     fn from_row(_: Global, row: &Row) -> Result<Number<K, MOST>, LookFault> {
         counted(row, 0)
@@ -293,7 +293,7 @@ impl<K, const MOST: u32> FromRow for Number<K, MOST> {
 impl FromRow for KindCode {
     ghost of = { λ v. text_of (column v 0) };
 
-    ghost is_readable = { BeginsWith IsKind };
+    ghost is_readable = { FirstColumnIs IsKind };
 
     fn from_row(_: Global, row: &Row) -> Result<KindCode, LookFault> {
         kind_code(row, 0)
@@ -304,7 +304,7 @@ impl FromRow for KindCode {
 impl FromRow for Option<Day> {
     ghost of = { λ v. option_of (column v 0) };
 
-    ghost is_readable = { BeginsWith (OrNull IsDay) };
+    ghost is_readable = { FirstColumnIs (OrNull IsDay) };
 
     fn from_row(_: Global, row: &Row) -> Result<Option<Day>, LookFault> {
         let Some(n) = maybe_integer(row, 0)? else {

@@ -11,12 +11,13 @@ ghost use Rattle.hotel_model.specs.Words.{is_one_of, pair_cmp};
 ghost use Rattle.hotel_model.specs.Guests.{are_none};
 ghost use Rattle.hotel_model.specs.Refinement.Lookups.{room_at, codes_in, code_place, code_at, stay_at, stays_of_kind};
 ghost use Rattle.hotel_model.specs.Refinement.Lookups.{card_at, inside_at, note_at, number_after};
+ghost use Rattle.hotel_core.specs.Books.Reads.{placed_row};
 ghost use Rattle.hotel_statements.specs.Books.{IsBooks, IsKept};
 ghost use Rattle.hotel_statements.specs.Failures.{BareNoteFails, BareRoomFails, CardFails, CodeAtFails, CodeFails};
 ghost use Rattle.hotel_statements.specs.Failures.{DayFails, FitFails, FitsFail, HasInsideFails};
 ghost use Rattle.hotel_statements.specs.Failures.{InsideFails, IsInsideFails, KindFails, LastCardFails, LastPartyFails};
 ghost use Rattle.hotel_statements.specs.Failures.{NoteFails, NumbersFail, RoomFails, StayFails, StaysFail};
-ghost use Rattle.hotel_statements.specs.LookUps.{LooksUp, Finds, known_by_room, numbered_fit, next_numbers_of};
+ghost use Rattle.hotel_statements.specs.LookUps.{Selects, SelectsIn, known_by_room, numbered_fit, next_numbers_of};
 ghost use Rattle.hotel_statements.specs.Ready.{IsReady};
 
 use crate::from_row::bare_rows::{BareNote, BareRoom, note_with, room_with};
@@ -63,7 +64,7 @@ pub fn ready<S: Alter>(conn: &mut Connection<S>) -> Result<(), LookFault>
 /// The day of the desk, where one was set.
 pub fn day<S: Alter>(alloc: Global, conn: &mut Connection<S>) -> Result<Option<Day>, LookFault>
     requires { IsBooks (state S.Store conn.old) }
-    ensures { LooksUp DayFails (λ a. a) (λ rows. rows.day) (state S.Store conn.old) (state S.Store conn.new) result }
+    ensures { Selects DayFails (λ a. a) (λ rows. rows.day) (state S.Store conn.old) (state S.Store conn.new) result }
 {
     let day: Option<Option<Day>> = look(alloc, conn, SELECT_DAY, &[small(1)])?;
     Ok(day.unwrap_or(None))
@@ -76,7 +77,7 @@ pub fn kind<S: Alter>(
     kind: &KindCode,
 ) -> Result<bool, LookFault>
     requires { IsBooks (state S.Store conn.old) }
-    ensures { LooksUp (KindFails kind.now) (λ a. a) (λ rows. has_kind rows kind.now)
+    ensures { Selects (KindFails kind.now) (λ a. a) (λ rows. has_kind rows kind.now)
         (state S.Store conn.old) (state S.Store conn.new) result }
 {
     let kind: Option<KindCode> = look(alloc, conn, SELECT_KIND, &[text(kind.as_bytes())])?;
@@ -90,7 +91,7 @@ pub fn fits_of_room<S: Alter>(
     room: RoomNo,
 ) -> Result<Vec<FitRow>, LookFault>
     requires { IsBooks (state S.Store conn.old) }
-    ensures { LooksUp (FitsFail room) (λ v. v.items) (λ rows. fits_at rows.fits room)
+    ensures { Selects (FitsFail room) (λ v. v.items) (λ rows. fits_at rows.fits room)
         (state S.Store conn.old) (state S.Store conn.new) result }
 {
     look_all(alloc, conn, SELECT_FITS, &[small(room.value())])
@@ -104,7 +105,7 @@ pub fn fit<S: Alter>(
     number: FitNo,
 ) -> Result<Option<FitRow>, LookFault>
     requires { IsBooks (state S.Store conn.old) }
-    ensures { LooksUp (FitFails room number) (λ a. a) (λ rows. fit_at rows room number)
+    ensures { Selects (FitFails room number) (λ a. a) (λ rows. fit_at rows room number)
         (state S.Store conn.old) (state S.Store conn.new) result }
 {
     look(
@@ -122,7 +123,7 @@ pub(crate) fn bare_room<S: Alter>(
     room: RoomNo,
 ) -> Result<Option<BareRoom>, LookFault>
     requires { IsBooks (state S.Store conn.old) }
-    ensures { Finds (BareRoomFails room) (λ db. at_number (bare_rooms_in db) room)
+    ensures { SelectsIn (BareRoomFails room) (λ db. at_number (bare_rooms_in db) room)
         (state S.Store conn.old) (state S.Store conn.new) result }
 {
     look(alloc, conn, SELECT_ROOM, &[small(room.value())])
@@ -135,7 +136,7 @@ pub fn room<S: Alter>(
     room: RoomNo,
 ) -> Result<Option<RoomRow>, LookFault>
     requires { IsBooks (state S.Store conn.old) }
-    ensures { LooksUp (RoomFails room) (λ a. a) (λ rows. room_at rows room)
+    ensures { Selects (RoomFails room) (λ a. a) (λ rows. room_at rows room)
         (state S.Store conn.old) (state S.Store conn.new) result }
 {
     let fits = fits_of_room(alloc, conn, room)?;
@@ -152,7 +153,7 @@ pub fn known_by_room<S: Alter>(
     room: RoomNo,
 ) -> Result<Option<Known>, LookFault>
     requires { IsBooks (state S.Store conn.old) }
-    ensures { LooksUp (BareRoomFails room) (λ a. a) (λ rows. option_map known_by_room (room_at rows room))
+    ensures { Selects (BareRoomFails room) (λ a. a) (λ rows. option_map known_by_room (room_at rows room))
         (state S.Store conn.old) (state S.Store conn.new) result }
 {
     let Some(bare) = bare_room(alloc, conn, room)? else {
@@ -168,23 +169,39 @@ pub fn stay<S: Alter>(
     party: PartyNo,
 ) -> Result<Option<Stay>, LookFault>
     requires { IsBooks (state S.Store conn.old) }
-    ensures { LooksUp (StayFails party) (λ a. a) (λ rows. stay_at rows party)
+    ensures { Selects (StayFails party) (λ a. a) (λ rows. stay_at rows party)
         (state S.Store conn.old) (state S.Store conn.new) result }
 {
     look(alloc, conn, SELECT_STAY, &[small(party.value())])
 }
 
-/// The room and the place at which a code stands.
-pub fn code<S: Alter>(
+/// The row of a code.
+fn row_of_code<S: Alter>(
     alloc: Global,
     conn: &mut Connection<S>,
     code: Code,
 ) -> Result<Option<CodeRow>, LookFault>
     requires { IsBooks (state S.Store conn.old) }
-    ensures { LooksUp (CodeFails code) (λ a. a) (λ rows. code_place rows code)
+    ensures { Selects (CodeFails code) (λ a. a) (λ rows. code_place rows code)
         (state S.Store conn.old) (state S.Store conn.new) result }
 {
     look(alloc, conn, SELECT_CODE, &[number(code.value())])
+}
+
+/// The room and the place at which a code stands.
+pub fn code_place<S: Alter>(
+    alloc: Global,
+    conn: &mut Connection<S>,
+    code: Code,
+) -> Result<Option<(RoomNo, u32)>, LookFault>
+    requires { IsBooks (state S.Store conn.old) }
+    ensures { Selects (CodeFails code) (option_map placed_row) (λ rows. code_place rows code)
+        (state S.Store conn.old) (state S.Store conn.new) result }
+{
+    let Some(row) = row_of_code(alloc, conn, code)? else {
+        return Ok(None);
+    };
+    Ok(Some((row.room, row.place)))
 }
 
 /// A card by its number.
@@ -194,7 +211,7 @@ pub fn card<S: Alter>(
     number: CardNo,
 ) -> Result<Option<Card>, LookFault>
     requires { IsBooks (state S.Store conn.old) }
-    ensures { LooksUp (CardFails number) (λ a. a) (λ rows. card_at rows number)
+    ensures { Selects (CardFails number) (λ a. a) (λ rows. card_at rows number)
         (state S.Store conn.old) (state S.Store conn.new) result }
 {
     look(alloc, conn, SELECT_CARD, &[small(number.value())])
@@ -209,7 +226,7 @@ fn bare_note<S: Alter>(
 ) -> Result<Option<BareNote>, LookFault>
     requires books { IsBooks (state S.Store conn.old) }
     requires low { at < 2 ^ 63 }
-    ensures { Finds (BareNoteFails room at) (λ db. lookup (is_at (pair_cmp (room, at))) (bare_notes_in db))
+    ensures { SelectsIn (BareNoteFails room at) (λ db. lookup (is_at (pair_cmp (room, at))) (bare_notes_in db))
         (state S.Store conn.old) (state S.Store conn.new) result }
 {
     look(alloc, conn, SELECT_NOTE, &[small(room.value()), number(at)])
@@ -237,7 +254,7 @@ pub fn note<S: Alter>(
     count: Count,
 ) -> Result<Option<LockNote>, LookFault>
     requires { IsBooks (state S.Store conn.old) }
-    ensures { LooksUp (NoteFails room) (λ a. a) (λ rows. note_at rows room fit count)
+    ensures { Selects (NoteFails room) (λ a. a) (λ rows. note_at rows room fit count)
         (state S.Store conn.old) (state S.Store conn.new) result }
 {
     let fits = fits_of_room(alloc, conn, room)?;
@@ -264,7 +281,7 @@ pub fn is_inside<S: Alter>(
     number: CardNo,
 ) -> Result<bool, LookFault>
     requires { IsBooks (state S.Store conn.old) }
-    ensures { LooksUp (IsInsideFails room number) (λ a. a) (λ rows. is_one_of number (inside_at rows room))
+    ensures { Selects (IsInsideFails room number) (λ a. a) (λ rows. is_one_of number (inside_at rows room))
         (state S.Store conn.old) (state S.Store conn.new) result }
 {
     let card: Option<CardNo> = look(
@@ -283,7 +300,7 @@ pub fn has_inside<S: Alter>(
     room: RoomNo,
 ) -> Result<bool, LookFault>
     requires { IsBooks (state S.Store conn.old) }
-    ensures { LooksUp (HasInsideFails room) (λ a. a) (λ rows. not (are_none (inside_at rows room)))
+    ensures { Selects (HasInsideFails room) (λ a. a) (λ rows. not (are_none (inside_at rows room)))
         (state S.Store conn.old) (state S.Store conn.new) result }
 {
     let card: Option<CardNo> = look(alloc, conn, SELECT_ANY_INSIDE, &[small(room.value())])?;
@@ -298,7 +315,7 @@ pub fn code_at<S: Alter>(
     place: u32,
 ) -> Result<Option<Code>, LookFault>
     requires { IsBooks (state S.Store conn.old) }
-    ensures { LooksUp (CodeAtFails room place) (λ a. a) (λ rows. code_at rows room place)
+    ensures { Selects (CodeAtFails room place) (λ a. a) (λ rows. code_at rows room place)
         (state S.Store conn.old) (state S.Store conn.new) result }
 {
     look(
@@ -316,7 +333,7 @@ pub fn stays_of_kind<S: Alter>(
     kind: &KindCode,
 ) -> Result<Vec<Stay>, LookFault>
     requires { IsBooks (state S.Store conn.old) }
-    ensures { LooksUp (StaysFail kind.now) (λ v. v.items) (λ rows. stays_of_kind rows kind.now)
+    ensures { Selects (StaysFail kind.now) (λ v. v.items) (λ rows. stays_of_kind rows kind.now)
         (state S.Store conn.old) (state S.Store conn.new) result }
 {
     look_all(alloc, conn, SELECT_STAYS_OF_KIND, &[text(kind.as_bytes())])
@@ -329,7 +346,7 @@ pub fn inside<S: Alter>(
     room: RoomNo,
 ) -> Result<Vec<CardNo>, LookFault>
     requires { IsBooks (state S.Store conn.old) }
-    ensures { LooksUp (InsideFails room) (λ v. v.items) (λ rows. inside_at rows room)
+    ensures { Selects (InsideFails room) (λ v. v.items) (λ rows. inside_at rows room)
         (state S.Store conn.old) (state S.Store conn.new) result }
 {
     look_all(alloc, conn, SELECT_CARDS_INSIDE, &[small(room.value())])
@@ -342,10 +359,10 @@ pub fn is_issued<S: Alter>(
     number: Code,
 ) -> Result<bool, LookFault>
     requires { IsBooks (state S.Store conn.old) }
-    ensures { LooksUp (CodeFails number) (λ a. a) (λ rows. is_one_of number (codes_in rows))
+    ensures { Selects (CodeFails number) (λ a. a) (λ rows. is_one_of number (codes_in rows))
         (state S.Store conn.old) (state S.Store conn.new) result }
 {
-    let place = code(alloc, conn, number)?;
+    let place = row_of_code(alloc, conn, number)?;
     Ok(place.is_some())
 }
 
@@ -357,7 +374,7 @@ fn last_party<S: Alter>(
     requires books { IsBooks (state S.Store conn.old) }
     requires numbered { IsKept (state S.Store conn.old)
         → count_up 1 (keys_of (rows_in (state S.Store conn.old).now.trees).stays) ≡ true }
-    ensures { LooksUp LastPartyFails (λ o. unwrap_or o 0) (λ rows. length rows.stays)
+    ensures { Selects LastPartyFails (λ o. unwrap_or o 0) (λ rows. length rows.stays)
         (state S.Store conn.old) (state S.Store conn.new) result }
 {
     look(alloc, conn, SELECT_LAST_PARTY, &[])
@@ -368,7 +385,7 @@ fn last_card<S: Alter>(alloc: Global, conn: &mut Connection<S>) -> Result<Option
     requires books { IsBooks (state S.Store conn.old) }
     requires numbered { IsKept (state S.Store conn.old)
         → count_up 1 (keys_of (rows_in (state S.Store conn.old).now.trees).cards) ≡ true }
-    ensures { LooksUp LastCardFails (λ o. unwrap_or o 0) (λ rows. length rows.cards)
+    ensures { Selects LastCardFails (λ o. unwrap_or o 0) (λ rows. length rows.cards)
         (state S.Store conn.old) (state S.Store conn.new) result }
 {
     look(alloc, conn, SELECT_LAST_CARD, &[])
@@ -394,7 +411,7 @@ pub fn next_numbers<S: Alter>(
         (keys_of (rows_in (state S.Store conn.old).now.trees).stays) ≡ true }
     requires cards { IsKept (state S.Store conn.old) → count_up 1
         (keys_of (rows_in (state S.Store conn.old).now.trees).cards) ≡ true }
-    ensures { LooksUp NumbersFail (λ a. a) next_numbers_of (state S.Store conn.old) (state S.Store conn.new) result }
+    ensures { Selects NumbersFail (λ a. a) next_numbers_of (state S.Store conn.old) (state S.Store conn.new) result }
 {
     let party = last_party(alloc, conn)?;
     let card = last_card(alloc, conn)?;

@@ -8,7 +8,7 @@ ghost use Rattle.hotel_statements.specs.Statements.{MakesBy, adds_first_fit, mak
 ghost use Rattle.hotel_statements.specs.Statements.{completes};
 ghost use Rattle.hotel_statements.specs.Tables.{fits_in};
 ghost use Rattle.hotel_statements.specs.Steps.{IsMidOf};
-ghost use Rattle.hotel_statements.specs.Upgrade.{Completes, GivesFits, IsOutdated, IsFilling, with_first};
+ghost use Rattle.hotel_statements.specs.Upgrade.{Completes, GivesFits, IsOutdated, IsFilling, with_first_fit};
 
 use crate::indexes::add_indexes;
 use crate::new_desk::make_new;
@@ -35,7 +35,7 @@ fn set_version<S: Alter>(tx: &mut Transaction<'_, S>) -> Result<(), Error>
 fn insert_first_fit<S: Alter>(tx: &mut Transaction<'_, S>, room: RoomNo) -> Result<(), Error>
     ensures same_reference { tx.new.conn.ghost_name ≡ tx.old.conn.ghost_name }
     ensures makes { MakesBy S.Store (adds_first_fit room ∷ [])
-        (GivesFits IsFilling (with_first (fits_in (state S.Store tx.old.conn.now).now.trees) room))
+        (GivesFits IsFilling (with_first_fit (fits_in (state S.Store tx.old.conn.now).now.trees) room))
         tx.old.conn.now tx.new.conn.now result }
 {
     run(

@@ -1,6 +1,6 @@
 //! A desk on a connection with a limit on the steps of a statement: a list that goes past it fails, which shuts nothing.
 use crate::connections::opened;
-use crate::stored_rows::rows_text;
+use crate::stored_rows::database_text;
 use crate::tables::tables_behind;
 use hotel_scenarios::desks::Desk;
 use hotel_scenarios::scenario_runs::desk_of;
@@ -58,9 +58,9 @@ fn a_list_interrupted(rt: HostRuntime) -> Result<(), Fail> {
     assert!(rt; limited.answers(b"reissue 1", next)?);
     assert!(rt; free.answers(b"reissue 1", next)?);
     is_interrupted(&rt, &mut limited)?;
-    let rows = rows_text(rt.alloc(), &mut free.books.close())?;
+    let rows = database_text(rt.alloc(), &mut free.books.close())?;
     let mut conn = limited.books.close();
     conn.set_step_limit(None);
-    assert!(rt; rows_text(rt.alloc(), &mut conn)? == rows);
+    assert!(rt; database_text(rt.alloc(), &mut conn)? == rows);
     Ok(())
 }

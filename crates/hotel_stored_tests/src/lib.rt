@@ -6,10 +6,6 @@ mod connections;
 #[cfg(test)]
 mod damaged_fits;
 #[cfg(test)]
-mod first_desks;
-#[cfg(test)]
-mod first_version;
-#[cfg(test)]
 mod interrupted_walks;
 #[cfg(test)]
 mod stored_rows;

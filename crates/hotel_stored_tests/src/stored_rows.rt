@@ -114,40 +114,20 @@ fn rows<L: OfRow + Drop, S: Alter>(
     Ok(rows)
 }
 
-/// The fits, where the tables are of the second version.
-fn fits<S: Alter>(
-    alloc: Global,
-    conn: &mut Connection<S>,
-    version: i64,
-) -> Result<Option<Vec<PlainFit>>, Fail> {
-    if version == 1 {
-        return Ok(None);
-    }
-    Ok(Some(rows(alloc, conn, "SELECT * FROM fit ORDER BY room, fit")?))
-}
-
-/// The rows of a desk's tables, which are of the version that they tell.
+/// The rows of a desk's tables.
 pub(crate) fn stored<S: Alter>(alloc: Global, conn: &mut Connection<S>) -> Result<Stored, Fail> {
-    let meta = conn.query_row("SELECT version, day FROM meta WHERE id = 1", &[])?;
-    let version = meta.get(0)?;
+    let meta = conn.query_row("SELECT day FROM meta WHERE id = 1", &[])?;
     Ok(Stored {
-        version,
-        day: meta.get(1)?,
-        kinds: rows(alloc, conn, "SELECT * FROM kind ORDER BY kind")?,
-        rooms: rows(alloc, conn, "SELECT * FROM room ORDER BY room")?,
-        stays: rows(alloc, conn, "SELECT * FROM stay ORDER BY party")?,
-        codes: rows(alloc, conn, "SELECT * FROM code ORDER BY code")?,
-        cards: rows(alloc, conn, "SELECT * FROM card ORDER BY number")?,
+        day: meta.get(0)?,
+        kind: rows(alloc, conn, "SELECT * FROM kind ORDER BY kind")?,
+        room: rows(alloc, conn, "SELECT * FROM room ORDER BY room")?,
+        stay: rows(alloc, conn, "SELECT * FROM stay ORDER BY party")?,
+        code: rows(alloc, conn, "SELECT * FROM code ORDER BY code")?,
+        card: rows(alloc, conn, "SELECT * FROM card ORDER BY number")?,
         inside: rows(alloc, conn, "SELECT * FROM inside ORDER BY room, card")?,
-        notes: rows(alloc, conn, "SELECT * FROM note ORDER BY room, n")?,
-        fits: fits(alloc, conn, version)?,
+        note: rows(alloc, conn, "SELECT * FROM note ORDER BY room, n")?,
+        fit: Some(rows(alloc, conn, "SELECT * FROM fit ORDER BY room, fit")?),
     })
-}
-
-/// The rows of a desk's tables as a text.
-pub(crate) fn rows_text<S: Alter>(alloc: Global, conn: &mut Connection<S>) -> Result<String, Fail> {
-    let stored = stored(alloc, conn)?;
-    Ok(format!(in alloc; "{stored:?}")?)
 }
 
 /// What a database has, as a text: the statements of its tables and indexes, in their order, and each table's rows.

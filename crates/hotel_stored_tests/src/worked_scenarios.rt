@@ -1,7 +1,7 @@
 //! The worked scenarios over tables in memory, from bytes to bytes and exit status.
 use crate::connections::new_tables;
 use hotel_scenarios::many_rows::{locks_and_notes_are_found, many_rows_are_found};
-use hotel_scenarios::replaced_locks::{OF_REPLACED_LOCKS, fits_are_used_up};
+use hotel_scenarios::replaced_locks::OF_REPLACED_LOCKS;
 use hotel_scenarios::scenario_runs::scenario_holds;
 use hotel_scenarios::scenarios::{OF_FILES, OF_LOCKS, OF_THE_DESK, Scenario};
 use std::alloc::Global;
@@ -28,12 +28,6 @@ fn scenarios_of_locks(rt: HostRuntime) -> Result<(), Fail> {
 #[test]
 fn scenarios_of_replaced_locks(rt: HostRuntime) -> Result<(), Fail> {
     scenarios_hold(rt.alloc(), &OF_REPLACED_LOCKS)
-}
-
-#[test]
-fn fits_used_up(rt: HostRuntime) -> Result<(), Fail> {
-    assert!(rt; fits_are_used_up(rt.alloc(), new_tables(rt.alloc())?)?);
-    Ok(())
 }
 
 #[test]

@@ -21,7 +21,7 @@ use Rattle.hotel_statements.specs.Failures.{BareRoomFails, FitFails}
 use Rattle.hotel_statements.specs.declared.look_ups.Known.{Known}
 use Rattle.hotel_statements.specs.Statements.{Statement, RunsStatements}
 use Rattle.hotel_statements.proofs.Since.{unchanged_then}
-use Rattle.hotel_tables.specs.Applied.{counted_on, told_for, known_for}
+use Rattle.hotel_tables.specs.Applied.{known_after, told_for, known_for}
 use Rattle.hotel_tables.specs.Causes.{ToldFails, IsAsked, AsksEnded, AsksTold, FailsToWrite}
 use Rattle.hotel_tables.specs.Causes.{MakingFails}
 
@@ -91,21 +91,21 @@ module _ {S : Type 0} (g : Ghosts S) where
 
   module _ (known : Option Known) (old new : Held S) where
     -- where that can't be counted on, it was looked up
-    pub shows_open : (c : Change) → counted_on c known ≡ None → AsksTold g c known old new → HasCleanDisk (state g new)
+    pub shows_open : (c : Change) → known_after c known ≡ None → AsksTold g c known old new → HasCleanDisk (state g new)
         → IsKept (state g new)
-    shows_open (change.Begin day) none asks clean = absurd (untold (counted_on (change.Begin day)) refl asks.0 none)
-    shows_open (change.DayTo day) none asks clean = absurd (untold (counted_on (change.DayTo day)) refl asks.0 none)
-    shows_open (change.Kind kind) none asks clean = absurd (untold (counted_on (change.Kind kind)) refl asks.0 none)
+    shows_open (change.Begin day) none asks clean = absurd (untold (known_after (change.Begin day)) refl asks.0 none)
+    shows_open (change.DayTo day) none asks clean = absurd (untold (known_after (change.DayTo day)) refl asks.0 none)
+    shows_open (change.Kind kind) none asks clean = absurd (untold (known_after (change.Kind kind)) refl asks.0 none)
     shows_open (change.Room room kind code) none asks clean =
-        absurd (untold (counted_on (change.Room room kind code)) refl asks.0 none)
+        absurd (untold (known_after (change.Room room kind code)) refl asks.0 none)
     shows_open (change.Reserved stay) none asks clean =
-        absurd (untold (counted_on (change.Reserved stay)) refl asks.0 none)
+        absurd (untold (known_after (change.Reserved stay)) refl asks.0 none)
     shows_open (change.Cancelled party) none asks clean =
-        absurd (untold (counted_on (change.Cancelled party)) refl asks.0 none)
+        absurd (untold (known_after (change.Cancelled party)) refl asks.0 none)
     shows_open (change.Issue card room leaves) none asks clean = (clean, asks.0.0.is_open)
-    shows_open (change.Spare card) none asks clean = absurd (untold (counted_on (change.Spare card)) refl asks.0 none)
+    shows_open (change.Spare card) none asks clean = absurd (untold (known_after (change.Spare card)) refl asks.0 none)
     shows_open (change.CheckedOut party room) none asks clean =
-        absurd (untold (counted_on (change.CheckedOut party room)) refl asks.0 none)
+        absurd (untold (known_after (change.CheckedOut party room)) refl asks.0 none)
     shows_open (change.Refit room code fit) none asks clean = (clean, asks.0.0.is_open)
     shows_open (change.Noted note lock_place secured insides) none asks clean = (clean, asks.0.0.is_open)
 

@@ -28,7 +28,7 @@ use Rattle.hotel_core.specs.Books.Reads.{LooksUp as LooksUpBooks}
 use Rattle.hotel_core.specs.Books.Walks.{Hands, WalksOver, failure_of}
 use Rattle.hotel_core.specs.declared.books.walks.WalkFault.{WalkFault}
 use Rattle.hotel_core.specs.declared.books.walks.WalkFault.TheVariants as walk
-use Rattle.hotel_statements.specs.LookUps.{LooksUp as LooksUpTables, LeavesNoMore}
+use Rattle.hotel_statements.specs.LookUps.{Selects as LooksUpTables, LeavesNoMore}
 use Rattle.hotel_statements.specs.Ready.{IsReady}
 use Rattle.hotel_statements.specs.Walks.{WalksList}
 use Rattle.hotel_statements.specs.Books.{IsKept}

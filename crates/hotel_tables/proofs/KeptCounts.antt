@@ -39,7 +39,7 @@ use Rattle.hotel_model.proofs.Starts.StartCodes.{orders}
 use Rattle.hotel_model.proofs.Starts.StartNumbers.{stays_fit_at_start}
 use Rattle.hotel_tables.specs.TableBooks.{IsCounted}
 use Rattle.hotel_tables.proofs.MayMake.{refitted}
-use Rattle.hotel_tables.specs.Counted.{booked_by, ended_by, taken_by, CountsMore, CountsLess, KeepsRooms, HasItsKind}
+use Rattle.hotel_tables.specs.Counted.{booked_by, ended_by, nights_of, CountsMore, CountsLess, KeepsRooms, HasItsKind}
 use Rattle.hotel_tables.specs.Counted.{CountsItsRoom}
 
 -- ---- the counts of sound rows are few
@@ -133,13 +133,14 @@ kind_known kinds rows added known there kind h =
 abbrev KnowsKinds : List (List ℕ × ℕ) → Rows → Type 0
 KnowsKinds kinds rows = (kind : List ℕ) → has_kind rows kind ≡ true → is_there kinds kind ≡ true
 
-known_after : (change : Change) (rows : Rows) (mid later : List (List ℕ × ℕ))
+kinds_known_after : (change : Change) (rows : Rows) (mid later : List (List ℕ × ℕ))
     → KnowsKinds mid rows → HasItsKind change mid → CountsItsRoom change mid later → KnowsKinds later (made change rows)
-known_after (change.Kind kind) rows mid later known there same k h =
+kinds_known_after (change.Kind kind) rows mid later known there same k h =
     subst (λ kinds. is_there kinds k ≡ true) (sym same) (kind_known mid rows kind known there k h)
-known_after (change.Room room kind code) rows mid later known there one k h =
+kinds_known_after (change.Room room kind code) rows mid later known there one k h =
     ap (λ ks. list_any (λ x. bytes_eq x k) ks) one.kinds ∙ known k h
-known_after _ rows mid later known there same k h = subst (λ kinds. is_there kinds k ≡ true) (sym same) (known k h)
+kinds_known_after _ rows mid later known there same k h =
+    subst (λ kinds. is_there kinds k ≡ true) (sym same) (known k h)
 
 -- as many rooms of each kind are counted as there are
 abbrev CountsRooms : List (List ℕ × ℕ) → Rows → Type 0
@@ -171,7 +172,7 @@ rooms_after _ rows mid later known kinds few fits same k = ap (λ ks. rooms_in k
 -- one stay is counted more and one less
 abbrev Turns : Option Stay → Option Stay → List ((List ℕ × ℕ) × List ℕ) → List ((List ℕ × ℕ) × List ℕ) → Type 0
 Turns more less old new = (kind : List ℕ) (d : ℕ)
-    → counted new kind d ≡ counted old kind d + taken_by more kind d - taken_by less kind d
+    → counted new kind d ≡ counted old kind d + nights_of more kind d - nights_of less kind d
 
 stands_still : (old new : List ((List ℕ × ℕ) × List ℕ)) (stays : List Stay)
     → CountsNights old stays → Turns None None old new → CountsNights new stays
@@ -212,7 +213,7 @@ counted_after change rows kinds kinds' kinds'' nights nights' nights'' c fits ke
     let rooms_are : RoomsKnown kinds' rows.rooms = record { counts = counts; numbers = (rooms_known c).numbers } in
     record {
       sound = fits.1;
-      known = known_after change rows kinds' kinds'' known there one;
+      known = kinds_known_after change rows kinds' kinds'' known there one;
       rooms = rooms_after change rows kinds' kinds'' rooms_are known few fits.0 one;
       stays = stays_after change rows nights nights'' fits.0 c.stays
           (λ kind d. let m = more kind d (few_at_night c kind d) in let l = less kind d in omega (arith, m, l));

@@ -34,7 +34,7 @@ use Rattle.hotel_statements.specs.declared.look_ups.Known.{Known}
 use Rattle.hotel_statements.specs.Steps.{is_below, is_up_to, counts_to, IsNextFit, IsNewRoom, IsRefit, IsNewNote}
 use Rattle.hotel_statements.specs.Steps.{IsNumbered}
 use Rattle.hotel_statements.specs.LookUps.{known_by_room}
-use Rattle.hotel_tables.specs.Applied.{MayMake, can_count, known_by_fit, told_for, counted_on, known_for}
+use Rattle.hotel_tables.specs.Applied.{MayMake, can_count, known_by_fit, told_for, known_after, known_for}
 
 -- ---- tables before a row was put in
 
@@ -301,7 +301,7 @@ module _ (note : Note) (lock_place : ℕ) (secured : Bool) (insides : InsideMove
 
 -- what is known is what a row tells
 known_row : {X : Type 0} (its_change : Change) (tells : X → Known) (o : Option X) (known : Known)
-    → counted_on its_change (option_map tells o) ≡ Some known → (x : X) × (o ≡ Some x) × (tells x ≡ known)
+    → known_after its_change (option_map tells o) ≡ Some known → (x : X) × (o ≡ Some x) × (tells x ≡ known)
 known_row its_change tells (Some x) known e = (x, refl, by (can_count its_change (tells x)) e)
   where
     by : (b : Bool) → (if b then Some (tells x) else None) ≡ Some known → tells x ≡ known
@@ -311,9 +311,9 @@ known_row its_change tells None known e = absurd (let w : ◌≡◌ {A = Option 
 
 -- a row that is there tells it
 row_known : {X : Type 0} (its_change : Change) (tells : X → Known) (o : Option X) (x : X) → o ≡ Some x
-    → can_count its_change (tells x) ≡ true → IsSome (counted_on its_change (option_map tells o))
+    → can_count its_change (tells x) ≡ true → IsSome (known_after its_change (option_map tells o))
 row_known its_change tells o x there can =
-    subst (λ found. IsSome (counted_on its_change (option_map tells found))) (sym there)
+    subst (λ found. IsSome (known_after its_change (option_map tells found))) (sym there)
     (subst (λ b. IsSome (if b then Some (tells x) else None)) (sym can) refl)
 
 row_there : {X : Type 0} (o : Option X) → IsSome o → (x : X) × (o ≡ Some x)
@@ -326,7 +326,7 @@ below k n low = grind (arith, nat_tests)
 -- the room of a change that adds a code is known
 code_known : (its_change : Change) (rows : Rows) (room : ℕ)
     → ((k : Known) → can_count its_change k ≡ nat_lt k.codes (2 ^ 32 - 1)) → IsSome (room_at rows room)
-    → codes_of rows room < 2 ^ 32 - 1 → IsSome (counted_on its_change (option_map known_by_room (room_at rows room)))
+    → codes_of rows room < 2 ^ 32 - 1 → IsSome (known_after its_change (option_map known_by_room (room_at rows room)))
 code_known its_change rows room can some few =
     let p = row_there (room_at rows room) some in
     row_known its_change known_by_room (room_at rows room) p.0 p.1
@@ -347,8 +347,8 @@ is_known (change.Noted note lock_place secured insides) rows fits =
 is_known _ rows fits = refl
 
 pub is_known_by : (its_change : Change) (rows : Rows) → Fits its_change rows → (o : Option Known)
-    → told_for its_change rows ≡ o → IsSome (counted_on its_change o)
-is_known_by its_change rows fits o e = subst (λ found. IsSome (counted_on its_change found)) e
+    → told_for its_change rows ≡ o → IsSome (known_after its_change o)
+is_known_by its_change rows fits o e = subst (λ found. IsSome (known_after its_change found)) e
     (is_known its_change rows fits)
 
 -- the statements of a change that fits have what they ask of the rows

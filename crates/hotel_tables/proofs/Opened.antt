@@ -74,7 +74,7 @@ use Rattle.hotel_tables.specs.Opening.{AreStoredAs, AreStored, AreApartInside, I
 use Rattle.hotel_tables.specs.Opening.{FaultFits, FailsToRead, Opens, all_rise, fits_natural, all_natural, id_inside}
 use Rattle.hotel_tables.specs.Opening.{plain_inside, fault_for}
 use Rattle.hotel_rows.specs.Counts.{IsCountedOf}
-use Rattle.hotel_rows.specs.Joined.{with_fit, under_fit, joined, first_fits, FitEntries}
+use Rattle.hotel_rows.specs.Joined.{with_fit, under_fit, joined_with, initial_fits, FitEntries}
 use Rattle.hotel_rows.proofs.OfCounts.{counted_rooms, named_kind}
 use Rattle.hotel_rows.proofs.OfJoined.{keys_with_fit, keys_under_fit}
 use Rattle.hotel_statements.proofs.Answers.{fused}
@@ -128,8 +128,7 @@ one_row n day (r ∷ q ∷ rows) e = absurd (let w = ap length e in omega (arith
 pub stored_meta : {in_order : Bool} {version : Version} (s : Stored) (db : Trees) → AreStoredAs in_order version s db
     → HasMetaRow version db
 stored_meta {in_order} {version} s db stored =
-    one_row (number_of_version version) (maybe s.day) (db meta_tree)
-    (stored.meta ∙ ap (λ n. (Int (pos 1) ∷ Int n ∷ maybe s.day ∷ []) ∷ []) stored.version_is)
+    one_row (number_of_version version) (maybe s.day) (db meta_tree) stored.meta
 
 -- and so have those that were read
 meta_only : (of : Version) (t : Tables) (db : Trees) (plain : PlainMeta) → AreRead of t db
@@ -231,26 +230,23 @@ inside_plain_rows plain_rows rows same =
     (subst (λ xs. IsPermutation xs (map last_two (map numbered_shown plain_rows)))
     (fused last_two numbered_columns rows) (IsPermutation-map last_two _ _ same))
 
-pub stored_are : {in_order : Bool} {of : Version} (t : Tables) (db : Trees) (plain : PlainMeta) (version : ℤ)
-    (inside : Vec PlainInside Global) → version ≡ pos (number_of_version of) → AreRead of t db
-    → IsMetaRow of t.meta.items plain
+pub stored_are : {in_order : Bool} {of : Version} (t : Tables) (db : Trees) (plain : PlainMeta)
+    (inside : Vec PlainInside Global) → AreRead of t db → IsMetaRow of t.meta.items plain
     → inside.items ≡ map plain_inside t.inside.items
     → let s : Stored = record {
-      version = version;
       day = plain.day;
-      kinds = t.kinds;
-      rooms = t.rooms;
-      stays = t.stays;
-      codes = t.codes;
-      cards = t.cards;
+      kind = t.kinds;
+      room = t.rooms;
+      stay = t.stays;
+      code = t.codes;
+      card = t.cards;
       inside = inside;
-      notes = t.notes;
-      fits = t.fits;
+      note = t.notes;
+      fit = t.fits;
     } in
     all_rise s ≡ in_order → AreStoredAs in_order of s db
-stored_are {in_order} {of} t db plain version inside first read meta same up = record {
-  version_is = first;
-  meta = meta_only of t db plain read meta ∙ ap (λ n. (Int (pos 1) ∷ Int n ∷ maybe plain.day ∷ []) ∷ []) (sym first);
+stored_are {in_order} {of} t db plain inside read meta same up = record {
+  meta = meta_only of t db plain read meta;
   kinds = read.0.0.1;
   rooms = read.0.1.0;
   stays = read.0.1.1;
@@ -300,16 +296,16 @@ rising {K} {V} {L} {cmp} total entry ls e =
 
 -- those that the tables of a version hold
 abbrev pub fits_of_version : Version → Trees → FitEntries
-fits_of_version First db = first_fits (bare_rooms_in db)
+fits_of_version First db = initial_fits (bare_rooms_in db)
 fits_of_version Second db = fits_in db
 
 joined_by_version : (version : Version) (db : Trees)
-    → rows_of_version version db ≡ joined (fits_of_version version db) (bare_rows_in db)
+    → rows_of_version version db ≡ joined_with (fits_of_version version db) (bare_rows_in db)
 joined_by_version First db = refl
 joined_by_version Second db = refl
 
 -- the fits that stored rooms began with
-begun : (rooms : List PlainRoom) → first_fits (map room_entry rooms) ≡ map fit_entry (map first_fit rooms)
+begun : (rooms : List PlainRoom) → initial_fits (map room_entry rooms) ≡ map fit_entry (map first_fit rooms)
 begun [] = refl
 begun (l ∷ rooms) = ap (λ es. fit_entry (first_fit l) ∷ es) (begun rooms)
 
@@ -322,7 +318,7 @@ AreFits version db fits = IsFitTable version (db fit_tree) × (fits_of_version v
 are_fits : (version : Version) (rooms : List PlainRoom) (fits : Option (Vec PlainFit Global)) (db : Trees)
     → AreFitRows version fits db → bare_rooms_in db ≡ map room_entry rooms → fits_natural fits ≡ true
     → are_in_order pair_cmp (keys_of (entries_of rooms fits)) ≡ true → AreFits version db (entries_of rooms fits)
-are_fits First rooms None db are here natural up = (tt, ap first_fits here ∙ begun rooms)
+are_fits First rooms None db are here natural up = (tt, ap initial_fits here ∙ begun rooms)
 are_fits First rooms (Some fits) db are here natural up =
     absurd (let w : ◌≡◌ {A = Option (Vec PlainFit Global)} (Some fits) None = are in cc)
 are_fits Second rooms None db are here natural up = absurd are
@@ -336,19 +332,19 @@ are_fits Second rooms (Some fits) db are here natural up =
 -- No number of any table is below 0.
 pub record AreNatural (s : Stored) : Type 0 where
   pub day : may_be_natural s.day ≡ true
-  pub rooms : list_all room_natural s.rooms.items ≡ true
-  pub stays : list_all stay_natural s.stays.items ≡ true
-  pub codes : list_all code_natural s.codes.items ≡ true
-  pub cards : list_all card_natural s.cards.items ≡ true
+  pub rooms : list_all room_natural s.room.items ≡ true
+  pub stays : list_all stay_natural s.stay.items ≡ true
+  pub codes : list_all code_natural s.code.items ≡ true
+  pub cards : list_all card_natural s.card.items ≡ true
   pub inside : list_all inside_natural s.inside.items ≡ true
-  pub notes : list_all note_natural s.notes.items ≡ true
-  pub fits : fits_natural s.fits ≡ true
+  pub notes : list_all note_natural s.note.items ≡ true
+  pub fits : fits_natural s.fit ≡ true
 
 pub naturals : (s : Stored) → all_natural s ≡ true → AreNatural s
 naturals s natural =
-    let n = eight_true (may_be_natural s.day) (list_all room_natural s.rooms.items)
-    (list_all stay_natural s.stays.items) (list_all code_natural s.codes.items) (list_all card_natural s.cards.items)
-    (list_all inside_natural s.inside.items) (list_all note_natural s.notes.items) (fits_natural s.fits) natural in
+    let n = eight_true (may_be_natural s.day) (list_all room_natural s.room.items)
+    (list_all stay_natural s.stay.items) (list_all code_natural s.code.items) (list_all card_natural s.card.items)
+    (list_all inside_natural s.inside.items) (list_all note_natural s.note.items) (fits_natural s.fit) natural in
     record {
       day = n.0;
       rooms = n.1;
@@ -362,7 +358,7 @@ naturals s natural =
 
 pub record AreDesk (version : Version) (s : Stored) (db : Trees) : Type 0 where
   pub tables : AreTablesOf version db
-  pub rooms : bare_rooms_in db ≡ map room_entry s.rooms.items
+  pub rooms : bare_rooms_in db ≡ map room_entry s.room.items
   pub rows : rows_of_version version db ≡ rows_of s
 
 pub are_desk : {version : Version} (s : Stored) (db : Trees) → AreStored version s db → AreApartInside db
@@ -370,9 +366,10 @@ pub are_desk : {version : Version} (s : Stored) (db : Trees) → AreStored versi
 are_desk {version} s db a ids keys columns natural =
     let k = ordered (rows_of s) keys in
     let n = naturals s natural in
-    let f2 = and_true _ (list_all damage.note_columns s.notes.items) columns in
-    let f1 = and_true (list_all damage.room_columns s.rooms.items) (list_all damage.stay_columns s.stays.items) f2.0 in
-    let plain : PlainMeta = record { id = pos 1; version = s.version; day = s.day } in
+    let f2 = and_true _ (list_all damage.are_note_columns s.note.items) columns in
+    let f1 =
+    and_true (list_all damage.are_room_columns s.room.items) (list_all damage.are_stay_columns s.stay.items) f2.0 in
+    let plain : PlainMeta = record { id = pos 1; version = pos (number_of_version version); day = s.day } in
     let meta_plain : ArePlainRows meta_columns meta_shown (plain ∷ []) (db meta_tree) =
     subst (λ xs. IsPermutation xs (meta_shown plain ∷ [])) (sym a.meta)
     (IsPermutation-refl (meta_shown plain ∷ [])) in
@@ -380,39 +377,37 @@ are_desk {version} s db a ids keys columns natural =
     λ l. (number_of l.id, (number_of l.version, option_map number_of l.day)) in
     let meta =
     read_back (by_key nat_cmp) (key_total nat_cmp_total) meta_columns meta_of meta_written meta_shown entry
-    (plain ∷ []) (db meta_tree) meta_plain (meta_good plain refl a.version_is n.day, tt) (tt, tt) in
+    (plain ∷ []) (db meta_tree) meta_plain (meta_good plain refl refl n.day, tt) (tt, tt) in
     let kind = read_back (slice_cmp nat_cmp) nat_list_cmp_total kind_columns kind_of kind_written kind_shown kind_text
-    s.kinds.items (db kind_tree) a.kinds (all_kinds s.kinds.items)
-    (tested_order (slice_cmp nat_cmp) nat_list_cmp_total (map kind_text s.kinds.items) k.kinds) in
+    s.kind.items (db kind_tree) a.kinds (all_kinds s.kind.items)
+    (tested_order (slice_cmp nat_cmp) nat_list_cmp_total (map kind_text s.kind.items) k.kinds) in
     let room = read_back (by_key nat_cmp) (key_total nat_cmp_total) room_columns room_of room_written room_shown
-    room_entry s.rooms.items (db room_tree) a.rooms
-    (each_two room_natural damage.room_columns _ room_good s.rooms.items n.rooms f1.0)
-    (rising nat_cmp_total room_entry s.rooms.items
-    (ap (are_in_order nat_cmp) (sym (keys_with_fit (fits_of s) (map room_entry s.rooms.items))) ∙ k.rooms)) in
+    room_entry s.room.items (db room_tree) a.rooms
+    (each_two room_natural damage.are_room_columns _ room_good s.room.items n.rooms f1.0)
+    (rising nat_cmp_total room_entry s.room.items
+    (ap (are_in_order nat_cmp) (sym (keys_with_fit (fits_of s) (map room_entry s.room.items))) ∙ k.rooms)) in
     let stay = read_back (by_key nat_cmp) (key_total nat_cmp_total) stay_columns stay_of stay_written stay_shown
-    stay_entry s.stays.items (db stay_tree) a.stays
-    (each_two stay_natural damage.stay_columns _ stay_good s.stays.items n.stays f1.1)
-    (rising nat_cmp_total stay_entry s.stays.items k.stays) in
+    stay_entry s.stay.items (db stay_tree) a.stays
+    (each_two stay_natural damage.are_stay_columns _ stay_good s.stay.items n.stays f1.1)
+    (rising nat_cmp_total stay_entry s.stay.items k.stays) in
     let code = read_back (by_key nat_cmp) (key_total nat_cmp_total) code_columns code_of code_written code_shown
-    code_entry s.codes.items (db code_tree) a.codes
-    (each code_natural _ code_good s.codes.items n.codes) (rising nat_cmp_total code_entry s.codes.items k.codes) in
+    code_entry s.code.items (db code_tree) a.codes
+    (each code_natural _ code_good s.code.items n.codes) (rising nat_cmp_total code_entry s.code.items k.codes) in
     let card = read_back (by_key nat_cmp) (key_total nat_cmp_total) card_columns card_of card_written card_shown
-    card_entry s.cards.items (db card_tree) a.cards
-    (each card_natural _ card_good s.cards.items n.cards) (rising nat_cmp_total card_entry s.cards.items k.cards) in
+    card_entry s.card.items (db card_tree) a.cards
+    (each card_natural _ card_good s.card.items n.cards) (rising nat_cmp_total card_entry s.card.items k.cards) in
     let inside = read_back pair_cmp pair_cmp_total inside_columns inside_of inside_written inside_shown inside_pair
     s.inside.items (db inside_tree) a.inside
     (each inside_natural _ inside_good s.inside.items n.inside)
     (tested_order pair_cmp pair_cmp_total (map inside_pair s.inside.items) k.inside) in
     let note = read_back (by_key pair_cmp) (key_total pair_cmp_total) note_columns note_of note_written note_shown
-    note_entry s.notes.items (db note_tree) a.notes
-    (each_two note_natural damage.note_columns _ note_good s.notes.items n.notes f2.1)
-    (rising pair_cmp_total note_entry s.notes.items
-    (ap (are_in_order pair_cmp) (sym (keys_under_fit (fits_of s) (map note_entry s.notes.items))) ∙ k.notes)) in
-    let fit : AreFits version db (fits_of s) = are_fits version s.rooms.items s.fits db a.fits room.1 n.fits k.fits in
-    let said : number_of s.version ≡ number_of_version version = ap number_of a.version_is in
-    let metas : metas_in db ≡ (1, (number_of_version version, option_map number_of s.day)) ∷ [] =
-    meta.1 ∙ ap (λ n. (1, (n, option_map number_of s.day)) ∷ []) said in
-    let all : joined (fits_of_version version db) (bare_rows_in db) ≡ rows_of s = λ i. record {
+    note_entry s.note.items (db note_tree) a.notes
+    (each_two note_natural damage.are_note_columns _ note_good s.note.items n.notes f2.1)
+    (rising pair_cmp_total note_entry s.note.items
+    (ap (are_in_order pair_cmp) (sym (keys_under_fit (fits_of s) (map note_entry s.note.items))) ∙ k.notes)) in
+    let fit : AreFits version db (fits_of s) = are_fits version s.room.items s.fit db a.fits room.1 n.fits k.fits in
+    let metas : metas_in db ≡ (1, (number_of_version version, option_map number_of s.day)) ∷ [] = meta.1 in
+    let all : joined_with (fits_of_version version db) (bare_rows_in db) ≡ rows_of s = λ i. record {
       day = ap (λ (m : List (ℕ × (ℕ × Option ℕ))). said_of (at_number m 1) None (λ e. e.1)) metas i;
       kinds = kind.1 i;
       rooms = map (with_fit (fit.1 i)) (room.1 i);
@@ -464,7 +459,7 @@ numbers_are (r ∷ rooms) = ap (λ ns. number_of r.room ∷ ns) (numbers_are roo
 abbrev pub IsFoundOf : Stored → Found → Type 0
 IsFoundOf s found =
     IsCountedOf s found.counts × (first_damaged_of s ≡ None) × (all_natural s ≡ true)
-    × (found.rooms.items ≡ map (λ (r : PlainRoom). number_of r.room) s.rooms.items)
+    × (found.rooms.items ≡ map (λ (r : PlainRoom). number_of r.room) s.room.items)
 
 pub opened : {version : Version} (s : Stored) (db : Trees) (found : Found) → AreStored version s db × AreApartInside db
     → IsFoundOf s found → IsFound version found db
@@ -473,15 +468,15 @@ opened s db found a h =
     let desk = are_desk s db a.0 a.1 sound.0.keys sound.1 h.2 in
     let here : IsCounted found.counts.kinds found.counts.nights (rows_of s) = record {
       sound = sound.0;
-      known = λ kind there. h.0.1.1 kind (named_kind kind s.kinds.items ∙ there);
+      known = λ kind there. h.0.1.1 kind (named_kind kind s.kind.items ∙ there);
       rooms = λ kind.
-          h.0.0 kind ∙ counted_rooms kind s.rooms.items ∙ joined_kinds kind (fits_of s) (map room_entry s.rooms.items);
+          h.0.0 kind ∙ counted_rooms kind s.room.items ∙ joined_kinds kind (fits_of s) (map room_entry s.room.items);
       stays = h.0.1.0;
     } in
     record {
       tables = desk.tables;
       counted = subst (IsCounted found.counts.kinds found.counts.nights) (sym desk.rows) here;
-      rooms = h.3 ∙ sym (numbers_are s.rooms.items) ∙ ap keys_of (sym desk.rooms);
+      rooms = h.3 ∙ sym (numbers_are s.room.items) ∙ ap keys_of (sym desk.rooms);
     }
 
 -- ---- the whole

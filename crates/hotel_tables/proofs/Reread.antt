@@ -139,7 +139,7 @@ room_plain l e =
     (may_natural l.party _ (ap (λ (v : Row). column v 5) e)))
     (natural l.notes _ (ap (λ (v : Row). column v 6) e))
 
-room_fits : (l : PlainRoom) → IsPlainRow room_of room_written room_shown l → damage.room_columns l ≡ true
+room_fits : (l : PlainRoom) → IsPlainRow room_of room_written room_shown l → damage.are_room_columns l ≡ true
 room_fits l e = bit_fits l.secured (room_of (room_shown l)).1.secured (ap (λ (v : Row). column v 4) e)
 
 stay_plain : (l : PlainStay) → IsPlainRow stay_of stay_written stay_shown l → stay_natural l ≡ true
@@ -149,7 +149,7 @@ stay_plain l e =
     (natural l.depart _ (ap (λ (v : Row). column v 4) e))) (natural l.state _ (ap (λ (v : Row). column v 5) e)))
     (may_natural l.room _ (ap (λ (v : Row). column v 6) e))
 
-stay_fits : (l : PlainStay) → IsPlainRow stay_of stay_written stay_shown l → damage.stay_columns l ≡ true
+stay_fits : (l : PlainStay) → IsPlainRow stay_of stay_written stay_shown l → damage.are_stay_columns l ≡ true
 stay_fits l e = state_fits l.state l.room (stay_of (stay_shown l)).1.state (ap (λ (v : Row). column v 5) e)
     (ap (λ (v : Row). column v 6) e)
 
@@ -177,7 +177,7 @@ note_plain l e =
     (natural l.second_code _ (ap (λ (v : Row). column v 5) e))) (natural l.day _ (ap (λ (v : Row). column v 6) e)))
     (natural l.second _ (ap (λ (v : Row). column v 7) e))
 
-note_fits : (l : PlainNote) → IsPlainRow note_of note_written note_shown l → damage.note_columns l ≡ true
+note_fits : (l : PlainNote) → IsPlainRow note_of note_written note_shown l → damage.are_note_columns l ≡ true
 note_fits l e = act_fits l.act l.card (note_of (note_shown l)).1.act (ap (λ (v : Row). column v 2) e)
     (ap (λ (v : Row). column v 3) e)
 
@@ -226,32 +226,32 @@ are_written {version} s db t a =
     all_map (λ (v : Row). v ≡ meta_written (meta_of v)) meta_columns (db meta_tree) t.meta.good in
     let meta = (subst (AllByRecursion (λ (v : Row). v ≡ meta_written (meta_of v))) a.meta metas).0 in
     let day : may_be_natural s.day ≡ true = may_natural s.day _ (ap (λ (v : Row). column v 2) meta) in
-    let rooms = are_plain_rows room_columns room_of room_written room_shown s.rooms.items (db room_tree) t.room.good
+    let rooms = are_plain_rows room_columns room_of room_written room_shown s.room.items (db room_tree) t.room.good
     a.rooms in
-    let stays = are_plain_rows stay_columns stay_of stay_written stay_shown s.stays.items (db stay_tree) t.stay.good
+    let stays = are_plain_rows stay_columns stay_of stay_written stay_shown s.stay.items (db stay_tree) t.stay.good
     a.stays in
-    let codes = are_plain_rows code_columns code_of code_written code_shown s.codes.items (db code_tree) t.code.good
+    let codes = are_plain_rows code_columns code_of code_written code_shown s.code.items (db code_tree) t.code.good
     a.codes in
-    let cards = are_plain_rows card_columns card_of card_written card_shown s.cards.items (db card_tree) t.card.good
+    let cards = are_plain_rows card_columns card_of card_written card_shown s.card.items (db card_tree) t.card.good
     a.cards in
     let inside = are_plain_rows inside_columns inside_of inside_written inside_shown s.inside.items (db inside_tree)
     t.inside.good a.inside in
-    let notes = are_plain_rows note_columns note_of note_written note_shown s.notes.items (db note_tree) t.note.good
+    let notes = are_plain_rows note_columns note_of note_written note_shown s.note.items (db note_tree) t.note.good
     a.notes in
-    let room = all_pass _ room_natural room_plain s.rooms.items rooms in
-    let stay = all_pass _ stay_natural stay_plain s.stays.items stays in
-    let code = all_pass _ code_natural code_plain s.codes.items codes in
-    let card = all_pass _ card_natural card_plain s.cards.items cards in
+    let room = all_pass _ room_natural room_plain s.room.items rooms in
+    let stay = all_pass _ stay_natural stay_plain s.stay.items stays in
+    let code = all_pass _ code_natural code_plain s.code.items codes in
+    let card = all_pass _ card_natural card_plain s.card.items cards in
     let within = all_pass _ inside_natural inside_plain s.inside.items inside in
-    let note = all_pass _ note_natural note_plain s.notes.items notes in
-    let fit = fits_pass version s.fits db t.fit a.fits in
+    let note = all_pass _ note_natural note_plain s.note.items notes in
+    let fit = fits_pass version s.fit db t.fit a.fits in
     record {
       natural =
           let first = both _ _ (both _ _ (both _ _ day room) stay) code in
           both _ _ (both _ _ (both _ _ (both _ _ first card) within) note) fit;
-      fit = both _ _ (both _ _ (all_pass _ damage.room_columns room_fits s.rooms.items rooms)
-          (all_pass _ damage.stay_columns stay_fits s.stays.items stays))
-          (all_pass _ damage.note_columns note_fits s.notes.items notes);
+      fit = both _ _ (both _ _ (all_pass _ damage.are_room_columns room_fits s.room.items rooms)
+          (all_pass _ damage.are_stay_columns stay_fits s.stay.items stays))
+          (all_pass _ damage.are_note_columns note_fits s.note.items notes);
     }
 
 -- ---- the order of the keys
@@ -332,38 +332,38 @@ keys_rise : {version : Version} (s : Stored) (db : Trees) → AreStored version 
     → all_natural s ≡ true → keys_in_order (rows_of s) ≡ true
 keys_rise s db a natural =
     let n = naturals s natural in
-    let r7 = and_true _ (fits_rise s.fits) a.rise in
-    let r6 = and_true _ (are_in_order note_order s.notes.items) r7.0 in
+    let r7 = and_true _ (fits_rise s.fit) a.rise in
+    let r6 = and_true _ (are_in_order note_order s.note.items) r7.0 in
     let r5 = and_true _ (are_in_order inside_order s.inside.items) r6.0 in
-    let r4 = and_true _ (are_in_order card_order s.cards.items) r5.0 in
-    let r3 = and_true _ (are_in_order code_order s.codes.items) r4.0 in
-    let r2 = and_true _ (are_in_order stay_order s.stays.items) r3.0 in
-    let r1 = and_true (are_in_order kind_order s.kinds.items) (are_in_order room_order s.rooms.items) r2.0 in
-    let kinds = rise_by kind_order (slice_cmp nat_cmp) kind_text kind_natural (λ x y h k. refl) s.kinds.items
-    (all_kinds s.kinds.items) r1.0 in
+    let r4 = and_true _ (are_in_order card_order s.card.items) r5.0 in
+    let r3 = and_true _ (are_in_order code_order s.code.items) r4.0 in
+    let r2 = and_true _ (are_in_order stay_order s.stay.items) r3.0 in
+    let r1 = and_true (are_in_order kind_order s.kind.items) (are_in_order room_order s.room.items) r2.0 in
+    let kinds = rise_by kind_order (slice_cmp nat_cmp) kind_text kind_natural (λ x y h k. refl) s.kind.items
+    (all_kinds s.kind.items) r1.0 in
     let rooms = entries_rise room_order nat_cmp room_entry room_natural
-    (λ x y h k. same_order x.room y.room (of_room x h) (of_room y k)) s.rooms.items n.rooms r1.1 in
+    (λ x y h k. same_order x.room y.room (of_room x h) (of_room y k)) s.room.items n.rooms r1.1 in
     let stays = entries_rise stay_order nat_cmp stay_entry stay_natural
-    (λ x y h k. same_order x.party y.party (of_stay x h) (of_stay y k)) s.stays.items n.stays r2.1 in
+    (λ x y h k. same_order x.party y.party (of_stay x h) (of_stay y k)) s.stay.items n.stays r2.1 in
     let codes = entries_rise code_order nat_cmp code_entry code_natural
-    (λ x y h k. same_order x.code y.code (of_code x h) (of_code y k)) s.codes.items n.codes r3.1 in
+    (λ x y h k. same_order x.code y.code (of_code x h) (of_code y k)) s.code.items n.codes r3.1 in
     let cards = entries_rise card_order nat_cmp card_entry card_natural
-    (λ x y h k. same_order x.number y.number (of_card x h) (of_card y k)) s.cards.items n.cards r4.1 in
+    (λ x y h k. same_order x.number y.number (of_card x h) (of_card y k)) s.card.items n.cards r4.1 in
     let inside = rise_by inside_order pair_cmp inside_pair inside_natural
     (λ x y h k. let p = and_true (is_natural x.room) (is_natural x.card) h in let q = and_true (is_natural y.room)
     (is_natural y.card) k in same_pairs x.room x.card y.room y.card p.0 p.1 q.0 q.1)
     s.inside.items n.inside r5.1 in
     let notes = entries_rise note_order pair_cmp note_entry note_natural
     (λ x y h k. let p = of_note x h in let q = of_note y k in same_pairs x.room x.n y.room y.n p.0 p.1 q.0 q.1)
-    s.notes.items n.notes r6.1 in
+    s.note.items n.notes r6.1 in
     let began = rise_by room_order pair_cmp (λ (l : PlainRoom). (number_of l.room, 1)) room_natural
     (λ x y h k.
     then_equal (int_cmp x.room y.room)
     ∙ same_pairs x.room (pos 1) y.room (pos 1) (of_room x h) refl (of_room y k) refl)
-    s.rooms.items n.rooms r1.1 in
-    let fits = fit_keys_rise s.rooms.items s.fits n.fits r7.1 began in
-    let joined_rooms = ap (are_in_order nat_cmp) (keys_with_fit (fits_of s) (map room_entry s.rooms.items)) ∙ rooms in
-    let joined_notes = ap (are_in_order pair_cmp) (keys_under_fit (fits_of s) (map note_entry s.notes.items)) ∙ notes in
+    s.room.items n.rooms r1.1 in
+    let fits = fit_keys_rise s.room.items s.fit n.fits r7.1 began in
+    let joined_rooms = ap (are_in_order nat_cmp) (keys_with_fit (fits_of s) (map room_entry s.room.items)) ∙ rooms in
+    let joined_notes = ap (are_in_order pair_cmp) (keys_under_fit (fits_of s) (map note_entry s.note.items)) ∙ notes in
     let first = both _ _ (both _ _ (both _ _ kinds joined_rooms) codes) stays in
     both _ _ (both _ _ (both _ _ (both _ _ first cards) inside) joined_notes) fits
   where

@@ -45,12 +45,12 @@ can_count (Noted note lock_place secured insides) known = nat_lt (known.before +
 can_count _ known = true
 
 -- what was told, where the change can count on from it
-abbrev pub counted_on : Change → Option Known → Option Known
-counted_on change o = said_of o None (λ known. if can_count change known then Some known else None)
+abbrev pub known_after : Change → Option Known → Option Known
+known_after change o = said_of o None (λ known. if can_count change known then Some known else None)
 
 -- What is known for a change: none, where the row that tells it isn't there, or where what is added can't be counted.
 abbrev pub known_for : Change → Rows → Option Known
-known_for change rows = counted_on change (told_for change rows)
+known_for change rows = known_after change (told_for change rows)
 
 -- A change, of the books' connection from old to new, which answers: it is made whole or not at all, and a crash leaves
 -- what it could leave before, or the change made.

@@ -23,18 +23,18 @@ ended_by (CheckedOut party room) rows = stay_at rows party
 ended_by _ rows = None
 
 -- one at each night that the stay takes, if there is a stay
-abbrev pub taken_by : Option Stay → List ℕ → ℕ → ℕ
-taken_by None kind d = 0
-taken_by (Some stay) kind d = one_if (takes kind d stay)
+abbrev pub nights_of : Option Stay → List ℕ → ℕ → ℕ
+nights_of None kind d = 0
+nights_of (Some stay) kind d = one_if (takes kind d stay)
 
 -- the stay is counted, where counts are below 2^63
 abbrev pub CountsMore : Option Stay → List ((List ℕ × ℕ) × List ℕ) → List ((List ℕ × ℕ) × List ℕ) → Type 0
 CountsMore stay old new = (kind : List ℕ) (d : ℕ) → counted old kind d < 2 ^ 63
-    → counted new kind d ≡ counted old kind d + taken_by stay kind d
+    → counted new kind d ≡ counted old kind d + nights_of stay kind d
 
 -- the stay is counted no longer
 abbrev pub CountsLess : Option Stay → List ((List ℕ × ℕ) × List ℕ) → List ((List ℕ × ℕ) × List ℕ) → Type 0
-CountsLess stay old new = (kind : List ℕ) (d : ℕ) → counted new kind d ≡ counted old kind d - taken_by stay kind d
+CountsLess stay old new = (kind : List ℕ) (d : ℕ) → counted new kind d ≡ counted old kind d - nights_of stay kind d
 
 -- The kinds that were there still are, and each has as many rooms.
 pub record KeepsRooms (old new : List (List ℕ × ℕ)) : Type 0 where

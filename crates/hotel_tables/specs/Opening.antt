@@ -60,20 +60,20 @@ fits_natural (Some fits) = list_all fit_natural fits.items
 -- each table is in the order of its key
 abbrev pub all_rise : Stored → Bool
 all_rise s =
-    are_in_order kind_order s.kinds.items && are_in_order room_order s.rooms.items
-    && are_in_order stay_order s.stays.items && are_in_order code_order s.codes.items
-    && are_in_order card_order s.cards.items && are_in_order inside_order s.inside.items
-    && are_in_order note_order s.notes.items
-    && fits_rise s.fits
+    are_in_order kind_order s.kind.items && are_in_order room_order s.room.items
+    && are_in_order stay_order s.stay.items && are_in_order code_order s.code.items
+    && are_in_order card_order s.card.items && are_in_order inside_order s.inside.items
+    && are_in_order note_order s.note.items
+    && fits_rise s.fit
 
 -- no number is below 0
 abbrev pub all_natural : Stored → Bool
 all_natural s =
-    may_be_natural s.day && list_all room_natural s.rooms.items && list_all stay_natural s.stays.items
-    && list_all code_natural s.codes.items
-    && list_all card_natural s.cards.items && list_all inside_natural s.inside.items
-    && list_all note_natural s.notes.items
-    && fits_natural s.fits
+    may_be_natural s.day && list_all room_natural s.room.items && list_all stay_natural s.stay.items
+    && list_all code_natural s.code.items
+    && list_all card_natural s.card.items && list_all inside_natural s.inside.items
+    && list_all note_natural s.note.items
+    && fits_natural s.fit
 
 -- the one row of meta, of a version, and that it isn't there
 abbrev pub IsMetaRow : Version → List PlainMeta → PlainMeta → Type 0
@@ -92,16 +92,16 @@ plain_inside l = l.plain
 -- The plain rows are those of the tables of a version, and meta has its one row; whether each table is in the order of
 -- its key.
 pub record AreStoredAs (in_order : Bool) (version : Version) (s : Stored) (db : Trees) : Type 0 where
-  pub version_is : s.version ≡ pos (number_of_version version)
-  pub meta : map meta_columns (db meta_tree) ≡ (Int (pos 1) ∷ Int s.version ∷ maybe s.day ∷ []) ∷ []
-  pub kinds : ArePlainRows kind_columns kind_shown s.kinds.items (db kind_tree)
-  pub rooms : ArePlainRows room_columns room_shown s.rooms.items (db room_tree)
-  pub stays : ArePlainRows stay_columns stay_shown s.stays.items (db stay_tree)
-  pub codes : ArePlainRows code_columns code_shown s.codes.items (db code_tree)
-  pub cards : ArePlainRows card_columns card_shown s.cards.items (db card_tree)
+  pub meta : map meta_columns (db meta_tree)
+      ≡ (Int (pos 1) ∷ Int (pos (number_of_version version)) ∷ maybe s.day ∷ []) ∷ []
+  pub kinds : ArePlainRows kind_columns kind_shown s.kind.items (db kind_tree)
+  pub rooms : ArePlainRows room_columns room_shown s.room.items (db room_tree)
+  pub stays : ArePlainRows stay_columns stay_shown s.stay.items (db stay_tree)
+  pub codes : ArePlainRows code_columns code_shown s.code.items (db code_tree)
+  pub cards : ArePlainRows card_columns card_shown s.card.items (db card_tree)
   pub inside : ArePlainRows inside_columns inside_shown s.inside.items (db inside_tree)
-  pub notes : ArePlainRows note_columns note_shown s.notes.items (db note_tree)
-  pub fits : AreFitRows version s.fits db
+  pub notes : ArePlainRows note_columns note_shown s.note.items (db note_tree)
+  pub fits : AreFitRows version s.fit db
   pub rise : all_rise s ≡ in_order
 
 -- each is in the order of its key

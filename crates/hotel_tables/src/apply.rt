@@ -10,7 +10,7 @@ ghost use Rattle.hotel_statements.specs.Tables.{rows_in};
 ghost use Rattle.hotel_statements.specs.Books.{IsBooks, IsKept};
 ghost use Rattle.hotel_statements.specs.Steps.{IsMadeOf};
 ghost use Rattle.hotel_statements.specs.Statements.{WritesBy, statements_of};
-ghost use Rattle.hotel_statements.specs.LookUps.{LooksUp, MayLook, HasCause};
+ghost use Rattle.hotel_statements.specs.LookUps.{Selects, MayLook, HasCause};
 ghost use Rattle.hotel_statements.specs.Failures.{FitFails};
 ghost use Rattle.hotel_tables.specs.Applied.{MayMake, Applies, known_by_fit, told_for, known_for};
 ghost use Rattle.hotel_tables.specs.Applied.{can_count};
@@ -110,7 +110,7 @@ fn known_by_fit<S: Alter>(
     number: FitNo,
 ) -> Result<Option<Known>, LookFault>
     requires { IsBooks (state S.Store conn.old) }
-    ensures { LooksUp (FitFails room number) (λ known. known)
+    ensures { Selects (FitFails room number) (λ known. known)
         (λ rows. option_map known_by_fit (fit_at rows room number))
         (state S.Store conn.old) (state S.Store conn.new) result }
 {

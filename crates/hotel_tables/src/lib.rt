@@ -1,7 +1,14 @@
-//! The desk's books over SQL tables: each look-up is one keyed statement, and no rows are kept in memory. The
-//! statements are those
-//! of `hotel_statements`; here are the transactions of a change, of a new desk and of a desk's new version, the counts
-//! beside the tables, and a desk's files.
+//! The desk's books over SQL tables. No rows are kept in memory, only counts of rooms and nights. A look-up is one
+//! keyed statement of `hotel_statements`, but: `full_night`, `rooms_of_kind` and `copy_guest` run none; a room, a note
+//! and the next numbers take up to two; and `stays_of_kind`, which no command asks, goes through all stays.
+//!
+//! - src: table_books, counted; specs: TableBooks, Counted: `Books` and `Walks` over a connection; the counts beside
+//!   it.
+//! - src: create, apply; Applied, Exits: a new desk and each change, as one transaction each.
+//! - src: desk_schema, entering, opening, migration, open_books, laws; Opening, Reopening: an opening, the upgrade in
+//!   it, and a close.
+//! - src: open_fault; Causes: why there are no books, and why a call answers Store.
+//! - src: path_disk, system_disk, files; Paths, Files: disks opened at a path; the books of a file.
 #![tactic(auto)]
 
 mod apply;
@@ -20,7 +27,10 @@ mod system_disk;
 mod table_books;
 
 pub use files::{FileFault, close_file, open_file};
-pub use hotel_rows::{Stored, TableName, first_damaged};
+pub use hotel_rows::{
+    PlainCard, PlainCode, PlainFit, PlainInside, PlainKind, PlainNote, PlainRoom, PlainStay,
+    Stored, TableName, first_damaged, undamaged_is_sound,
+};
 pub use laws::{files_are_clean, files_keep_books, memory_is_clean, read_undamaged};
 pub use open_fault::OpenFault;
 pub use path_disk::PathDisk;

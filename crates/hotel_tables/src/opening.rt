@@ -127,14 +127,14 @@ fn fits_natural(fits: &Option<Vec<PlainFit>>) -> bool
 fn all_rise(stored: &Stored) -> bool
     ensures { result ≡ all_rise stored.now }
 {
-    rise(&stored.kinds)
-        && rise(&stored.rooms)
-        && rise(&stored.stays)
-        && rise(&stored.codes)
-        && rise(&stored.cards)
+    rise(&stored.kind)
+        && rise(&stored.room)
+        && rise(&stored.stay)
+        && rise(&stored.code)
+        && rise(&stored.card)
         && rise(&stored.inside)
-        && rise(&stored.notes)
-        && fits_rise(&stored.fits)
+        && rise(&stored.note)
+        && fits_rise(&stored.fit)
 }
 
 /// Whether no number is below 0.
@@ -142,13 +142,13 @@ fn all_natural(stored: &Stored) -> bool
     ensures { result ≡ all_natural stored.now }
 {
     plain_rows::may_be_natural(stored.day)
-        && whole_tables::all_natural(&stored.rooms)
-        && whole_tables::all_natural(&stored.stays)
-        && whole_tables::all_natural(&stored.codes)
-        && whole_tables::all_natural(&stored.cards)
+        && whole_tables::all_natural(&stored.room)
+        && whole_tables::all_natural(&stored.stay)
+        && whole_tables::all_natural(&stored.code)
+        && whole_tables::all_natural(&stored.card)
         && whole_tables::all_natural(&stored.inside)
-        && whole_tables::all_natural(&stored.notes)
-        && fits_natural(&stored.fits)
+        && whole_tables::all_natural(&stored.note)
+        && fits_natural(&stored.fit)
 }
 
 /// The rows of the tables, where meta has its one row and each table is in the order of its key.
@@ -169,16 +169,15 @@ fn stored_of(alloc: Global, tables: Tables, version: Version) -> Result<Stored, 
         return Err(OpenFault::Memory);
     };
     let stored = Stored {
-        version: meta.version,
         day: meta.day,
-        kinds: tables.kinds,
-        rooms: tables.rooms,
-        stays: tables.stays,
-        codes: tables.codes,
-        cards: tables.cards,
+        kind: tables.kinds,
+        room: tables.rooms,
+        stay: tables.stays,
+        code: tables.codes,
+        card: tables.cards,
         inside,
-        notes: tables.notes,
-        fits: tables.fits,
+        note: tables.notes,
+        fit: tables.fits,
     };
     if !all_rise(&stored) {
         return Err(OpenFault::Store);
@@ -230,12 +229,12 @@ pub(crate) struct Found {
 /// What is found in the rows of tables, where none is damaged.
 fn sound_found(alloc: Global, stored: &Stored) -> Result<Found, OpenFault>
     ensures ok { IfOk result (λ found. IsCountedOf stored.now found.counts × (first_damaged_of stored.now ≡ None)
-        × (all_natural stored.now ≡ true) × (found.rooms.items ≡ map room_key stored.now.rooms.items)) }
+        × (all_natural stored.now ≡ true) × (found.rooms.items ≡ map room_key stored.now.room.items)) }
     ensures err { (version : Version) (db : Trees) → AreStored version stored.now db
         → IfErr result (FaultFits ⊥ version db) }
 {
     let counts = sound_counts(alloc, stored)?;
-    match rooms_of(alloc, &stored.rooms) {
+    match rooms_of(alloc, &stored.room) {
         Ok(rooms) => Ok(Found { counts, rooms }),
         Err(why) => Err(open_fault(why)),
     }

@@ -1,7 +1,7 @@
 //! The two causes of a failed call of the books: what is counted of each, and what it is answered as.
-use hotel_core::StoppingBooks;
 use hotel_scenarios::desks::Desk;
 use keycard_rules::LookFault;
+use stopping_books::StoppingBooks;
 
 pub(crate) static CAUSES: [LookFault; 2] = [LookFault::Memory, LookFault::Store];
 

@@ -60,8 +60,7 @@ fn failed_look_ups(rt: HostRuntime) -> Result<(), Fail> {
         (LookFault::Memory, DrawFault::Memory),
         (LookFault::Store, DrawFault::Store),
     ] {
-        let words = ListedWords::new([1, 2, 3, 4].to_vec(rt.alloc())?);
-        let mut words = words.expect(&rt, "a list that isn't empty");
+        let mut words = ListedWords::new([1, 2, 3, 4].to_vec(rt.alloc())?);
         let mut codes = FailingCodes {
             left: 2,
             fault,

@@ -2,10 +2,9 @@
 //! HTTP.
 use crate::causes::{CAUSES, counts, counts_of, refusal_of, stopping};
 use crate::lists::{list_of, write_alone};
-use crate::requests::serve;
 use crate::wrong_calls::{Wrong, WrongWriter};
-use hotel_core::StoppingBooks;
-use hotel_http::Served;
+use hotel_core::Walks;
+use hotel_http::{ServeFault, Served, serve_one};
 use hotel_lists::{IoCalls, ListFault};
 use hotel_program::{ScriptEnd, run_script};
 use hotel_scenarios::desks::Desk;
@@ -13,6 +12,7 @@ use keycard_rules::LookFault;
 use std::alloc::Global;
 use std::process::Abort;
 use std::test::Fail;
+use stopping_books::StoppingBooks;
 
 /// Room 101 was never entered, and its second guest is in house; the guest of room 102 came and went out; and one more
 /// is to arrive two days later.
@@ -266,7 +266,7 @@ fn joined(alloc: Global, texts: &[&[u8]]) -> Result<Vec<u8>, Fail> {
 /// The output of a script of these two lines on the desk.
 fn output_of(
     rt: &(impl Abort + AllocGlobal),
-    desk: &mut Desk<StoppingBooks>,
+    desk: &mut Desk<impl Walks>,
     script: &[u8],
 ) -> Result<Vec<u8>, Fail> {
     let mut reader = script;
@@ -320,10 +320,25 @@ fn each_call_of_a_list_in_a_script_fails(rt: HostRuntime) -> Result<(), Fail> {
     Ok(())
 }
 
+/// The desk answers the reader's request to the writer.
+fn serve(
+    desk: &mut Desk<impl Walks>,
+    reader: &mut &[u8],
+    writer: &mut Vec<u8>,
+) -> Result<Served, ServeFault> {
+    serve_one(
+        desk.alloc,
+        reader,
+        writer,
+        &mut desk.books,
+        &mut desk.source,
+    )
+}
+
 /// The request for the list has this status and this body.
 fn is_served(
     rt: &(impl Abort + AllocGlobal),
-    desk: &mut Desk<StoppingBooks>,
+    desk: &mut Desk<impl Walks>,
     asked: &Asked,
     status: u16,
     body: &[u8],

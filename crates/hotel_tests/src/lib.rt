@@ -17,8 +17,6 @@ mod failing_walks;
 #[cfg(test)]
 mod lists;
 #[cfg(test)]
-mod requests;
-#[cfg(test)]
 mod stopped_commands;
 #[cfg(test)]
 mod stopped_imports;

@@ -3,12 +3,11 @@ use hotel_asks::{Ask, ListAsk};
 use hotel_core::Walks;
 use hotel_lists::{ListFault, arrivals, audit_of, chain_of, in_house, left_behind};
 use hotel_scenarios::chains::walks_end;
-use hotel_scenarios::desks::{Desk, room};
+use hotel_scenarios::desks::Desk;
 use hotel_scenarios::line_asks::ask_of;
 use hotel_scenarios::scenarios::{CHECKED_IN, LEFT_BEHIND_RECODED, NEXT_CHECKED_IN, OPENED};
 use std::alloc::Global;
 use std::io::Write;
-use std::process::Abort;
 use std::test::Fail;
 
 /// The list that a line asks for.
@@ -42,23 +41,6 @@ fn recoded(alloc: Global) -> Result<Desk, Fail> {
         &[0xa0, 0xa1, 0xa2],
         &[OPENED, CHECKED_IN, NEXT_CHECKED_IN, LEFT_BEHIND_RECODED],
     )
-}
-
-/// The lists of a room that isn't there write nothing.
-fn no_room(rt: &(impl Abort + AllocGlobal), desk: &mut Desk<impl Walks>) -> Result<(), Fail> {
-    let absent = room(102)?;
-    let mut writer = Vec::new(rt.alloc());
-    let chain = chain_of(rt.alloc(), &mut desk.books, absent, &mut writer);
-    assert!(rt; chain == Err(ListFault::NoRoom));
-    let audit = audit_of(rt.alloc(), &mut desk.books, absent, &mut writer);
-    assert!(rt; audit == Err(ListFault::NoRoom));
-    assert!(rt; writer.is_empty());
-    Ok(())
-}
-
-#[test]
-fn no_room_before_anything_is_written(rt: HostRuntime) -> Result<(), Fail> {
-    no_room(&rt, &mut recoded(rt.alloc())?)
 }
 
 #[test]

@@ -1,6 +1,5 @@
 //! Commands of which each call of the books fails in turn, for each cause, and which are then asked for again.
 use crate::causes::{CAUSES, counts, counts_of, refusal_of, stopping};
-use hotel_core::StoppingBooks;
 use hotel_scenarios::desks::Desk;
 use hotel_scenarios::rooms_now::RoomNow;
 use hotel_scenarios::scenarios::{CHECKED_IN, OPENED, Step};
@@ -8,6 +7,7 @@ use keycard_rules::LookFault;
 use std::alloc::Global;
 use std::process::Abort;
 use std::test::Fail;
+use stopping_books::StoppingBooks;
 
 /// The guest of room 101 entered, and so secured it.
 const ENTERED: &[Step] = &[Step::Line(b"entered 101 1 1 a0 a1 2031-05-01T15:00:00", b"taken\n")];
@@ -264,21 +264,5 @@ fn each_call_of_a_refused_refit_fails(rt: HostRuntime) -> Result<(), Fail> {
     ] {
         fails_in_turn(&rt, asked)?;
     }
-    Ok(())
-}
-
-/// The room's new lock holds its code; all earlier ones are passed, nobody is inside, and no note of it was taken.
-fn is_refitted<A: Abort>(rt: &A, now: &RoomNow) {
-    assert!(rt; now.codes.len() == 3 && now.lock_place == 2);
-    assert!(rt; !now.secured && now.party.is_none() && now.inside.is_empty());
-    assert!(rt; now.fits.len() == 2 && now.notes.len() == 1);
-}
-
-#[test]
-fn nobody_is_inside_after_a_refit(rt: HostRuntime) -> Result<(), Fail> {
-    let (mut desk, answer) = REFIT.desk(rt.alloc(), 0)?;
-    assert!(rt; desk.answers(REFIT.line, answer)?);
-    let now = RoomNow::of(rt.alloc(), &mut desk.books)?;
-    is_refitted(&rt, &now.ok_or("a room")?);
     Ok(())
 }

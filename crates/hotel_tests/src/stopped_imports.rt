@@ -2,13 +2,15 @@
 
 use crate::causes::{CAUSES, counts, counts_of};
 use hotel_audit::{AuditFault, ImportFault, LineAnswer, import};
-use hotel_core::StoppingBooks;
+use hotel_core::Books;
 use hotel_scenarios::sent_again::{
     CUT, LATE, REPLACED_TWICE, Sent, TWICE, TWICE_WITH_FITS, comes_again,
 };
 use keycard_rules::LookFault;
+use std::alloc::Global;
 use std::process::Abort;
 use std::test::Fail;
+use stopping_books::StoppingBooks;
 
 /// More calls of the books than an import of one of these files makes.
 const MOST_CALLS: u64 = 60;
@@ -48,6 +50,15 @@ fn ended_by<A: Abort>(rt: &A, ended: Option<LookFault>, cause: LookFault, call: 
     }
 }
 
+/// Imports the file into these books.
+fn imported(
+    alloc: Global,
+    books: &mut impl Books,
+    file: &[u8],
+) -> Result<Vec<LineAnswer>, ImportFault> {
+    import(alloc, books, file)
+}
+
 /// Imports the file into books of which this call fails for this cause, which they count by that cause alone: how many
 /// lines were answered, where it was stopped.
 fn stopped_at(
@@ -57,7 +68,7 @@ fn stopped_at(
     cause: LookFault,
     call: u64,
 ) -> Option<usize> {
-    let end = import(rt.alloc(), books, sent.file);
+    let end = imported(rt.alloc(), books, sent.file);
     let ended = cause_of(&end);
     assert!(rt; counts(books) == counts_of(ended));
     ended_by(rt, ended, cause, call);

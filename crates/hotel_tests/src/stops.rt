@@ -1,13 +1,14 @@
 //! Books of which a call fails: which one it is, how it is counted, and where a walk then ends.
 
 use crate::causes::{CAUSES, counts, counts_of};
-use hotel_core::{Books, ChainRow, ListBooks, Sink, Stop, StoppingBooks, WalkFault, Walks};
-use hotel_nights::KindCode;
+use hotel_core::{Books, ChainRow, ListBooks, Sink, Stop, WalkFault, Walks};
+use hotel_nights::{Day, KindCode};
 use hotel_scenarios::desks::{Desk, room};
 use hotel_scenarios::scenarios::{CHECKED_IN, OPENED, TWO_ENTRIES};
-use keycard_rules::{Code, FitNo, LookFault, RoomNo};
+use keycard_rules::{FitNo, LookFault, RoomNo};
 use std::process::Abort;
 use std::test::Fail;
+use stopping_books::StoppingBooks;
 
 /// Takes rows and counts them.
 #[derive(Drop)]
@@ -26,11 +27,16 @@ impl Sink<ChainRow> for Counted {
     }
 }
 
+/// The day that these books tell.
+fn day_of(books: &mut impl Books) -> Result<Option<Day>, LookFault> {
+    books.day()
+}
+
 /// The second call fails, and no other one.
 fn second_fails<A: Abort>(rt: &A, books: &mut StoppingBooks, cause: LookFault) {
-    assert!(rt; books.day() == Ok(None));
-    assert!(rt; books.day() == Err(cause));
-    assert!(rt; books.day() == Ok(None));
+    assert!(rt; day_of(books) == Ok(None));
+    assert!(rt; day_of(books) == Err(cause));
+    assert!(rt; day_of(books) == Ok(None));
     assert!(rt; books.calls() == 3);
     assert!(rt; counts(books) == counts_of(Some(cause)));
 }
@@ -63,7 +69,7 @@ impl LookUp {
     /// How many stays or rooms of this kind there are, or cards inside this room, or locks of it with this number.
     fn count(
         &self,
-        books: &mut StoppingBooks,
+        books: &mut impl Books,
         kind: &KindCode,
         room: RoomNo,
         fit: FitNo,
@@ -109,6 +115,14 @@ fn look_ups_of_no_command_fail(rt: HostRuntime) -> Result<(), Fail> {
     Ok(())
 }
 
+/// How a walk over the codes of the room ends, and after how many rows.
+fn walk_of(books: &mut impl Walks) -> Result<(Result<(), WalkFault>, u32), Fail> {
+    let room = room(101)?;
+    let mut counted = Counted { rows: 0 };
+    let ended = books.walk_chain(room, &mut counted);
+    Ok((ended, counted.rows))
+}
+
 /// A walk over the two codes of the room ends so, after so many rows.
 fn walk_ends<A: Abort>(
     rt: &A,
@@ -116,11 +130,9 @@ fn walk_ends<A: Abort>(
     end: Result<(), WalkFault>,
     rows: u32,
 ) -> Result<(), Fail> {
-    let room = room(101)?;
-    let mut counted = Counted { rows: 0 };
-    let ended = books.walk_chain(room, &mut counted);
+    let (ended, counted) = walk_of(books)?;
     assert!(rt; ended == end);
-    assert!(rt; counted.rows == rows);
+    assert!(rt; counted == rows);
     let failed = end.err().map(|_| LookFault::Store);
     assert!(rt; counts(books) == counts_of(failed));
     Ok(())
@@ -145,20 +157,4 @@ fn walks_fail(rt: HostRuntime) -> Result<(), Fail> {
     walks(&rt, 2, Err(WalkFault::Store), 1)?;
     walks(&rt, 3, Err(WalkFault::Store), 2)?;
     walks(&rt, 4, Ok(()), 2)
-}
-
-/// The second code of the room is not found, and then it is.
-fn code_is_found_at_last<A: Abort>(rt: &A, books: &mut StoppingBooks) -> Result<(), Fail> {
-    let room = room(101)?;
-    assert!(rt; books.code_at(room, 1).is_err());
-    assert!(rt; books.code_at(room, 1) == Ok(Code::new(0xa1)));
-    Ok(())
-}
-
-/// After the call that failed the books are as they were, and the next calls are carried out.
-#[test]
-fn rows_stay(rt: HostRuntime) -> Result<(), Fail> {
-    let books = Desk::of_one_guest(rt.alloc())?.books;
-    let mut books = StoppingBooks::new(books, 1, LookFault::Memory);
-    code_is_found_at_last(&rt, &mut books)
 }

@@ -1,15 +1,13 @@
-//! A reader and a writer over memory, which go on by one byte a call and of which chosen calls go wrong.
+//! A writer over memory, which goes on by one byte a call and of which a chosen call goes wrong.
 use std::alloc::Global;
-use std::io::{Error, ErrorKind, Read, Result, Write};
+use std::io::{Error, ErrorKind, Result, Write};
 
 /// The most bytes of one call.
 const PIECE: usize = 1;
 
-/// Which calls go wrong, counted from 1.
+/// Which call goes wrong, counted from 1.
 #[derive(Clone, Copy)]
 pub(crate) enum Wrong {
-    /// The first calls are interrupted, so many.
-    Interrupted(u32),
     /// The call of this number fails.
     Failing(u32),
     /// The call of this number takes no byte.
@@ -17,50 +15,15 @@ pub(crate) enum Wrong {
 }
 
 impl Wrong {
-    pub(crate) const NONE: Wrong = Wrong::Interrupted(0);
+    pub(crate) const NONE: Wrong = Wrong::Failing(0);
 
     /// How the call of this number ends where it goes wrong.
     fn end(&self, call: u32) -> Option<Result<usize>> {
         match *self {
-            Wrong::Interrupted(times) if call <= times => {
-                Some(Err(Error::from(ErrorKind::Interrupted)))
-            }
             Wrong::Failing(number) if call == number => Some(Err(Error::from(ErrorKind::Other))),
             Wrong::Stuck(number) if call == number => Some(Ok(0)),
             _ => None,
         }
-    }
-}
-
-/// A reader of given bytes.
-#[derive(Drop)]
-pub(crate) struct WrongReader<'a> {
-    rest: &'a [u8],
-    calls: u32,
-    wrong: Wrong,
-}
-
-impl<'a> WrongReader<'a> {
-    pub(crate) fn new(bytes: &'a [u8], wrong: Wrong) -> WrongReader<'a> {
-        WrongReader {
-            rest: bytes,
-            calls: 0,
-            wrong,
-        }
-    }
-}
-
-impl Read for WrongReader<'_> {
-    fn read(&mut self, buf: &mut [u8]) -> Result<usize> {
-        self.calls = self.calls.saturating_add(1);
-        if let Some(Err(error)) = self.wrong.end(self.calls) {
-            return Err(error);
-        }
-        let most = PIECE.min(self.rest.len());
-        let mut front = &self.rest[..most];
-        let n = front.read(buf)?;
-        self.rest = &self.rest[n..];
-        Ok(n)
     }
 }
 

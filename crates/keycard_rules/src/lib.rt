@@ -1,5 +1,11 @@
 //! Codes, cards and locks: the two-code rule of a door that stands alone, one room's chain of codes, and the drawing of
-//! codes.
+//! codes. No guest and no stay is known here; the day of a note is a plain number.
+//!
+//! - src: lock, chain, draw, note, card, code, numbers: the rules, each with its file of specs or its contract. kept:
+//!   what is known of issued codes, with its laws (`Kept`). issued: the one call that asks for them (`Issued`).
+//! - specs: Leaves, Since, Rise: what any call leaves, and a look-up or a walk beside it (`Looks`); failures counted
+//!   exactly. Calls: calls one after the other (`Passes`), and what they leave together (law `calls_leave`).
+//! - specs: Words, Results, Numerals, Numbers: small words, and what readers take. ListedWords: a source for tests.
 #![tactic(auto)]
 
 mod card;
@@ -20,7 +26,7 @@ pub use card::{Card, Link};
 pub use chain::{Chain, Memory, RecodeFault, Turned};
 pub use code::{CODES, Code};
 pub use draw::{DrawFault, draw_fresh};
-pub use issued::{Issued, ListedCodes, LookFault};
+pub use issued::{Issued, LookFault};
 pub use kept::Kept;
 pub use laws::calls_leave;
 pub use listed_words::ListedWords;

@@ -1,6 +1,5 @@
 //! A source of words for tests.
-ghost use Rattle.std.specs.Prelude.{◌≡◌, ℕ, ◌<◌, length, IfSome};
-ghost use Rattle.std.specs.Option.{SomeIff};
+ghost use Rattle.std.specs.Prelude.{◌≡◌, ℕ, ◌<◌, length};
 ghost use Rattle.keycard_rules.specs.{Draw.words, ListedWords.next_listed, ListedWords.listed_stream};
 ghost use Rattle.keycard_rules.specs.{ListedWords.first_listed};
 
@@ -28,18 +27,16 @@ impl Model for ListedWords {
 }
 
 impl ListedWords {
-    /// A generator of these words, or `None` where there is none.
-    pub fn new(list: Vec<u64>) -> Option<ListedWords>
-        ensures listed { SomeIff result (0 < length list.items) list.items }
-        ensures stream { IfSome result (λ source. (n : ℕ) → words n (listed_stream source) ≡ first_listed n source) }
+    /// A generator of these words, of which there is one or more.
+    pub fn new(list: Vec<u64>) -> ListedWords
+        requires some_words { 0 < length list.items }
+        ensures listed { result ≡ list.items }
+        ensures stream { (n : ℕ) → words n (listed_stream result) ≡ first_listed n result }
     {
-        if list.is_empty() {
-            return None;
-        }
-        Some(ListedWords {
+        ListedWords {
             words: list,
             place: 0,
-        })
+        }
     }
 }
 

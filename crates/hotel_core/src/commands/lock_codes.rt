@@ -1,6 +1,6 @@
 //! What a note of a lock is compared with in the books.
-ghost use Rattle.std.specs.Prelude.{◌≡◌, ◌-◌, ◌==◌, ◌&&◌, nat_lt, Option, Some, None, IsSome, not, is_some, [], ◌∷◌};
-ghost use Rattle.hotel_core.specs.{Refinement.Finds.Finds, Refinement.Finds.AnyRows};
+ghost use Rattle.std.specs.Prelude.{◌≡◌, ◌-◌, ◌==◌, ◌&&◌, nat_lt, Option, Some, None, IsSome, not, is_some, [], ◌∷◌, false};
+ghost use Rattle.hotel_core.specs.{Books.Reads.LooksUp, Refinement.Finds.Finds, Refinement.Finds.AnyRows};
 ghost use Rattle.hotel_core.specs.{Refinement.FindsChecked.FindsChecked};
 ghost use Rattle.hotel_model.specs.{Refinement.Lookups.room_at, Refinement.Lookups.code_place};
 ghost use Rattle.hotel_model.specs.{Refinement.Lookups.inside_at, Refinement.Lookups.note_at, Guests.are_none};
@@ -13,7 +13,7 @@ ghost use Rattle.hotel_model.specs.{declared.reply.Refusal.TheVariants.Store};
 use crate::books::Books;
 use crate::commands::look_ups::{card_there, known, there_or};
 use hotel_model::{CodeRow, Refusal, RoomRow};
-use keycard_rules::{CardNo, Code, Link, LockNote, RoomNo};
+use keycard_rules::{CardNo, Code, Link, LockNote, LookFault, RoomNo};
 
 /// How many notes of a room's present lock were taken.
 pub(crate) fn notes_of_present(row: &RoomRow) -> u32
@@ -56,12 +56,23 @@ pub(crate) fn kept_note<B: Books>(
     known(kept)
 }
 
+/// Where a code stands.
+fn row_of_code<B: Books>(books: &mut B, code: Code) -> Result<Option<CodeRow>, LookFault>
+    ensures { LooksUp B.Kept false (λ a. a) (code_place (B.rows books.old) code) books.old books.new result }
+{
+    match books.code_place(code) {
+        Ok(Some((room, place))) => Ok(Some(CodeRow { room, place })),
+        Ok(None) => Ok(None),
+        Err(fault) => Err(fault),
+    }
+}
+
 /// Where a card's new code stands, which sound books have.
 pub(crate) fn issued_place<B: Books>(books: &mut B, code: Code) -> Result<CodeRow, Refusal>
     ensures { Finds B.Kept B.Books.own (λ rows. IsSome (code_place rows code)) Store
         (λ rows. code_place rows code) books.old books.new result }
 {
-    let row = books.code_place(code);
+    let row = row_of_code(books, code);
     there_or(row, Refusal::Store)
 }
 
@@ -69,7 +80,7 @@ pub(crate) fn issued_place<B: Books>(books: &mut B, code: Code) -> Result<CodeRo
 pub(crate) fn awaited_place<B: Books>(books: &mut B, code: Code) -> Result<CodeRow, Refusal>
     ensures { Finds B.Kept B.Books.own AnyRows NotAwaited (λ rows. code_place rows code) books.old books.new result }
 {
-    let row = books.code_place(code);
+    let row = row_of_code(books, code);
     there_or(row, Refusal::NotAwaited)
 }
 

@@ -9,7 +9,7 @@ ghost use Rattle.hotel_core.specs.{Books.Walks.failure_of, declared.books.walks.
 use crate::books::Books;
 use crate::books::walks::{Sink, WalkFault, Walks};
 use crate::memory::tables::Tables;
-use hotel_model::{BehindRow, ChainRow, Change, CodeRow, FitRow, HouseRow, NextNumbers, RoomRow};
+use hotel_model::{BehindRow, ChainRow, Change, FitRow, HouseRow, NextNumbers, RoomRow};
 use hotel_nights::{Day, Guest, KindCode, Stay};
 use keycard_rules::{
     Card, CardNo, Code, Count, FitNo, Issued, Kept, LockNote, LookFault, PartyNo, RoomNo,
@@ -134,8 +134,11 @@ impl Books for ListBooks {
         Ok(self.tables.room(room))
     }
 
-    fn code_place(&mut self, code: Code) -> Result<Option<CodeRow>, LookFault> {
-        Ok(self.tables.code_place(code))
+    fn code_place(&mut self, code: Code) -> Result<Option<(RoomNo, u32)>, LookFault> {
+        match self.tables.code_place(code) {
+            Some(row) => Ok(Some((row.room, row.place))),
+            None => Ok(None),
+        }
     }
 
     fn code_at(&mut self, room: RoomNo, place: u32) -> Result<Option<Code>, LookFault> {

@@ -5,7 +5,7 @@ use Rattle.hotel_lists.specs.Calls.{Calls, CountsCalls, OnErrOf}
 use Rattle.hotel_lists.specs.declared.bytes.WholeFault.{WholeFault}
 use Rattle.hotel_lists.specs.declared.bytes.WholeFault.TheVariants as whole
 use Rattle.hotel_program.specs.Program.{script_end}
-use Rattle.hotel_program.specs.Script.WholeScript.{IfCut, IfUnbegun, fault_of}
+use Rattle.hotel_program.specs.Script.WholeScript.{IfCut, IfUnbegun, fault_of_script}
 use Rattle.hotel_program.specs.declared.faults.Fault.{Fault}
 use Rattle.hotel_program.specs.declared.faults.Fault.TheVariants as fault
 use Rattle.hotel_program.specs.declared.script.ScriptEnd.{ScriptEnd}
@@ -13,7 +13,7 @@ use Rattle.hotel_program.specs.declared.script.ScriptFault.{ScriptFault}
 use Rattle.hotel_program.specs.declared.script.ScriptFault.TheVariants.{Read, TooLarge, Memory, Write}
 
 -- a script that wasn't read whole for a read that failed
-pub unread : (why : WholeFault) → fault_of why ≡ Read → why ≡ whole.Read
+pub unread : (why : WholeFault) → fault_of_script why ≡ Read → why ≡ whole.Read
 unread whole.Read e = refl
 unread whole.TooLarge e = absurd (cc)
 unread whole.Memory e = absurd (cc)
@@ -42,13 +42,13 @@ fault_in (Ok end) = Memory
 fault_in (Err fault) = fault
 
 pub unread_end : {A : Type 0} (end : Result ScriptEnd ScriptFault) (why : WholeFault)
-    → IsErrAnd end (λ e. e ≡ fault_of why) → end ≡ Err Read → the_err {A = A} why ≡ the_err whole.Read
+    → IsErrAnd end (λ e. e ≡ fault_of_script why) → end ≡ Err Read → the_err {A = A} why ≡ the_err whole.Read
 unread_end (Ok end) why p e = absurd p
 unread_end (Err fault) why p e = ap the_err (unread why (sym p ∙ ap fault_in e))
 
 -- it isn't cut
 pub not_cut : (P : Type 0) (end : Result ScriptEnd ScriptFault) (why : WholeFault)
-    → IsErrAnd end (λ e. e ≡ fault_of why) → IfCut end (λ _. P)
+    → IsErrAnd end (λ e. e ≡ fault_of_script why) → IfCut end (λ _. P)
 not_cut P (Ok end) why p = absurd p
 not_cut P (Err Read) why p = tt
 not_cut P (Err TooLarge) why p = tt

@@ -27,10 +27,10 @@ use Rattle.hotel_model.specs.History.{History}
 use Rattle.hotel_core.specs.Texts.{reply_text}
 use Rattle.hotel_lists.specs.{Bytes.AppendsFront, declared.calls.WriteFailed.WriteFailed}
 use Rattle.hotel_program.specs.Script.Lines.{lines, without_return, is_silent, answered_lines}
-use Rattle.hotel_program.specs.Script.LineAnswers.{AskGoes, LineGoes, Sure}
+use Rattle.hotel_program.specs.Script.LineAnswers.{AskGoes, ScriptLineGoes, Sure}
 use Rattle.hotel_program.specs.Script.WholeScript.{ScriptGoes, ScriptAnswered, ScriptCut, ScriptsHappen, LineEnds}
-use Rattle.hotel_program.specs.Script.WholeScript.{LineHappens, LinesAnswered, LinesCut, IfCut, IfUnbegun, IsInput}
-use Rattle.hotel_program.specs.Script.WholeScript.{ScriptRan, fault_of}
+use Rattle.hotel_program.specs.Script.WholeScript.{ScriptLineHappens, LinesAnswered, LinesCut, IfCut, IfUnbegun}
+use Rattle.hotel_program.specs.Script.WholeScript.{IsInput, ScriptRan, fault_of_script}
 use Rattle.hotel_lists.specs.declared.bytes.WholeFault.{WholeFault}
 use Rattle.hotel_lists.specs.declared.bytes.WholeFault.TheVariants as whole
 use Rattle.hotel_program.specs.declared.script.TheConstants.{SCRIPT_LIMIT}
@@ -78,12 +78,12 @@ goes_weaker sure sure' (line ∷ later) [] h h' s s' failed f r = absurd r
 -- one line more at the end
 script-push : (sure : List ℕ → Type 0) (h mid h' : History) (s source s' : Stream) (before texts : List (List ℕ))
     (line text : List ℕ) (failed more : Told)
-    → ScriptGoes sure h s before texts failed mid source → LineGoes sure mid source line text more h' s'
+    → ScriptGoes sure h s before texts failed mid source → ScriptLineGoes sure mid source line text more h' s'
     → ScriptGoes sure h s (before ++ line ∷ []) (texts ++ text ∷ []) (failed ++ more) h' s'
 unfolding ScriptGoes
 script-push sure h mid h' s source s' [] [] line text failed more r p =
-    let p = subst (λ (x : History). LineGoes sure x source line text more h' s') r.1 p in
-    let p = subst (λ (x : Stream). LineGoes sure h x line text more h' s') r.2 p in
+    let p = subst (λ (x : History). ScriptLineGoes sure x source line text more h' s') r.1 p in
+    let p = subst (λ (x : Stream). ScriptLineGoes sure h x line text more h' s') r.2 p in
     (h', s', more, [], p, (refl, refl, refl), rw r.0 (sym (append-nil more)))
 script-push sure h mid h' s source s' (first ∷ before) (one ∷ texts) line text failed more r p = (
   r.0,
@@ -217,12 +217,12 @@ module _ {S R W : Type 0} (K : KeptOf S) (rows : S → Rows) (stream : R → Str
   -- one more line was answered, in the state that those before it left
   pub lines_next : (all : List (List ℕ)) (done : ℕ) (line : List ℕ) (later : List (List ℕ)) (old mid new : S × R × W)
       → LinesAnswered K rows stream contents old (take done all) mid → drop done all ≡ line ∷ later
-      → LineHappens K rows stream contents mid line new
+      → ScriptLineHappens K rows stream contents mid line new
       → LinesAnswered K rows stream contents old (take (done + 1) all) new
   lines_next all done line later old mid new before e next =
       subst (λ (ls : List (List ℕ)). LinesAnswered K rows stream contents old ls new)
       (sym (next_line all done line later e).2)
-      (passes_push (LineHappens K rows stream contents) old (take done all) before next)
+      (passes_push (ScriptLineHappens K rows stream contents) old (take done all) before next)
 
   -- or cut short
   pub lines_cut : (all : List (List ℕ)) (done : ℕ) (line : List ℕ) (later : List (List ℕ)) (old mid new : S × R × W)
@@ -266,7 +266,7 @@ module _ {S R W : Type 0} (K : KeptOf S) (rows : S → Rows) (stream : R → Str
   script_ran new script (Err no.Memory) input count ok cut begun = absurd begun
 
   -- a script that wasn't read whole
-  pub unread_ran : (end : Result ScriptEnd ScriptFault) (why : WholeFault) → IsErrAnd end (λ e. e ≡ fault_of why)
+  pub unread_ran : (end : Result ScriptEnd ScriptFault) (why : WholeFault) → IsErrAnd end (λ e. e ≡ fault_of_script why)
       → (why ≡ whole.TooLarge → IfSome known (λ input. SCRIPT_LIMIT < length input))
       → ScriptRan K rows stream contents known old end old
   unread_ran (Ok end) why p large = absurd p
@@ -274,7 +274,7 @@ module _ {S R W : Type 0} (K : KeptOf S) (rows : S → Rows) (stream : R → Str
       subst (λ (f : ScriptFault). ScriptRan K rows stream contents known old (Err f) old) (sym p) (by why large)
     where
       by : (why : WholeFault) → (why ≡ whole.TooLarge → IfSome known (λ input. SCRIPT_LIMIT < length input))
-          → ScriptRan K rows stream contents known old (Err (fault_of why)) old
+          → ScriptRan K rows stream contents known old (Err (fault_of_script why)) old
       by whole.Read large = refl
       by whole.TooLarge large = (refl, large refl)
       by whole.Memory large = refl

@@ -9,9 +9,9 @@ use Rattle.keycard_rules.specs.Calls.{Told}
 use Rattle.hotel_program.specs.Script.Asks.{ask_in}
 use Rattle.hotel_core.specs.declared.asks.Ask.{Ask}
 use Rattle.hotel_core.specs.declared.asks.Ask.TheVariants as ask
-use Rattle.hotel_program.specs.Script.LineAnswers.{AskGoes, LineGoes}
+use Rattle.hotel_program.specs.Script.LineAnswers.{AskGoes, ScriptLineGoes}
 use Rattle.hotel_program.specs.Script.WholeScript.{ScriptGoes}
-use Rattle.hotel_program.specs.Script.ScriptRun.{ToldIn, commands_of, texts_of, ScriptsRun, ListsBetween}
+use Rattle.hotel_program.specs.Script.ScriptRun.{ToldIn, commands_asked, answer_texts, ScriptsRun, ListsBetween}
 
 -- a text and then others
 with_text : {a b : List ℕ} {x y : List (List ℕ)} → a ≡ b → x ≡ y → a ∷ x ≡ b ∷ y
@@ -20,8 +20,8 @@ with_text {a} {b} {x} {y} e f = ap (λ l. a ∷ l) f ∙ ap (λ t. t ∷ y) e
 -- what is asked has a run, with the answers and the failures of its replies and lists
 AsksRun : History → Stream → List (Option Ask) → List (List ℕ) → Told → History → Stream → Type 0
 AsksRun h s asks texts failed h' s' =
-    (replies : List Reply) × (lists : List (List ℕ × Told)) × Runs h s (commands_of asks) replies h' s'
-    × (texts ≡ texts_of asks replies lists) × ToldIn asks replies lists failed
+    (replies : List Reply) × (lists : List (List ℕ × Told)) × Runs h s (commands_asked asks) replies h' s'
+    × (texts ≡ answer_texts asks replies lists) × ToldIn asks replies lists failed
 
 asks_more : (sure : List ℕ → Type 0) (wanted : Option Ask) (asks : List (Option Ask)) (h mid h' : History)
     (s source s' : Stream) (text : List ℕ) (texts : List (List ℕ)) (failed first more : Told)
@@ -29,8 +29,8 @@ asks_more : (sure : List ℕ → Type 0) (wanted : Option Ask) (asks : List (Opt
     → AsksRun h s (wanted ∷ asks) (text ∷ texts) failed h' s'
 unfolding AsksRun
 asks_more sure None asks h mid h' s source s' text texts failed first more g ran f =
-    let run = subst (λ (x : History). Runs x source (commands_of asks) ran.0 h' s') g.2 ran.2 in
-    let run = subst (λ (x : Stream). Runs h x (commands_of asks) ran.0 h' s') g.3 run in (
+    let run = subst (λ (x : History). Runs x source (commands_asked asks) ran.0 h' s') g.2 ran.2 in
+    let run = subst (λ (x : Stream). Runs h x (commands_asked asks) ran.0 h' s') g.3 run in (
       ran.0,
       ran.1,
       run,
@@ -46,8 +46,8 @@ asks_more sure (Some (ask.Command command)) asks h mid h' s source s' text texts
   (first, more, g.3, ran.4, f),
 )
 asks_more sure (Some (ask.List its_list)) asks h mid h' s source s' text texts failed first more g ran f =
-    let run = subst (λ (x : History). Runs x source (commands_of asks) ran.0 h' s') g.3 ran.2 in
-    let run = subst (λ (x : Stream). Runs h x (commands_of asks) ran.0 h' s') g.4 run in
+    let run = subst (λ (x : History). Runs x source (commands_asked asks) ran.0 h' s') g.3 ran.2 in
+    let run = subst (λ (x : Stream). Runs h x (commands_asked asks) ran.0 h' s') g.4 run in
     (ran.0, (text, first) ∷ ran.1, run, with_text refl ran.3, (more, ran.4, f))
 
 lines_run : (sure : List ℕ → Type 0) (lines texts : List (List ℕ))
@@ -79,7 +79,7 @@ record Split (sure : List ℕ → Type 0) (h : History) (s : Stream) (before : L
   failed_text : Told
   failed_rest : Told
   went_first : ScriptGoes sure h s before first failed_first mid source
-  went_line : LineGoes sure mid source line text failed_text then next
+  went_line : ScriptLineGoes sure mid source line text failed_text then next
   went_rest : ScriptGoes sure then next later rest failed_rest h' s'
   texts_are : texts ≡ first ++ text ∷ rest
   failed_is : failed ≡ failed_first ++ failed_text ++ failed_rest

@@ -4,13 +4,13 @@ use Rattle.std.specs.Io.KnownBytes.{Appends}
 use Rattle.hotel_core.specs.Texts.{reply_text}
 use Rattle.hotel_model.specs.declared.reply.Reply.{Reply}
 use Rattle.hotel_lists.specs.Bytes.{AppendsFront}
-use Rattle.hotel_program.specs.Statuses.{reply_status}
+use Rattle.hotel_program.specs.Statuses.{exit_of_reply}
 use Rattle.hotel_program.specs.declared.faults.Fault.{Fault}
 use Rattle.hotel_program.specs.declared.faults.Fault.TheVariants.{Write}
 
 -- The exit status of a reply; or the fault, where a write of it failed.
 abbrev pub command_end : Reply → Bool → Result ℕ Fault
-command_end reply false = Ok (reply_status reply)
+command_end reply false = Ok (exit_of_reply reply)
 command_end reply true = Err Write
 
 -- What a writer took of a reply: its text, or a front of it where a write failed.

@@ -29,14 +29,14 @@ values_after Reserve text = words_and_rest 3 text
 values_after _ text = words text
 
 -- What is asked, or nothing where a value is refused or there are too few or too many.
-abbrev pub asked : Result Ask ValueFault → Option Ask
-asked (Ok wanted) = Some wanted
-asked (Err _) = None
+abbrev pub unless_unread : Result Ask ValueFault → Option Ask
+unless_unread (Ok wanted) = Some wanted
+unless_unread (Err _) = None
 
 -- What a verb and the text after it ask for; nothing where the word is no verb.
 abbrev pub ask_after : Option Verb → List ℕ → Option Ask
 ask_after None text = None
-ask_after (Some verb) text = asked (ask_of verb (values_after verb text))
+ask_after (Some verb) text = unless_unread (ask_of verb (values_after verb text))
 
 -- What a line's first word and the text after it ask for.
 abbrev pub ask_from : Option (List ℕ × List ℕ) → Option Ask

@@ -46,8 +46,8 @@ AskGoes sure (Some (ask.List its_list)) h s text told h' s' =
 AskGoes sure None h s text told h' s' = (text ≡ unread_text) × (told ≡ []) × (h' ≡ h) × (s' ≡ s)
 
 -- A line goes with this answer as what it asks for does.
-abbrev pub LineGoes : (List ℕ → Type 0) → History → Stream → List ℕ → List ℕ → Told → History → Stream → Type 0
-LineGoes sure h s line text told h' s' = AskGoes sure (ask_in line) h s text told h' s'
+abbrev pub ScriptLineGoes : (List ℕ → Type 0) → History → Stream → List ℕ → List ℕ → Told → History → Stream → Type 0
+ScriptLineGoes sure h s line text told h' s' = AskGoes sure (ask_in line) h s text told h' s'
 
 -- a list whose answer tells no failure asked the books
 abbrev pub ListAsked : Option Ask → List ℕ → Told → Type 0

@@ -18,20 +18,21 @@ use Rattle.hotel_asks.specs.Listings.{listing_over}
 use Rattle.hotel_program.specs.Script.WholeScript.{ScriptGoes}
 
 -- The commands among what lines ask for.
-abbrev pub commands_of : List (Option Ask) → List Command
-commands_of [] = []
-commands_of (None ∷ later) = commands_of later
-commands_of (Some (ask.Command command) ∷ later) = command ∷ commands_of later
-commands_of (Some (ask.List its_list) ∷ later) = commands_of later
+abbrev pub commands_asked : List (Option Ask) → List Command
+commands_asked [] = []
+commands_asked (None ∷ later) = commands_asked later
+commands_asked (Some (ask.Command command) ∷ later) = command ∷ commands_asked later
+commands_asked (Some (ask.List its_list) ∷ later) = commands_asked later
 
 -- The answers of lines whose commands are given these replies, and whose lists these answers, in order.
-abbrev pub texts_of : List (Option Ask) → List Reply → List (List ℕ × Told) → List (List ℕ)
-texts_of [] replies lists = []
-texts_of (None ∷ later) replies lists = unread_text ∷ texts_of later replies lists
-texts_of (Some (ask.Command command) ∷ later) [] lists = []
-texts_of (Some (ask.Command command) ∷ later) (reply ∷ replies) lists = reply_text reply ∷ texts_of later replies lists
-texts_of (Some (ask.List its_list) ∷ later) replies [] = []
-texts_of (Some (ask.List its_list) ∷ later) replies (answer ∷ lists) = answer.0 ∷ texts_of later replies lists
+abbrev pub answer_texts : List (Option Ask) → List Reply → List (List ℕ × Told) → List (List ℕ)
+answer_texts [] replies lists = []
+answer_texts (None ∷ later) replies lists = unread_text ∷ answer_texts later replies lists
+answer_texts (Some (ask.Command command) ∷ later) [] lists = []
+answer_texts (Some (ask.Command command) ∷ later) (reply ∷ replies) lists =
+    reply_text reply ∷ answer_texts later replies lists
+answer_texts (Some (ask.List its_list) ∷ later) replies [] = []
+answer_texts (Some (ask.List its_list) ∷ later) replies (answer ∷ lists) = answer.0 ∷ answer_texts later replies lists
 
 -- What the calls told where these are the replies and the lists' answers, in order.
 abbrev pub ToldIn : List (Option Ask) → List Reply → List (List ℕ × Told) → Told → Type 0
@@ -49,8 +50,8 @@ ToldIn (Some (ask.List its_list) ∷ later) replies (answer ∷ lists) told =
 abbrev pub LinesRun : History → Stream → List (List ℕ) → List (List ℕ) → Told → History → Stream → Type 0
 LinesRun h s lines texts told h' s' =
     (replies : List Reply) × (lists : List (List ℕ × Told))
-    × Runs h s (commands_of (map ask_in lines)) replies h' s'
-    × (texts ≡ texts_of (map ask_in lines) replies lists) × ToldIn (map ask_in lines) replies lists told
+    × Runs h s (commands_asked (map ask_in lines)) replies h' s'
+    × (texts ≡ answer_texts (map ask_in lines) replies lists) × ToldIn (map ask_in lines) replies lists told
 
 -- The lines of a script are a run of their commands, whatever test of the texts says which lists are surely answered.
 abbrev pub ScriptsRun : Type 0

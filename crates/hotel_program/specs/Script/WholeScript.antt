@@ -11,7 +11,7 @@ use Rattle.hotel_lists.specs.declared.calls.WriteFailed.{WriteFailed}
 use Rattle.hotel_model.specs.History.{History}
 use Rattle.hotel_model.specs.Rows.{Rows}
 use Rattle.hotel_program.specs.Script.Asks.{ask_in}
-use Rattle.hotel_program.specs.Script.LineAnswers.{AskEnds, LineGoes, Sure}
+use Rattle.hotel_program.specs.Script.LineAnswers.{AskEnds, ScriptLineGoes, Sure}
 use Rattle.hotel_program.specs.Script.Lines.{answered_lines}
 use Rattle.hotel_program.specs.declared.script.TheConstants.{SCRIPT_LIMIT}
 use Rattle.hotel_program.specs.declared.script.ScriptEnd.{ScriptEnd}
@@ -26,7 +26,7 @@ unfoldable pub ScriptGoes : (List ℕ → Type 0) → History → Stream → Lis
 ScriptGoes sure h s [] [] told h' s' = (told ≡ []) × (h' ≡ h) × (s' ≡ s)
 ScriptGoes sure h s (line ∷ later) (text ∷ texts) told h' s' =
     (mid : History) × (source : Stream) × (first : Told) × (more : Told)
-    × LineGoes sure h s line text first mid source × ScriptGoes sure mid source later texts more h' s'
+    × ScriptLineGoes sure h s line text first mid source × ScriptGoes sure mid source later texts more h' s'
     × (told ≡ first ++ more)
 ScriptGoes sure h s [] (text ∷ texts) told h' s' = ⊥
 ScriptGoes sure h s (line ∷ later) [] told h' s' = ⊥
@@ -52,14 +52,14 @@ LineEnds K rows stream contents written old line new = HappensBy K rows old.0 (A
     (stream new.1) (contents old.2) (contents new.2) written (K.is_clean old.0)) new.0
 
 -- A line was answered.
-abbrev pub LineHappens : {S R W : Type 0} → KeptOf S → (S → Rows) → (R → Stream) → (W → Option (List ℕ)) → S × R × W
-    → List ℕ → S × R × W → Type 0
-LineHappens K rows stream contents old line new = LineEnds K rows stream contents (Ok tt) old line new
+abbrev pub ScriptLineHappens : {S R W : Type 0} → KeptOf S → (S → Rows) → (R → Stream) → (W → Option (List ℕ))
+    → S × R × W → List ℕ → S × R × W → Type 0
+ScriptLineHappens K rows stream contents old line new = LineEnds K rows stream contents (Ok tt) old line new
 
 -- Lines were answered, each in the state that the one before it left.
 abbrev pub LinesAnswered : {S R W : Type 0} → KeptOf S → (S → Rows) → (R → Stream) → (W → Option (List ℕ))
     → S × R × W → List (List ℕ) → S × R × W → Type 0
-LinesAnswered K rows stream contents old lines new = Passes (LineHappens K rows stream contents) old lines new
+LinesAnswered K rows stream contents old lines new = Passes (ScriptLineHappens K rows stream contents) old lines new
 
 -- Those before the last one were answered, each in its turn, and then of the last one's answer a front was written.
 abbrev pub LinesCut : {S R W : Type 0} → KeptOf S → (S → Rows) → (R → Stream) → (W → Option (List ℕ)) → S × R × W
@@ -108,7 +108,7 @@ ScriptRan K rows stream contents known old (Err TooLarge) new =
 ScriptRan K rows stream contents known old (Err why) new = new ≡ old
 
 -- The fault of a script that was not read whole.
-abbrev pub fault_of : WholeFault → ScriptFault
-fault_of whole.Read = Read
-fault_of whole.TooLarge = TooLarge
-fault_of whole.Memory = Memory
+abbrev pub fault_of_script : WholeFault → ScriptFault
+fault_of_script whole.Read = Read
+fault_of_script whole.TooLarge = TooLarge
+fault_of_script whole.Memory = Memory

@@ -4,7 +4,7 @@ ghost use Rattle.std.specs.Prelude.{◌≡◌, ◌≢◌, List, Bool, Result};
 ghost use Rattle.hotel_lists.specs.Calls.{CountsWrites, OnErrOf};
 ghost use Rattle.hotel_audit.specs.declared.answer.LineAnswer.{LineAnswer};
 ghost use Rattle.hotel_audit.specs.declared.imports.ImportFault.{ImportFault};
-ghost use Rattle.hotel_program.specs.Faults.{end_status, IsOfFiles, Tells};
+ghost use Rattle.hotel_program.specs.Faults.{end_status, IsOfFiles, Reports};
 ghost use Rattle.hotel_program.specs.Alone.AuditRuns.{answers_status, file_fault, import_fault, audit_end};
 ghost use Rattle.hotel_program.specs.Alone.AuditRuns.{WritesAnswers};
 ghost use Rattle.hotel_audit.specs.{AuditFile.audit_lines, Import.Imports};
@@ -100,7 +100,7 @@ pub fn run_audit<B: Books, W: Write, F: FaultSink>(
 ) -> u8
     ensures ends { (outcome : Result (List LineAnswer) ImportFault) × (write_failed : Bool)
         × (result ≡ end_status (audit_end outcome write_failed))
-        × Tells F.told faults.old (audit_end outcome write_failed) faults.new
+        × Reports F.told faults.old (audit_end outcome write_failed) faults.new
         × WritesAnswers W.contents writer.old writer.new outcome write_failed
         × Imports B.Kept B.rows (audit_lines bytes.now) books.old books.new outcome }
     ensures no_usage { result ≢ 2 }

@@ -5,7 +5,7 @@ ghost use Rattle.hotel_model.specs.declared.reply.Reply.{Reply};
 ghost use Rattle.hotel_lists.specs.Calls.{CountsWrites, OnErrOf};
 ghost use Rattle.hotel_program.specs.Alone.CommandRuns.{command_end, WritesReply};
 ghost use Rattle.hotel_core.specs.Books.Stepped.{Stepped};
-ghost use Rattle.hotel_program.specs.Faults.{end_status, Tells};
+ghost use Rattle.hotel_program.specs.Faults.{end_status, Reports};
 ghost use Rattle.hotel_program.specs.declared.faults.Fault.{Fault};
 
 use crate::faults::{Fault, FaultSink, finish};
@@ -49,7 +49,7 @@ pub fn run_one<B: Books, R: Rng, W: Write, F: FaultSink>(
     faults: &mut F,
 ) -> u8
     ensures ends { (reply : Reply) × (write_failed : Bool) × (result ≡ end_status (command_end reply write_failed))
-        × Tells F.told faults.old (command_end reply write_failed) faults.new
+        × Reports F.told faults.old (command_end reply write_failed) faults.new
         × WritesReply (W.contents writer.old) (W.contents writer.new) reply write_failed
         × Stepped B.Kept B.rows (books.old, R.stream source.old) (command.now, reply)
         (books.new, R.stream source.new) }

@@ -4,7 +4,7 @@ ghost use Rattle.std.specs.Prelude.{◌≡◌, ◌≢◌, Result};
 ghost use Rattle.hotel_lists.specs.Calls.{CountsWrites, OnErrOf};
 ghost use Rattle.hotel_lists.specs.Lines.{LooksAt};
 ghost use Rattle.hotel_lists.specs.declared.fault.ListFault.{ListFault};
-ghost use Rattle.hotel_program.specs.Faults.{end_status, Tells};
+ghost use Rattle.hotel_program.specs.Faults.{end_status, Reports};
 ghost use Rattle.hotel_program.specs.Alone.ListRuns.{AnswerEnds, AnswerEndsFor, list_end};
 ghost use Rattle.hotel_asks.specs.Listings.{listing_on};
 
@@ -64,7 +64,7 @@ pub fn run_list<B: Walks, W: Write, F: FaultSink>(
     faults: &mut F,
 ) -> u8
     ensures ends { (end : Result (Unit {0}) ListFault) × (result ≡ end_status (list_end end))
-        × Tells F.told faults.old (list_end end) faults.new
+        × Reports F.told faults.old (list_end end) faults.new
         × (B.is_honest books.new → AnswerEndsFor (B.rows books.old) list.now (W.contents writer.old)
         (W.contents writer.new) end)
         × LooksAt B.Kept books.old books.new end }

@@ -5,8 +5,8 @@ ghost use Rattle.std.specs.Prelude.{string_bytes, map, true, []};
 ghost use Rattle.clap.specs.Words.{first_of, found_of, has_subcommand, rows_of, subcommand_rows_of, subcommand_of};
 ghost use Rattle.clap.specs.Words.{fault_of, matches_of, kind_of};
 ghost use Rattle.hotel_program.specs.CommandLine.{desk};
-ghost use Rattle.hotel_program.specs.Plans.{text_in, texts_in, number_in, verb_act, serve_act, own_act, act_of, act_in};
-ghost use Rattle.hotel_program.specs.Plans.{IsOf, IsRead, IsRefusalOf, IsToldBy, IsValueOrMemory};
+ghost use Rattle.hotel_program.specs.Plans.{text_value, texts_in, number_in, verb_act, serve_act, own_act, desk_act};
+ghost use Rattle.hotel_program.specs.Plans.{act_in, IsOf, IsRead, IsRefusalOf, IsToldBy, IsValueOrMemory};
 
 use super::command::desk_command;
 use super::plan::{DeskAct, FileName, Plan, UsageFault};
@@ -30,7 +30,7 @@ fn given<'a>(matches: &ArgMatches<'a>, id: &str) -> Option<&'a str>
 
 /// The text of a value.
 fn text<'a>(matches: &ArgMatches<'a>, name: ValueName) -> Result<&'a str, UsageFault>
-    ensures { IsRead (λ s. s.now) (text_in (rows_of (found_of matches.now)) name) result }
+    ensures { IsRead (λ s. s.now) (text_value (rows_of (found_of matches.now)) name) result }
 {
     given(matches, name.text()).ok_or(UsageFault::Value(name))
 }
@@ -113,7 +113,7 @@ fn own_act(alloc: Global, name: &str, matches: &ArgMatches) -> Result<DeskAct, U
 
 /// What a subcommand asks for.
 fn act(alloc: Global, name: &str, matches: &ArgMatches) -> Result<DeskAct, UsageFault>
-    ensures { IsRead (λ a. a) (act_of name.now (rows_of (found_of matches.now))) result }
+    ensures { IsRead (λ a. a) (desk_act name.now (rows_of (found_of matches.now))) result }
 {
     match read_verb(name.as_bytes()) {
         Some(verb) => verb_act(alloc, verb, matches),

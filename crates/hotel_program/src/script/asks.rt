@@ -5,8 +5,10 @@ ghost use Rattle.hotel_core.specs.declared.asks.Ask.{Ask};
 ghost use Rattle.hotel_asks.specs.declared.values.ValueFault.{ValueFault};
 ghost use Rattle.hotel_asks.specs.Values.{IsReading};
 ghost use Rattle.hotel_asks.specs.Asks.{ask_of, ask_copies};
-ghost use Rattle.hotel_program.specs.Script.Asks.{words_and_rest, values_after, asked, ask_after, ask_in, IsLineRead};
+ghost use Rattle.hotel_program.specs.Script.Asks.{words_and_rest, values_after, unless_unread, ask_after, ask_in};
+ghost use Rattle.hotel_program.specs.Script.Asks.{IsLineRead};
 ghost use Rattle.hotel_program.specs.Script.Words.{words};
+ghost use Rattle.hotel_program.specs.declared.script.line_values.TheConstants.{MOST_VALUES};
 
 use crate::script::line_values::LineValues;
 use crate::script::lines::is_readable;
@@ -27,7 +29,7 @@ pub enum LineFault {
 /// The words of a text. None where there are more than `MOST_VALUES`.
 fn split_words(text: &[u8]) -> Option<LineValues<'_>>
     ensures found { IfSome result (λ values. values ≡ words text.now) }
-    ensures more { result ≡ None → 6 < length (words text.now) }
+    ensures more { result ≡ None → MOST_VALUES < length (words text.now) }
 {
     let mut values = LineValues::new();
     let mut rest = text;
@@ -61,7 +63,7 @@ fn split_reservation(text: &[u8]) -> Option<LineValues<'_>>
 /// The values that a line has after its verb. None where they are too few or too many for it.
 fn split_values(verb: Verb, text: &[u8]) -> Option<LineValues<'_>>
     ensures found { IfSome result (λ values. values ≡ values_after verb text.now) }
-    ensures none { result ≡ None → asked (ask_of verb (values_after verb text.now)) ≡ None }
+    ensures none { result ≡ None → unless_unread (ask_of verb (values_after verb text.now)) ≡ None }
 {
     match verb {
         Verb::Reserve => split_reservation(text),
@@ -72,7 +74,7 @@ fn split_values(verb: Verb, text: &[u8]) -> Option<LineValues<'_>>
 /// What a line asks for whose values were read.
 fn line_read(read: Result<Ask, AskFault>) -> Result<Ask, LineFault>
     ensures { (wanted : Result Ask ValueFault) → IsReading ask_copies wanted read
-        → IsLineRead ask_copies (asked wanted) result }
+        → IsLineRead ask_copies (unless_unread wanted) result }
 {
     match read {
         Ok(ask) => Ok(ask),

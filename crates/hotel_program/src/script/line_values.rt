@@ -16,12 +16,13 @@ pub struct LineValues<'a> {
 
 impl<'a> Model for LineValues<'a> {
     ghost use Rattle.std.specs.Prelude.{◌≡◌, ◌≤◌, ℕ, List, length, map, take};
+    ghost use Rattle.hotel_program.specs.declared.script.line_values.TheConstants.{MOST_VALUES};
 
     ghost Value = { List (List ℕ) };
 
     ghost view = { λ v. map (λ t. t.now) (take v.count v.texts) };
 
-    ghost invariant = { λ v. (length v.texts ≡ 6) × (v.count ≤ 6) };
+    ghost invariant = { λ v. (length v.texts ≡ MOST_VALUES) × (v.count ≤ MOST_VALUES) };
 }
 
 impl<'a> LineValues<'a> {
@@ -35,14 +36,14 @@ impl<'a> LineValues<'a> {
 
     /// Whether there is room for no further value.
     pub fn is_full(&self) -> bool
-        ensures { result ≡ false ↔ (length self.now < 6) }
+        ensures { result ≡ false ↔ (length self.now < MOST_VALUES) }
     {
         self.count == MOST_VALUES
     }
 
     /// Adds a value after the others.
     pub fn push(&mut self, text: &'a [u8])
-        requires { length self.old < 6 }
+        requires { length self.old < MOST_VALUES }
         ensures { self.new ≡ self.old ++ text.now ∷ [] }
     {
         self.texts[self.count] = text;

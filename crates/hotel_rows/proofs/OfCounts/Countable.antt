@@ -29,7 +29,7 @@ use Rattle.hotel_rows.specs.declared.stored.PlainStay.{PlainStay}
 use Rattle.hotel_rows.specs.declared.stored.Stored.{Stored}
 use Rattle.hotel_rows.specs.Stored.{number_of, kind_text, rows_of, state_of, room_row, stay_row}
 use Rattle.hotel_rows.specs.Keys.{are_numbered, room_key, stay_key}
-use Rattle.hotel_rows.specs.Damage.{first_damaged_of, most_notes, room_columns, stay_columns}
+use Rattle.hotel_rows.specs.Damage.{first_damaged_of, most_notes, are_room_columns, are_stay_columns}
 use Rattle.hotel_rows.specs.RowTests.{are_stay_days, has_home, has_night, is_at_home, is_number_up_to}
 use Rattle.hotel_rows.specs.RowTests.{is_room_number, is_room_of_kind}
 use Rattle.hotel_rows.specs.RowTests.{is_secured_as_due, has_few_codes, room_fits, stay_fits}
@@ -139,7 +139,7 @@ stay_told s read numbers plain h =
     let homes = and_true _ (has_home (rows_of s) (stay_row plain)) p.1 in
     let days = and_true _ (are_stay_days plain) homes.0 in
     let kinds = and_true _ (has_kind (rows_of s) (string_bytes plain.kind)) days.0 in
-    let guests = and_true (stay_columns plain) (is_guest (string_bytes plain.guest)) kinds.0 in
+    let guests = and_true (are_stay_columns plain) (is_guest (string_bytes plain.guest)) kinds.0 in
     let until = and_true _ (nat_le (number_of plain.depart) (number_of plain.arrive + 90)) days.1 in
     let depart =
     and_true (is_day (number_of plain.depart)) (nat_lt (number_of plain.arrive) (number_of plain.depart)) until.0 in
@@ -149,25 +149,25 @@ stay_told s read numbers plain h =
 
 -- ---- undamaged rows
 
-pub stays_told : (s : Stored) → first_damaged_of s ≡ None → list_all tells_stay s.stays.items ≡ true
+pub stays_told : (s : Stored) → first_damaged_of s ≡ None → list_all tells_stay s.stay.items ≡ true
 stays_told s none =
     let h = all_passed s none in
     let sound = ((undamaged_is_sound s).0 none).0 in
-    let passed = and_true _ (list_all (has_night s) s.stays.items) (sym (stays_together s) ∙ h.stay) in
-    let fits = and_true (are_numbered (map stay_key s.stays.items)) (list_all (stay_fits s) s.stays.items) passed.0 in
-    let numbered = and_true _ (nat_le (length (map stay_key s.stays.items)) 9999999) fits.0 in
-    let few : length (map stay_key s.stays.items) ≤ 9999999 = grind (arith, nat_tests, numbered.1) in
-    let numbers = counted_within 1 1 9999999 (map stay_key s.stays.items) (omega arith) (omega (arith, few))
-    (and_true _ (count_up 1 (map stay_key s.stays.items)) numbered.0).1 in
-    let keys : list_all (λ plain. is_number_up_to 9999999 (stay_key plain)) s.stays.items ≡ true =
-    sym (all_mapped (is_number_up_to 9999999) stay_key s.stays.items) ∙ numbers in
+    let passed = and_true _ (list_all (has_night s) s.stay.items) (sym (stays_together s) ∙ h.stay) in
+    let fits = and_true (are_numbered (map stay_key s.stay.items)) (list_all (stay_fits s) s.stay.items) passed.0 in
+    let numbered = and_true _ (nat_le (length (map stay_key s.stay.items)) 9999999) fits.0 in
+    let few : length (map stay_key s.stay.items) ≤ 9999999 = grind (arith, nat_tests, numbered.1) in
+    let numbers = counted_within 1 1 9999999 (map stay_key s.stay.items) (omega arith) (omega (arith, few))
+    (and_true _ (count_up 1 (map stay_key s.stay.items)) numbered.0).1 in
+    let keys : list_all (λ plain. is_number_up_to 9999999 (stay_key plain)) s.stay.items ≡ true =
+    sym (all_mapped (is_number_up_to 9999999) stay_key s.stay.items) ∙ numbers in
     all_weaker (λ plain. is_number_up_to 9999999 (stay_key plain) && stay_fits s plain) tells_stay
-    (stay_told s sound.kind_reads sound.room_number) s.stays.items
-    (sym (all_and (λ plain. is_number_up_to 9999999 (stay_key plain)) (stay_fits s) s.stays.items _ refl)
+    (stay_told s sound.kind_reads sound.room_number) s.stay.items
+    (sym (all_and (λ plain. is_number_up_to 9999999 (stay_key plain)) (stay_fits s) s.stay.items _ refl)
     ∙ both _ _ keys fits.1)
 
 room_told : (s : Stored) (plain : PlainRoom) → room_fits s plain ≡ true
-    → (is_room_number plain ≡ true) × (names_kind (string_bytes plain.kind) s.kinds.items ≡ true)
+    → (is_room_number plain ≡ true) × (names_kind (string_bytes plain.kind) s.kind.items ≡ true)
 room_told s plain h =
     let secured = and_true _ (is_secured_as_due s plain) h in
     let home = and_true _ (is_at_home (rows_of s) (room_row plain)) secured.0 in
@@ -175,30 +175,30 @@ room_told s plain h =
     let codes = and_true _ (has_few_codes s plain) notes.0 in
     let kind = and_true _ (has_kind (rows_of s) (string_bytes plain.kind)) codes.0 in
     let lock = and_true _ (nat_lt (number_of plain.lock_place) (number_of plain.codes)) kind.0 in
-    let number = and_true (room_columns plain) (is_room_number plain) lock.0 in
-    (number.1, named_kind (string_bytes plain.kind) s.kinds.items ∙ kind.1)
+    let number = and_true (are_room_columns plain) (is_room_number plain) lock.0 in
+    (number.1, named_kind (string_bytes plain.kind) s.kind.items ∙ kind.1)
 
 -- rooms that fit have the numbers of rooms
-pub rooms_numbered : (s : Stored) → first_damaged_of s ≡ None → list_all is_room_number s.rooms.items ≡ true
-rooms_numbered s none = all_weaker (room_fits s) is_room_number (λ room h. (room_told s room h).0) s.rooms.items
-    (and_true (are_in_order nat_cmp (map room_key s.rooms.items)) (list_all (room_fits s) s.rooms.items)
+pub rooms_numbered : (s : Stored) → first_damaged_of s ≡ None → list_all is_room_number s.room.items ≡ true
+rooms_numbered s none = all_weaker (room_fits s) is_room_number (λ room h. (room_told s room h).0) s.room.items
+    (and_true (are_in_order nat_cmp (map room_key s.room.items)) (list_all (room_fits s) s.room.items)
     (sym (rooms_together s) ∙ (all_passed s none).room)).1
 
-pub rooms_told : (s : Stored) → first_damaged_of s ≡ None → are_rooms_of s.kinds.items s.rooms.items ≡ true
+pub rooms_told : (s : Stored) → first_damaged_of s ≡ None → are_rooms_of s.kind.items s.room.items ≡ true
 rooms_told s none =
     let h = all_passed s none in
     let sound = ((undamaged_is_sound s).0 none).0 in
-    let passed = and_true (are_in_order nat_cmp (map room_key s.rooms.items)) (list_all (room_fits s) s.rooms.items)
+    let passed = and_true (are_in_order nat_cmp (map room_key s.room.items)) (list_all (room_fits s) s.room.items)
     (sym (rooms_together s) ∙ h.room) in
-    let kinds : list_all (λ kind. is_kind (kind_text kind)) s.kinds.items ≡ true =
-    sym (all_mapped is_kind kind_text s.kinds.items) ∙ sound.kind_reads in
-    let named = all_weaker (room_fits s) (λ room. names_kind (string_bytes room.kind) s.kinds.items)
-    (λ room h. (room_told s room h).1) s.rooms.items passed.1 in
+    let kinds : list_all (λ kind. is_kind (kind_text kind)) s.kind.items ≡ true =
+    sym (all_mapped is_kind kind_text s.kind.items) ∙ sound.kind_reads in
+    let named = all_weaker (room_fits s) (λ room. names_kind (string_bytes room.kind) s.kind.items)
+    (λ room h. (room_told s room h).1) s.room.items passed.1 in
     let numbers = rooms_numbered s none in
-    let few = few_rooms (map room_key s.rooms.items)
-    (all_mapped (λ k. nat_le 1 k && nat_le k 9999) room_key s.rooms.items ∙ numbers) passed.0 in
+    let few = few_rooms (map room_key s.room.items)
+    (all_mapped (λ k. nat_le 1 k && nat_le k 9999) room_key s.room.items ∙ numbers) passed.0 in
     both _ _ (both _ _ kinds named)
-    (le_tested (length s.rooms.items) 9999 (subst (λ n. n ≤ 9999) (length_mapped room_key s.rooms.items) few))
+    (le_tested (length s.room.items) 9999 (subst (λ n. n ≤ 9999) (length_mapped room_key s.room.items) few))
 
 -- ---- where counting stops
 

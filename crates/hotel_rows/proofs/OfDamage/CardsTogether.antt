@@ -38,39 +38,39 @@ said_alike : {X Y : Type 0} (o : Option X) (d : Y) (f g : X → Y) → ((x : X) 
 said_alike (Some x) d f g e = e x
 said_alike None d f g e = refl
 
-agree_together : (s : Stored) → links_of_one_party (rows_of s) ≡ list_all (agrees s) s.cards.items
+agree_together : (s : Stored) → links_of_one_party (rows_of s) ≡ list_all (agrees s) s.card.items
 agree_together s =
     all_mapped (λ (e : ℕ × Card). list_all (λ (f : ℕ × Card). not (same_link e.1.link f.1.link)
-    || (e.1.party == f.1.party)) (rows_of s).cards) card_entry s.cards.items
-    ∙ all_alike _ (agrees s) s.cards.items (λ plain. all_mapped (λ (f : ℕ × Card).
-    not (same_link (link_row plain) f.1.link) || (number_of plain.party == f.1.party)) card_entry s.cards.items)
+    || (e.1.party == f.1.party)) (rows_of s).cards) card_entry s.card.items
+    ∙ all_alike _ (agrees s) s.card.items (λ plain. all_mapped (λ (f : ℕ × Card).
+    not (same_link (link_row plain) f.1.link) || (number_of plain.party == f.1.party)) card_entry s.card.items)
 
 brought_together : (s : Stored) → (neighbours_are_links (rows_of s) && fits_without_links (rows_of s))
-    ≡ list_all (is_brought s) s.codes.items
+    ≡ list_all (is_brought s) s.code.items
 brought_together s =
     let brought = λ (e : ℕ × CodeRow). list_any (λ (c : ℕ × Card). c.1.link.new_code == e.0) (rows_of s).cards in
     let begun = λ (e : ℕ × CodeRow). begins_fit (rows_of s) e.1.room e.1.place in
     ap (λ b. b && fits_without_links (rows_of s)) (all_mapped
-    (λ (e : ℕ × CodeRow). (e.1.place == 0) || begun e || brought e) code_entry s.codes.items)
+    (λ (e : ℕ × CodeRow). (e.1.place == 0) || begun e || brought e) code_entry s.code.items)
     ∙ all_and (λ plain. (number_of plain.place == 0) || begins_one s plain || brought (code_entry plain))
-    (λ plain. not (begins_one s plain && brought (code_entry plain))) s.codes.items _
-    (all_mapped (λ (e : ℕ × CodeRow). not (begun e && brought e)) code_entry s.codes.items)
-    ∙ all_alike _ (is_brought s) s.codes.items (λ plain.
+    (λ plain. not (begins_one s plain && brought (code_entry plain))) s.code.items _
+    (all_mapped (λ (e : ℕ × CodeRow). not (begun e && brought e)) code_entry s.code.items)
+    ∙ all_alike _ (is_brought s) s.code.items (λ plain.
     ap (λ b. ((number_of plain.place == 0) || begins_one s plain || b) && not (begins_one s plain && b))
-    (any_mapped (λ (c : ℕ × Card). c.1.link.new_code == number_of plain.code) card_entry s.cards.items))
+    (any_mapped (λ (c : ℕ × Card). c.1.link.new_code == number_of plain.code) card_entry s.card.items))
 
-owners_together : (s : Stored) → newest_of_party (rows_of s) ≡ list_all (has_owner s) s.rooms.items
+owners_together : (s : Stored) → newest_of_party (rows_of s) ≡ list_all (has_owner s) s.room.items
 owners_together s =
-    all_rooms (λ (e : ℕ × RoomRow). said_of e.1.party true (owns_newest (rows_of s) e.1.room)) (fits_of s) s.rooms.items
-    ∙ all_alike _ (has_owner s) s.rooms.items (λ plain.
+    all_rooms (λ (e : ℕ × RoomRow). said_of e.1.party true (owns_newest (rows_of s) e.1.room)) (fits_of s) s.room.items
+    ∙ all_alike _ (has_owner s) s.room.items (λ plain.
     said_alike (option_map number_of plain.party) true (owns_newest (rows_of s) (number_of plain.room))
-    (λ party. list_all (is_owned s (number_of plain.room) party) s.cards.items)
+    (λ party. list_all (is_owned s (number_of plain.room) party) s.card.items)
     (λ party. all_mapped (λ (e : ℕ × Card). not (is_newest (rows_of s) (number_of plain.room) e.1.link)
-    || (e.1.party == party)) card_entry s.cards.items))
+    || (e.1.party == party)) card_entry s.card.items))
 
-lasts_together : (s : Stored) → last_cards_newest (rows_of s) ≡ list_all (has_last s) s.stays.items
+lasts_together : (s : Stored) → last_cards_newest (rows_of s) ≡ list_all (has_last s) s.stay.items
 lasts_together s = all_mapped (λ (e : ℕ × Stay). said_of (room_of_state e.1.state) true
-    (has_newest (rows_of s) e.1.party)) stay_entry s.stays.items
+    (has_newest (rows_of s) e.1.party)) stay_entry s.stay.items
 
 both_first : (a b c d e : Bool) → ((((a && b) && c) && d) && e) ≡ (((a && (b && c)) && d) && e)
 both_first true b c d e = refl
@@ -82,10 +82,10 @@ joined true false c d e f = refl
 joined false b c d e f = refl
 
 -- the rules of cards are tests of the keys and of each row
-pub cards_together : (s : Stored) → card_holds s ≡ (are_numbered (map card_key s.cards.items)
-    && list_all (λ card. card_fits (rows_of s) (card_row card)) s.cards.items && links_hold s)
+pub cards_together : (s : Stored) → card_holds s ≡ (are_numbered (map card_key s.card.items)
+    && list_all (λ card. card_fits (rows_of s) (card_row card)) s.card.items && links_hold s)
 cards_together s =
-    let plain_rows = s.cards.items in
+    let plain_rows = s.card.items in
     let rows = rows_of s in
     let ks = map card_key plain_rows in
     let o = are_numbered ks in
@@ -114,8 +114,8 @@ cards_together s =
     ∙ ap (λ b. o && list_all (λ card. card_fits rows (card_row card)) plain_rows && list_all (agrees s) plain_rows && b
     && newest_of_party rows && last_cards_newest rows) (brought_together s)
     ∙ ap (λ b. o && list_all (λ card. card_fits rows (card_row card)) plain_rows && list_all (agrees s) plain_rows
-    && list_all (is_brought s) s.codes.items && b && last_cards_newest rows) (owners_together s)
+    && list_all (is_brought s) s.code.items && b && last_cards_newest rows) (owners_together s)
     ∙ ap (λ b. o && list_all (λ card. card_fits rows (card_row card)) plain_rows && list_all (agrees s) plain_rows
-    && list_all (is_brought s) s.codes.items && list_all (has_owner s) s.rooms.items && b) (lasts_together s)
+    && list_all (is_brought s) s.code.items && list_all (has_owner s) s.room.items && b) (lasts_together s)
     ∙ joined o (list_all (λ card. card_fits rows (card_row card)) plain_rows) (list_all (agrees s) plain_rows)
-    (list_all (is_brought s) s.codes.items) (list_all (has_owner s) s.rooms.items) (list_all (has_last s) s.stays.items)
+    (list_all (is_brought s) s.code.items) (list_all (has_owner s) s.room.items) (list_all (has_last s) s.stay.items)

@@ -32,7 +32,7 @@ at_most (Some fits) n h = h
 -- Rooms of few notes have few in any version.
 pub few_in_both : (s : Stored) → notes_few s ≡ true → note_counts (rows_of s) ≡ true
 few_in_both s few = all_weaker (λ (e : ℕ × RoomRow). nat_le e.1.notes (most_notes s))
-    (λ (e : ℕ × RoomRow). nat_le e.1.notes 989999901) (λ e h. at_most s.fits e.1.notes h) (rows_of s).rooms few
+    (λ (e : ℕ × RoomRow). nat_le e.1.notes 989999901) (λ e h. at_most s.fit e.1.notes h) (rows_of s).rooms few
 
 -- ---- the notes of a room whose fits have none before them
 
@@ -75,22 +75,22 @@ has_some s e =
 abbrev has_few : Stored → ℕ × RoomRow → Bool
 has_few s e = rise_by_few (notes_before_each (fits_at (fits_of s) e.1.room) ++ e.1.notes ∷ [])
 
-few_of_room : (s : Stored) → s.fits ≡ None → (e : ℕ × RoomRow) → has_some s e ≡ true → has_few s e ≡ true
+few_of_room : (s : Stored) → s.fit ≡ None → (e : ℕ × RoomRow) → has_some s e ≡ true → has_few s e ≡ true
     → nat_le e.1.notes 9999999 ≡ true
 few_of_room s first e some few =
     let fs = fits_at (fits_of s) e.1.room in
     let p = and_true _ (nat_le (length fs) 99) some in
     let one = and_true (count_up 1 (map (λ (f : FitRow). f.fit) fs)) (nat_le 1 (length fs)) p.0 in
     let none : list_all none_before fs ≡ true = subst (λ (o : Option (Vec PlainFit Global)). list_all none_before
-    (fits_at (map fit_entry (said_of o (map first_fit s.rooms.items) (λ fits. fits.items))) e.1.room) ≡ true)
-    (sym first) (none_before_first s.rooms.items e.1.room) in
+    (fits_at (map fit_entry (said_of o (map first_fit s.room.items) (λ fits. fits.items))) e.1.room) ≡ true)
+    (sym first) (none_before_first s.room.items e.1.room) in
     few_of_last fs e.1.notes none one.1 few
 
 -- Sound rows have few notes of each room.
 pub few_of_sound : (s : Stored) → IsSound (rows_of s) → notes_few s ≡ true
-few_of_sound s sound = by s.fits refl
+few_of_sound s sound = by s.fit refl
   where
-    by : (o : Option (Vec PlainFit Global)) → s.fits ≡ o → notes_few s ≡ true
+    by : (o : Option (Vec PlainFit Global)) → s.fit ≡ o → notes_few s ≡ true
     by None is =
         let rooms = (rows_of s).rooms in
         let some : list_all (has_some s) rooms ≡ true = (and_true _ (list_all (has_some s) rooms) sound.fit_number).1 in

@@ -25,7 +25,7 @@ use Rattle.hotel_rows.specs.Stored.{number_of, plain_fits, fits_of, rows_of, fit
 use Rattle.hotel_rows.specs.Keys.{fit_key, room_key}
 use Rattle.hotel_rows.specs.Damage.{fit_holds}
 use Rattle.hotel_rows.specs.RowTests.{has_room}
-use Rattle.hotel_rows.specs.FitRuns.{fit_run_of, comes_next, all_follow, last_after, FitRunsOf, is_begun, is_ended}
+use Rattle.hotel_rows.specs.FitRuns.{fit_run_of, comes_next, all_follow, last_after, FitRunsOf, starts_at_one, is_ended}
 use Rattle.hotel_rows.specs.FitRuns.{fitted_as_due}
 use Rattle.hotel_rows.proofs.OfDamage.RowsTogether.{all_and, all_alike, all_rooms}
 use Rattle.hotel_rows.proofs.OfDamage.KnownFits.{last_is_after}
@@ -98,7 +98,7 @@ are_fits fits lock notes =
 -- the same of what is known of them
 pub fits_by_run : (fits : List FitRow) (plain : PlainRoom)
     → are_fits fits (number_of plain.lock_place) (number_of plain.notes)
-    ≡ said_of (fit_run_of fits) false (λ run. is_begun run && is_ended plain run)
+    ≡ said_of (fit_run_of fits) false (λ run. starts_at_one run && is_ended plain run)
 fits_by_run [] plain = refl
 fits_by_run (f ∷ fs) plain = same_bool _ _ to from
   where
@@ -106,7 +106,7 @@ fits_by_run (f ∷ fs) plain = same_bool _ _ to from
     test p = ap (λ o. said_of o true p) (last_is_after f fs)
 
     to : are_fits (f ∷ fs) (number_of plain.lock_place) (number_of plain.notes) ≡ true
-        → said_of (fit_run_of (f ∷ fs)) false (λ run. is_begun run && is_ended plain run) ≡ true
+        → said_of (fit_run_of (f ∷ fs)) false (λ run. starts_at_one run && is_ended plain run) ≡ true
     to t =
         let a6 = and_true _ (rise_by_few (notes_before_each (f ∷ fs) ++ number_of plain.notes ∷ [])) t in
         let a5 = and_true _ (said_of (last_fit (f ∷ fs)) true (λ f. nat_le f.before (number_of plain.notes))) a6.0 in
@@ -132,7 +132,7 @@ fits_by_run (f ∷ fs) plain = same_bool _ _ to from
         (both _ _ (both _ _ (sym (test (λ f. nat_le f.place (number_of plain.lock_place))) ∙ a4.1)
         (sym (test (λ f. nat_le f.before (number_of plain.notes))) ∙ a5.1)) follow.1)
 
-    from : said_of (fit_run_of (f ∷ fs)) false (λ run. is_begun run && is_ended plain run) ≡ true
+    from : said_of (fit_run_of (f ∷ fs)) false (λ run. starts_at_one run && is_ended plain run) ≡ true
         → are_fits (f ∷ fs) (number_of plain.lock_place) (number_of plain.notes) ≡ true
     from t =
         let p = and_true (all_follow f fs && (f.fit == 1) && (f.place == 0) && (f.before == 0)
@@ -165,14 +165,14 @@ own_rows (l ∷ ls) = both _ _ (both _ _ (eq_self (number_of l.room)) (eq_self (
 
 -- what was joined so far of all rooms, and a rule more
 more_rooms : (s : Stored) (o : Bool) (t : ℕ × RoomRow → Bool) (u : PlainRoom → Bool) (b : Bool)
-    → b ≡ (o && list_all u s.rooms.items)
+    → b ≡ (o && list_all u s.room.items)
     → (b && list_all t (rows_of s).rooms) ≡ (o && list_all
-    (λ l. u l && t (room_key l, joined_row (fits_of s) l)) s.rooms.items)
+    (λ l. u l && t (room_key l, joined_row (fits_of s) l)) s.room.items)
 more_rooms s o t u b e =
     ap (λ z. z && list_all t (rows_of s).rooms) e
-    ∙ turned o (list_all u s.rooms.items) (list_all t (rows_of s).rooms)
-    ∙ ap (λ z. o && z) (all_and u (λ l. t (room_key l, joined_row (fits_of s) l)) s.rooms.items _
-    (all_rooms t (fits_of s) s.rooms.items))
+    ∙ turned o (list_all u s.room.items) (list_all t (rows_of s).rooms)
+    ∙ ap (λ z. o && z) (all_and u (λ l. t (room_key l, joined_row (fits_of s) l)) s.room.items _
+    (all_rooms t (fits_of s) s.room.items))
   where
     turned : (a b c : Bool) → ((a && b) && c) ≡ (a && (b && c))
     turned true b c = refl
@@ -181,7 +181,7 @@ more_rooms s o t u b e =
 -- the rules of fits are a test of the keys, of each fit and of each room
 pub fits_together : (s : Stored) (runs : List (ℕ × FitRun)) → FitRunsOf runs (plain_fits s)
     → fit_holds s ≡ (are_in_order pair_cmp (map fit_key (plain_fits s))
-    && list_all (has_room (rows_of s)) (plain_fits s) && list_all (fitted_as_due runs) s.rooms.items)
+    && list_all (has_room (rows_of s)) (plain_fits s) && list_all (fitted_as_due runs) s.room.items)
 fits_together s runs is =
     let ls = plain_fits s in
     let rows = rows_of s in
@@ -212,10 +212,10 @@ fits_together s runs is =
     && nat_le (length (fits (room_key l))) 99) _
     (ap (λ b. (order && there) && b) (all_rooms (λ (e : ℕ × RoomRow). count_up 1
     (map (λ (f : FitRow). f.fit) (fits e.1.room)) && nat_le 1 (length (fits e.1.room))
-    && nat_le (length (fits e.1.room)) 99) (fits_of s) s.rooms.items)))))))
-    ∙ ap (λ b. (order && there) && b) (all_alike _ (fitted_as_due runs) s.rooms.items (λ plain.
+    && nat_le (length (fits e.1.room)) 99) (fits_of s) s.room.items)))))))
+    ∙ ap (λ b. (order && there) && b) (all_alike _ (fitted_as_due runs) s.room.items (λ plain.
     fits_by_run (fits (number_of plain.room)) plain
-    ∙ ap (λ o. said_of o false (λ run. is_begun run && is_ended plain run)) (sym (is (number_of plain.room)))))
+    ∙ ap (λ o. said_of o false (λ run. starts_at_one run && is_ended plain run)) (sym (is (number_of plain.room)))))
   where
     keys_are : (ls : List PlainFit) → keys_of (map fit_entry ls) ≡ map fit_key ls
     keys_are [] = refl

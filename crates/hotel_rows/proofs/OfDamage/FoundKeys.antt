@@ -8,7 +8,7 @@ use Rattle.std.specs.List.{list_all}
 use Rattle.hotel_model.specs.Rows.{at_number}
 use Rattle.hotel_model.proofs.OfTables.Numbered.{at_inserted}
 use Rattle.hotel_core.proofs.OfTables.MapEntries.{at_is, eq_from}
-use Rattle.hotel_rows.specs.Keys.{place_in, Finds}
+use Rattle.hotel_rows.specs.Keys.{place_in, IndexesFirst}
 
 -- the first, or where there is none the second
 abbrev pub or_place : Option ℕ → Option ℕ → Option ℕ
@@ -52,7 +52,7 @@ kept_by false ks k q e h = or_none (place_in ks q)
 
 -- a key that stands there already
 pub finds_again : (places : List (ℕ × ℕ)) (ks : List ℕ) (k : ℕ)
-    → Finds places ks → is_some (at_number places k) ≡ true → Finds places (ks ++ k ∷ [])
+    → IndexesFirst places ks → is_some (at_number places k) ≡ true → IndexesFirst places (ks ++ k ∷ [])
 finds_again places ks k is there q =
     is q ∙ sym (place_more ks k q ∙ kept_by (k == q) ks k q refl (sym (ap is_some (is k)) ∙ there))
 
@@ -68,8 +68,8 @@ put_by false ks k q e h = sym (or_none (place_in ks q))
 
 -- a new key
 pub finds_more : (places later : List (ℕ × ℕ)) (ks : List ℕ) (k : ℕ)
-    → Finds places ks → is_some (at_number places k) ≡ false
-    → later ≡ insert_entry nat_cmp places k (length ks) → Finds later (ks ++ k ∷ [])
+    → IndexesFirst places ks → is_some (at_number places k) ≡ false
+    → later ≡ insert_entry nat_cmp places k (length ks) → IndexesFirst later (ks ++ k ∷ [])
 finds_more places later ks k is absent e q =
     ap (λ es. at_number es q) e ∙ at_inserted places k (length ks) q
     ∙ ap (λ o. cond (k == q) (Some (length ks)) o) (is q)
@@ -116,18 +116,18 @@ module _ {L X : Type 0} (key : L → ℕ) (row : L → X) where
   length_keys (l ∷ ls) = ap suc (length_keys ls)
 
   pub none_found : (places : List (ℕ × ℕ)) (ls : List L) (q : ℕ)
-      → Finds places (map key ls) → at_number places q ≡ None → at_number (map (λ l. (key l, row l)) ls) q ≡ None
+      → IndexesFirst places (map key ls) → at_number places q ≡ None → at_number (map (λ l. (key l, row l)) ls) q ≡ None
   none_found places [] q is e = refl
   none_found places (l ∷ ls) q is e =
       row_found key row l (l ∷ ls) q ∙ ap (λ o. option_map (λ i. row (get_or (l ∷ ls) i l)) o) (sym (is q) ∙ e)
 
-  pub one_found : (places : List (ℕ × ℕ)) (ls : List L) (q i : ℕ) (d : L) → Finds places (map key ls)
+  pub one_found : (places : List (ℕ × ℕ)) (ls : List L) (q i : ℕ) (d : L) → IndexesFirst places (map key ls)
       → at_number places q ≡ Some i → at_number (map (λ l. (key l, row l)) ls) q ≡ Some (row (get_or ls i d))
   one_found places ls q i d is e =
       row_found key row d ls q ∙ ap (λ o. option_map (λ i. row (get_or ls i d)) o) (sym (is q) ∙ e)
 
   pub one_bound : (places : List (ℕ × ℕ)) (ls : List L) (q i : ℕ)
-      → Finds places (map key ls) → at_number places q ≡ Some i → i < length ls
+      → IndexesFirst places (map key ls) → at_number places q ≡ Some i → i < length ls
   one_bound places ls q i is e = bound_of i (map key ls) q (length ls) (sym (is q) ∙ e) (length_keys ls)
 
 key_by : (b : Bool) (ks : List ℕ) (k q i : ℕ) → (k == q) ≡ b → cond b (Some 0) (option_map suc (place_in ks q)) ≡ Some i
@@ -152,7 +152,7 @@ key_of_plain key (l ∷ ls) (suc i) d low = key_of_plain key ls i d (omega (arit
 
 module _ {L X : Type 0} (key : L → ℕ) (row : L → X) where
   pub plain_found : (places : List (ℕ × ℕ)) (ls : List L) (q i : ℕ) (d : L)
-      → Finds places (map key ls) → at_number places q ≡ Some i → key (get_or ls i d) ≡ q
+      → IndexesFirst places (map key ls) → at_number places q ≡ Some i → key (get_or ls i d) ≡ q
   plain_found places ls q i d is e =
       sym (key_of_plain key ls i d (one_bound key row places ls q i is e)) ∙ key_there (map key ls) q i (sym (is q) ∙ e)
 

@@ -15,7 +15,7 @@ use Rattle.hotel_rows.specs.declared.damage.placed.Placed.{Placed}
 use Rattle.hotel_rows.specs.declared.stored.Stored.{Stored}
 use Rattle.hotel_rows.specs.Stored.{number_of, fit_row, fit_entry, plain_fits, rows_of}
 use Rattle.hotel_rows.specs.Placed.{places_in, listed_in, PlacesOf, are_due_at}
-use Rattle.hotel_rows.specs.FitRuns.{fit_run_of, fits_in, last_place_in, last_after, begin_key, begins_in, FitRunsOf}
+use Rattle.hotel_rows.specs.FitRuns.{fit_run_of, fit_count, last_place_in, last_after, begin_key, begins_in, FitRunsOf}
 use Rattle.hotel_rows.specs.FitRuns.{BeginsOf}
 use Rattle.hotel_rows.proofs.OfDamage.Newest.{length_values, due_parts}
 
@@ -53,7 +53,7 @@ run_length (f ∷ fs) = refl
 
 -- how many fits a room has
 pub fits_counted : (runs : List (ℕ × FitRun)) (plain_rows : List PlainFit) (room : ℕ) → FitRunsOf runs plain_rows
-    → fits_in runs room ≡ length (fits_at (map fit_entry plain_rows) room)
+    → fit_count runs room ≡ length (fits_at (map fit_entry plain_rows) room)
 fits_counted runs plain_rows room is = ap (λ o. said_of o 0 (λ run. run.fits)) (is room)
     ∙ run_length (fits_at (map fit_entry plain_rows) room)
 
@@ -68,7 +68,7 @@ few_at (l ∷ ls) room = by (number_of l.room == room) (few_at ls room)
 
 -- a room has at most as many fits as there are
 pub few_fits : (runs : List (ℕ × FitRun)) (plain_rows : List PlainFit) (room n : ℕ) → FitRunsOf runs plain_rows
-    → length plain_rows < n → fits_in runs room < n
+    → length plain_rows < n → fit_count runs room < n
 few_fits runs plain_rows room n is few =
     let same = fits_counted runs plain_rows room is in
     let some = few_at plain_rows room in
@@ -115,7 +115,7 @@ begins_more before after plain plain_rows is put room place =
 
 -- the newest link of a room, whose codes are at the places that its row says
 pub newest_known : (s : Stored) (placed : List (ℕ × Placed)) (begins : List ((ℕ × ℕ) × ℕ)) (room codes : ℕ)
-    → PlacesOf placed s.codes.items → BeginsOf begins (plain_fits s) → are_due_at placed room codes ≡ true
+    → PlacesOf placed s.code.items → BeginsOf begins (plain_fits s) → are_due_at placed room codes ≡ true
     → newest_link_at (rows_of s) room ≡ cond (begins_in begins room (codes - 1)) None
     (last_link_of (values_of (places_in placed room)))
 newest_known s placed begins room codes is known due =

@@ -18,7 +18,7 @@ use Rattle.hotel_rows.specs.declared.stored.Stored.{Stored}
 use Rattle.hotel_rows.specs.Joined.{under_fit, FitEntries}
 use Rattle.hotel_rows.specs.Stored.{number_of, note_row, note_entry, joined_note, fits_of, rows_of}
 use Rattle.hotel_rows.specs.Keys.{note_key}
-use Rattle.hotel_rows.specs.Damage.{note_columns, note_holds}
+use Rattle.hotel_rows.specs.Damage.{are_note_columns, note_holds}
 use Rattle.hotel_rows.specs.RowTests.{plain_note_fits}
 use Rattle.hotel_rows.specs.NoteRuns.{note_run_of, NoteRunsOf, counted_as_due}
 use Rattle.hotel_rows.proofs.OfDamage.RowsTogether.{all_and, all_alike, all_rooms}
@@ -98,15 +98,15 @@ numbers_joined fits [] r = refl
 numbers_joined fits (e ∷ es) r = ap (λ ns. when (e.0.0 == r) (λ numbers. e.0.1 ∷ numbers) ns) (numbers_joined fits es r)
 
 -- the rule on the numbers of all rooms
-pub counts_as_due : (s : Stored) (runs : List (ℕ × NoteRun)) → NoteRunsOf runs s.notes.items
-    → notes_counted (rows_of s) ≡ list_all (counted_as_due runs) s.rooms.items
+pub counts_as_due : (s : Stored) (runs : List (ℕ × NoteRun)) → NoteRunsOf runs s.note.items
+    → notes_counted (rows_of s) ≡ list_all (counted_as_due runs) s.room.items
 counts_as_due s runs is =
     all_rooms (λ (e : ℕ × RoomRow). count_up 1 (numbers_at (rows_of s).notes e.1.room)
-    && (length (numbers_at (rows_of s).notes e.1.room) == e.1.notes)) (fits_of s) s.rooms.items
-    ∙ all_alike _ (counted_as_due runs) s.rooms.items (λ plain.
+    && (length (numbers_at (rows_of s).notes e.1.room) == e.1.notes)) (fits_of s) s.room.items
+    ∙ all_alike _ (counted_as_due runs) s.room.items (λ plain.
     ap (λ ns. count_up 1 ns && (length ns == number_of plain.notes))
-    (numbers_joined (fits_of s) (map note_entry s.notes.items) (number_of plain.room))
-    ∙ due_as_counted (numbers_at (map note_entry s.notes.items) (number_of plain.room)) (number_of plain.notes)
+    (numbers_joined (fits_of s) (map note_entry s.note.items) (number_of plain.room))
+    ∙ due_as_counted (numbers_at (map note_entry s.note.items) (number_of plain.room)) (number_of plain.notes)
     ∙ ap (λ o. said_of o (number_of plain.notes == 0)
     (λ run. run.counted && (run.first == 1) && (run.last == number_of plain.notes))) (sym (is (number_of plain.room))))
 
@@ -140,20 +140,21 @@ pub all_notes : (t : (ℕ × ℕ) × Note → Bool) (fits : FitEntries) (ls : Li
 all_notes t fits ls = ap (list_all t) (notes_are fits ls) ∙ all_mapped t (λ l. (note_key l, joined_note fits l)) ls
 
 -- the rules of notes are a test of each note, and one of each room
-pub notes_together : (s : Stored) → note_holds s ≡ (are_in_order pair_cmp (map note_key s.notes.items)
-    && list_all (plain_note_fits (rows_of s)) s.notes.items && notes_counted (rows_of s))
+pub notes_together : (s : Stored) → note_holds s ≡ (are_in_order pair_cmp (map note_key s.note.items)
+    && list_all (plain_note_fits (rows_of s)) s.note.items && notes_counted (rows_of s))
 notes_together s =
-    let plain_rows = s.notes.items in
+    let plain_rows = s.note.items in
     let rows = rows_of s in
     let fits = fits_of s in
-    ap (λ ks. are_in_order pair_cmp ks && list_all note_columns plain_rows && notes_counted rows && notes_fit rows)
+    ap (λ ks. are_in_order pair_cmp ks && list_all are_note_columns plain_rows && notes_counted rows && notes_fit rows)
     (ap keys_of (notes_are fits plain_rows) ∙ pair_keys_mapped plain_rows)
-    ∙ swap_last (are_in_order pair_cmp (map note_key plain_rows)) (list_all note_columns plain_rows)
+    ∙ swap_last (are_in_order pair_cmp (map note_key plain_rows)) (list_all are_note_columns plain_rows)
     (notes_counted rows) (notes_fit rows) (list_all (plain_note_fits rows) plain_rows)
-    (all_and note_columns (λ plain. note_fits rows (note_key plain, joined_note fits plain)) plain_rows (notes_fit rows)
+    (all_and are_note_columns (λ plain. note_fits rows (note_key plain, joined_note fits plain)) plain_rows
+    (notes_fit rows)
     (all_notes (note_fits rows) fits plain_rows)
     ∙ all_alike _ (plain_note_fits rows) plain_rows (λ plain.
-    plain_fits (note_columns plain) (number_of plain.room == number_of plain.room)
+    plain_fits (are_note_columns plain) (number_of plain.room == number_of plain.room)
     (is_some (at_number rows.rooms (number_of plain.room)))
     (act_fits rows (number_of plain.room) (note_row plain).act) (is_day (number_of plain.day))
     (nat_le (number_of plain.second) 86399) (eq_self (number_of plain.room))))

@@ -45,8 +45,8 @@ all_yes t (l ∷ ls) e = both _ _ (e l) (all_yes t ls e)
 pub of_last_fits : (s : Stored) → rows_of_last_fits (rows_of s) ≡ true
 of_last_fits s =
     all_rooms (λ (e : ℕ × RoomRow). said_of (last_fit (fits_at (fits_of s) e.1.room)) true
-    (λ f. (e.1.fit == f.fit) && (e.1.before == f.before))) (fits_of s) s.rooms.items
-    ∙ all_yes _ s.rooms.items (λ plain. last_said (last_fit (fits_at (fits_of s) (number_of plain.room)))
+    (λ f. (e.1.fit == f.fit) && (e.1.before == f.before))) (fits_of s) s.room.items
+    ∙ all_yes _ s.room.items (λ plain. last_said (last_fit (fits_at (fits_of s) (number_of plain.room)))
     (room_row plain))
 
 -- ---- the fit of a note
@@ -173,12 +173,12 @@ of_fits s counted fit numbers first own =
     let rows = rows_of s in
     let ls = plain_fits s in
     let numbered = all_by_room (is_numbered rows) rows.notes (numbered_at rows counted own) in
-    all_notes (is_of_fit rows) (fits_of s) s.notes.items
+    all_notes (is_of_fit rows) (fits_of s) s.note.items
     ∙ all_from (λ plain. note_fits rows (note_key plain, joined_note (fits_of s) plain))
     (λ plain. is_numbered rows (number_of plain.room) (number_of plain.n))
     (λ plain. is_of_fit rows (note_key plain, joined_note (fits_of s) plain))
-    (λ plain a b. of_one plain a b) s.notes.items (sym (all_notes (note_fits rows) (fits_of s) s.notes.items) ∙ fit)
-    (sym (all_notes (λ (e : (ℕ × ℕ) × Note). is_numbered rows e.0.0 e.0.1) (fits_of s) s.notes.items) ∙ numbered)
+    (λ plain a b. of_one plain a b) s.note.items (sym (all_notes (note_fits rows) (fits_of s) s.note.items) ∙ fit)
+    (sym (all_notes (λ (e : (ℕ × ℕ) × Note). is_numbered rows e.0.0 e.0.1) (fits_of s) s.note.items) ∙ numbered)
   where
     of_one : (plain : PlainNote) → note_fits (rows_of s) (note_key plain, joined_note (fits_of s) plain) ≡ true
         → is_numbered (rows_of s) (number_of plain.room) (number_of plain.n) ≡ true

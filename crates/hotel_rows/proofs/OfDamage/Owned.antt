@@ -104,8 +104,8 @@ agree_own plain_rows all =
     (λ c h. let p = and_true (list_all (agree c) plain_rows) (is_some (owner_in plain_rows (link_row c))) h in
     found_own c plain_rows p.0 p.1) plain_rows both_all
 
-pub own_and_agree : (s : Stored) → list_all (is_own s.cards.items) s.cards.items ≡ list_all (agrees s) s.cards.items
-own_and_agree s = same_bool _ _ (own_agree s.cards.items) (agree_own s.cards.items)
+pub own_and_agree : (s : Stored) → list_all (is_own s.card.items) s.card.items ≡ list_all (agrees s) s.card.items
+own_and_agree s = same_bool _ _ (own_agree s.card.items) (agree_own s.card.items)
 
 -- ---- the cards of a newest link
 
@@ -170,6 +170,6 @@ pub owned_newest : (plain_rows : List PlainCard) (last : Option Link) (p : ℕ)
 owned_newest plain_rows (Some newest) p all = owned_in plain_rows plain_rows newest p all
 owned_newest plain_rows None p all = all_free plain_rows
 
-pub agreeing_own : (s : Stored) → list_all (agrees s) s.cards.items ≡ true
-    → list_all (is_own s.cards.items) s.cards.items ≡ true
+pub agreeing_own : (s : Stored) → list_all (agrees s) s.card.items ≡ true
+    → list_all (is_own s.card.items) s.card.items ≡ true
 agreeing_own s h = own_and_agree s ∙ h

@@ -60,25 +60,25 @@ at_back xs k d low =
 
 -- the rule on the places of all rooms
 pub places_as_due : (s : Stored) (placed : List (ℕ × Placed))
-    → PlacesOf placed s.codes.items → places_once (rows_of s) ≡ list_all (placed_as_due placed) s.rooms.items
+    → PlacesOf placed s.code.items → places_once (rows_of s) ≡ list_all (placed_as_due placed) s.room.items
 places_as_due s placed is =
-    all_rooms (λ (e : ℕ × RoomRow). count_up 0 (keys_of (codes_by_place (map code_entry s.codes.items) e.1.room))
-    && (length (values_of (codes_by_place (map code_entry s.codes.items) e.1.room)) == e.1.codes)
-    && (count_by (λ (row : CodeRow). row.room == e.1.room) (values_of (map code_entry s.codes.items)) == e.1.codes))
-    (fits_of s) s.rooms.items
-    ∙ all_alike _ (placed_as_due placed) s.rooms.items (λ plain.
+    all_rooms (λ (e : ℕ × RoomRow). count_up 0 (keys_of (codes_by_place (map code_entry s.code.items) e.1.room))
+    && (length (values_of (codes_by_place (map code_entry s.code.items) e.1.room)) == e.1.codes)
+    && (count_by (λ (row : CodeRow). row.room == e.1.room) (values_of (map code_entry s.code.items)) == e.1.codes))
+    (fits_of s) s.room.items
+    ∙ all_alike _ (placed_as_due placed) s.room.items (λ plain.
     let r = number_of plain.room in
     ap (λ es. count_up 0 (keys_of es) && (length (values_of es) == number_of plain.codes)
-    && (count_by (λ (row : CodeRow). row.room == r) (values_of (map code_entry s.codes.items))
+    && (count_by (λ (row : CodeRow). row.room == r) (values_of (map code_entry s.code.items))
     == number_of plain.codes)) (sym (is r).0)
     ∙ ap (λ n. count_up 0 (keys_of (places_in placed r)) && (length (values_of (places_in placed r))
     == number_of plain.codes) && (n == number_of plain.codes)) (sym (is r).1))
 
 -- the rules of codes are a test of each code, and one of each room
-pub codes_together : (s : Stored) → code_holds s ≡ (are_in_order nat_cmp (map code_key s.codes.items)
-    && list_all (code_fits (rows_of s)) s.codes.items && places_once (rows_of s))
+pub codes_together : (s : Stored) → code_holds s ≡ (are_in_order nat_cmp (map code_key s.code.items)
+    && list_all (code_fits (rows_of s)) s.code.items && places_once (rows_of s))
 codes_together s =
-    let plain_rows = s.codes.items in
+    let plain_rows = s.code.items in
     let rows = rows_of s in
     let o = are_in_order nat_cmp (map code_key plain_rows) in
     ap (λ ks. are_in_order nat_cmp ks && list_all (λ code. nat_lt code (2 ^ 48)) ks && code_rooms_there rows
@@ -96,5 +96,5 @@ parts false b h = absurd (let w : ◌≡◌ {A = Bool} false true = h in cc)
 
 -- where the rules of codes hold, the places of each room's codes are as due
 pub due_of_codes : (s : Stored) (placed : List (ℕ × Placed))
-    → PlacesOf placed s.codes.items → code_holds s ≡ true → list_all (placed_as_due placed) s.rooms.items ≡ true
+    → PlacesOf placed s.code.items → code_holds s ≡ true → list_all (placed_as_due placed) s.room.items ≡ true
 due_of_codes s placed is h = sym (places_as_due s placed is) ∙ (parts _ (places_once (rows_of s)) h).1

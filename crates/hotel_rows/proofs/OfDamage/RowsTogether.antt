@@ -15,7 +15,7 @@ use Rattle.hotel_rows.specs.declared.stored.Stored.{Stored}
 use Rattle.hotel_rows.specs.Joined.{with_fit, FitEntries}
 use Rattle.hotel_rows.specs.Stored.{number_of, fits_of, rows_of, room_entry, room_row, joined_row, card_entry}
 use Rattle.hotel_rows.specs.Keys.{room_key}
-use Rattle.hotel_rows.specs.Damage.{most_notes, notes_few, room_columns, room_holds}
+use Rattle.hotel_rows.specs.Damage.{most_notes, notes_few, are_room_columns, room_holds}
 use Rattle.hotel_rows.specs.RowTests.{room_fits, is_room_number, is_at_home, is_secured_as_due}
 
 pub keys_mapped : {L X : Type 0} (key : L → ℕ) (row : L → X) (ls : List L)
@@ -81,13 +81,13 @@ left_rooms o fits t u ls b e = ap (λ es. b && list_all t es) (rooms_are fits ls
 
 -- the rules of rooms are a test of each row
 pub rooms_together : (s : Stored)
-    → room_holds s ≡ (are_in_order nat_cmp (map room_key s.rooms.items) && list_all (room_fits s) s.rooms.items)
+    → room_holds s ≡ (are_in_order nat_cmp (map room_key s.room.items) && list_all (room_fits s) s.room.items)
 rooms_together s =
-    let plain_rows = s.rooms.items in
+    let plain_rows = s.room.items in
     let rows = rows_of s in
     let fits = fits_of s in
     let o = are_in_order nat_cmp (map room_key plain_rows) in
-    ap (λ ks. are_in_order nat_cmp ks && list_all room_columns plain_rows && room_numbers rows && lock_places rows
+    ap (λ ks. are_in_order nat_cmp ks && list_all are_room_columns plain_rows && room_numbers rows && lock_places rows
     && room_kinds_there rows && codes_few rows && notes_few s && parties_in_house rows && secured_hold_last rows)
     (ap keys_of (rooms_are fits plain_rows) ∙ keys_mapped room_key (joined_row fits) plain_rows)
     ∙ left_rooms o fits (λ (e : ℕ × RoomRow). not e.1.secured
@@ -100,15 +100,16 @@ rooms_together s =
     (left_rooms o fits (λ (e : ℕ × RoomRow). has_kind rows e.1.kind) _ plain_rows _
     (left_rooms o fits (λ (e : ℕ × RoomRow). nat_lt e.1.lock_place e.1.codes) _ plain_rows _
     (left_rooms o fits (λ (e : ℕ × RoomRow). (e.1.room == e.0) && nat_le 1 e.0
-    && nat_le e.0 9999) room_columns plain_rows _ refl))))))
+    && nat_le e.0 9999) are_room_columns plain_rows _ refl))))))
     ∙ ap (λ b. o && b) (all_alike _ (room_fits s) plain_rows (λ plain.
-    ap (λ b. room_columns plain && (b && nat_le 1 (number_of plain.room) && nat_le (number_of plain.room) 9999)
+    ap (λ b. are_room_columns plain && (b && nat_le 1 (number_of plain.room) && nat_le (number_of plain.room) 9999)
     && nat_lt (number_of plain.lock_place) (number_of plain.codes)
     && has_kind rows (string_bytes plain.kind) && nat_le (number_of plain.codes)
     (length rows.cards + length (fits_at fits (number_of plain.room))) && nat_le (number_of plain.notes) (most_notes s)
     && is_at_home rows (room_row plain) && is_secured_as_due s plain) (eq_self (number_of plain.room))
-    ∙ ap (λ n. room_columns plain && is_room_number plain && nat_lt (number_of plain.lock_place) (number_of plain.codes)
+    ∙ ap (λ n. are_room_columns plain && is_room_number plain
+    && nat_lt (number_of plain.lock_place) (number_of plain.codes)
     && has_kind rows (string_bytes plain.kind)
     && nat_le (number_of plain.codes) (n + length (fits_at fits (number_of plain.room)))
     && nat_le (number_of plain.notes) (most_notes s) && is_at_home rows (room_row plain) && is_secured_as_due s plain)
-    (length_mapped card_entry s.cards.items)))
+    (length_mapped card_entry s.card.items)))

@@ -18,7 +18,7 @@ use Rattle.hotel_rows.specs.declared.stored.Stored.{Stored}
 use Rattle.hotel_rows.specs.declared.stored.PlainStay.{PlainStay}
 use Rattle.hotel_rows.specs.Stored.{number_of, fits_of, rows_of, stay_entry, stay_row, joined_row}
 use Rattle.hotel_rows.specs.Keys.{are_numbered, room_key, stay_key}
-use Rattle.hotel_rows.specs.Damage.{stay_columns, stay_holds}
+use Rattle.hotel_rows.specs.Damage.{are_stay_columns, stay_holds}
 use Rattle.hotel_rows.specs.RowTests.{stay_fits, has_home, has_night, stay_has_home}
 use Rattle.hotel_rows.proofs.OfDamage.RowsTogether.{keys_mapped, length_mapped, all_alike, left_and, rooms_are}
 
@@ -54,46 +54,47 @@ numbers_first true false e u w is = last_false (u && w)
     last_false false = refl
 numbers_first false c e u w is = refl
 
-nights_together : (s : Stored) → nights_fit (rows_of s) ≡ list_all (has_night s) s.stays.items
+nights_together : (s : Stored) → nights_fit (rows_of s) ≡ list_all (has_night s) s.stay.items
 unfolding nights_taken
 nights_together s =
     all_mapped (λ (e : ℕ × Stay). nat_le (nights_taken (values_of (rows_of s).stays) e.1.kind e.1.arrive)
-    (rooms_of_kind (rows_of s).rooms e.1.kind)) stay_entry s.stays.items
-    ∙ all_alike _ (has_night s) s.stays.items (λ plain.
+    (rooms_of_kind (rows_of s).rooms e.1.kind)) stay_entry s.stay.items
+    ∙ all_alike _ (has_night s) s.stay.items (λ plain.
     ap (λ n. nat_le n (rooms_of_kind (rows_of s).rooms (string_bytes plain.kind)))
-    (counted (takes (string_bytes plain.kind) (number_of plain.arrive)) stay_key stay_row s.stays.items)
+    (counted (takes (string_bytes plain.kind) (number_of plain.arrive)) stay_key stay_row s.stay.items)
     ∙ ap (λ n. nat_le (count_by (λ (stay : PlainStay). takes (string_bytes plain.kind) (number_of plain.arrive)
-    (stay_row stay)) s.stays.items) n)
+    (stay_row stay)) s.stay.items) n)
     (ap (λ es. count_by (λ (row : RoomRow). bytes_eq row.kind (string_bytes plain.kind)) (values_of es))
-    (rooms_are (fits_of s) s.rooms.items)
+    (rooms_are (fits_of s) s.room.items)
     ∙ counted (λ (row : RoomRow). bytes_eq row.kind (string_bytes plain.kind)) room_key
-    (joined_row (fits_of s)) s.rooms.items))
+    (joined_row (fits_of s)) s.room.items))
 
 -- the rules of stays are tests of the keys and of each stay
-pub stays_together : (s : Stored) → stay_holds s ≡ (are_numbered (map stay_key s.stays.items)
-    && list_all (stay_fits s) s.stays.items && list_all (has_night s) s.stays.items)
+pub stays_together : (s : Stored) → stay_holds s ≡ (are_numbered (map stay_key s.stay.items)
+    && list_all (stay_fits s) s.stay.items && list_all (has_night s) s.stay.items)
 stays_together s =
-    let plain_rows = s.stays.items in
+    let plain_rows = s.stay.items in
     let rows = rows_of s in
     let ks = map stay_key plain_rows in
     let o = are_numbered ks in
     let own = list_all (λ (e : ℕ × Stay). e.1.party == e.0) rows.stays in
-    ap (λ keys. are_in_order nat_cmp keys && list_all stay_columns plain_rows
+    ap (λ keys. are_in_order nat_cmp keys && list_all are_stay_columns plain_rows
     && (own && count_up 1 keys && nat_le (length rows.stays) 9999999) && guests_read rows && stay_kinds_there rows
     && stay_days rows && stay_rooms rows && nights_fit rows)
     (keys_mapped stay_key stay_row plain_rows)
-    ∙ ap (λ n. are_in_order nat_cmp ks && list_all stay_columns plain_rows && (own && count_up 1 ks && nat_le n 9999999)
+    ∙ ap (λ n. are_in_order nat_cmp ks && list_all are_stay_columns plain_rows
+    && (own && count_up 1 ks && nat_le n 9999999)
     && guests_read rows && stay_kinds_there rows && stay_days rows && stay_rooms rows && nights_fit rows)
     (length_mapped stay_entry plain_rows ∙ sym (length_mapped stay_key plain_rows))
     ∙ ap (λ b. b && guests_read rows && stay_kinds_there rows && stay_days rows && stay_rooms rows && nights_fit rows)
-    (numbers_first (are_in_order nat_cmp ks) (list_all stay_columns plain_rows) own (count_up 1 ks)
+    (numbers_first (are_in_order nat_cmp ks) (list_all are_stay_columns plain_rows) own (count_up 1 ks)
     (nat_le (length ks) 9999999) (own_keys stay_key stay_row (λ (stay : Stay). stay.party) (λ plain. refl) plain_rows))
     ∙ ap (λ b. b && nights_fit rows)
     (left_and o stay_entry (λ (e : ℕ × Stay). has_home rows e.1) _ plain_rows _
     (left_and o stay_entry (λ (e : ℕ × Stay). is_day e.1.depart && nat_lt e.1.arrive e.1.depart
     && nat_le e.1.depart (e.1.arrive + 90)) _ plain_rows _
     (left_and o stay_entry (λ (e : ℕ × Stay). has_kind rows e.1.kind) _ plain_rows _
-    (left_and o stay_entry (λ (e : ℕ × Stay). is_guest e.1.guest) stay_columns plain_rows _ refl))))
+    (left_and o stay_entry (λ (e : ℕ × Stay). is_guest e.1.guest) are_stay_columns plain_rows _ refl))))
     ∙ ap (λ b. o && list_all (stay_fits s) plain_rows && b) (nights_together s)
 
 parts : (a b : Bool) → (a && b) ≡ true → (a ≡ true) × (b ≡ true)
@@ -101,7 +102,7 @@ parts true b h = (refl, h)
 parts false b h = absurd (let w : ◌≡◌ {A = Bool} false true = h in cc)
 
 -- where the rules of stays hold, each party in house has its room
-pub homes_of_stays : (s : Stored) → stay_holds s ≡ true → list_all (stay_has_home s) s.stays.items ≡ true
+pub homes_of_stays : (s : Stored) → stay_holds s ≡ true → list_all (stay_has_home s) s.stay.items ≡ true
 homes_of_stays s h =
     let rooms = (parts _ (stay_rooms (rows_of s)) (parts _ (nights_fit (rows_of s)) h).0).1 in
-    sym (all_mapped (λ (e : ℕ × Stay). has_home (rows_of s) e.1) stay_entry s.stays.items) ∙ rooms
+    sym (all_mapped (λ (e : ℕ × Stay). has_home (rows_of s) e.1) stay_entry s.stay.items) ∙ rooms

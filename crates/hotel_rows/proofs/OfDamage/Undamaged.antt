@@ -24,8 +24,8 @@ use Rattle.hotel_rows.specs.declared.stored.Stored.{Stored}
 use Rattle.hotel_rows.specs.declared.stored.TableName.{TableName}
 use Rattle.hotel_rows.specs.declared.stored.TableName.TheVariants as table
 use Rattle.hotel_rows.specs.Stored.{rows_of}
-use Rattle.hotel_rows.specs.Damage.{room_columns, stay_columns, note_columns, meta_holds, kind_holds, room_holds}
-use Rattle.hotel_rows.specs.Damage.{stay_holds, code_holds, card_holds, inside_holds, note_holds, fit_holds}
+use Rattle.hotel_rows.specs.Damage.{are_room_columns, are_stay_columns, are_note_columns, meta_holds, kind_holds}
+use Rattle.hotel_rows.specs.Damage.{room_holds, stay_holds, code_holds, card_holds, inside_holds, note_holds, fit_holds}
 use Rattle.hotel_rows.specs.Damage.{notes_few, first_damaged_of, columns_fit, UndamagedIsSound}
 use Rattle.hotel_rows.proofs.OfDamage.FirstVersion.{few_in_both, few_of_sound}
 use Rattle.hotel_rows.proofs.OfDamage.NotesOfFits.{of_fits, of_last_fits}
@@ -105,14 +105,14 @@ rules_passed s h =
     let room_4 = and_true _ (room_kinds_there rows) room_5.0 in
     let room_3 = and_true _ (lock_places rows) room_4.0 in
     let room_2 = and_true _ (room_numbers rows) room_3.0 in
-    let room_1 = and_true _ (list_all room_columns s.rooms.items) room_2.0 in
+    let room_1 = and_true _ (list_all are_room_columns s.room.items) room_2.0 in
     let stay_7 = and_true _ (nights_fit rows) h.stay in
     let stay_6 = and_true _ (stay_rooms rows) stay_7.0 in
     let stay_5 = and_true _ (stay_days rows) stay_6.0 in
     let stay_4 = and_true _ (stay_kinds_there rows) stay_5.0 in
     let stay_3 = and_true _ (guests_read rows) stay_4.0 in
     let stay_2 = and_true _ (stay_numbers rows) stay_3.0 in
-    let stay_1 = and_true _ (list_all stay_columns s.stays.items) stay_2.0 in
+    let stay_1 = and_true _ (list_all are_stay_columns s.stay.items) stay_2.0 in
     let code_3 = and_true _ (places_once rows) h.code in
     let code_2 = and_true _ (code_rooms_there rows) code_3.0 in
     let code_1 = and_true _ (codes_in_range rows) code_2.0 in
@@ -127,7 +127,7 @@ rules_passed s h =
     let inside_1 = and_true _ (insides_fit rows) h.inside in
     let note_3 = and_true _ (notes_fit rows) h.note in
     let note_2 = and_true _ (notes_counted rows) note_3.0 in
-    let note_1 = and_true _ (list_all note_columns s.notes.items) note_2.0 in
+    let note_1 = and_true _ (list_all are_note_columns s.note.items) note_2.0 in
     let fit_8 = and_true _ (fit_notes_few rows) h.fit in
     let fit_7 = and_true _ (last_fits_noted rows) fit_8.0 in
     let fit_6 = and_true _ (last_fits_held rows) fit_7.0 in
@@ -155,8 +155,8 @@ rules_hold : (s : Stored) → IsSound (rows_of s) → columns_fit s ≡ true →
 rules_hold s sound columns =
     let rows = rows_of s in
     let k = ordered rows sound.keys in
-    let c2 = and_true _ (list_all note_columns s.notes.items) columns in
-    let c1 = and_true _ (list_all stay_columns s.stays.items) c2.0 in
+    let c2 = and_true _ (list_all are_note_columns s.note.items) columns in
+    let c1 = and_true _ (list_all are_stay_columns s.stay.items) c2.0 in
     let nights = nights_pass rows sound.stay_nights in
     record {
       meta = more sound.meta_day sound.meta_kinds;

@@ -42,10 +42,10 @@ fn card_fits(places: &Places, stored: &Stored, card: &PlainCard) -> bool
 /// Whether each card's party has a stay, and its codes are neighbours at one room.
 pub(crate) fn cards_fit(places: &Places, stored: &Stored) -> bool
     requires { AreOf places.now stored.now }
-    ensures { result ≡ list_all (λ card. card_fits (rows_of stored.now) (card_row card)) stored.now.cards.items }
+    ensures { result ≡ list_all (λ card. card_fits (rows_of stored.now) (card_row card)) stored.now.card.items }
 {
-    for i in 0..stored.cards.len() {
-        if !card_fits(places, stored, &stored.cards[i]) {
+    for i in 0..stored.card.len() {
+        if !card_fits(places, stored, &stored.card[i]) {
             return false;
         }
     }
@@ -55,14 +55,14 @@ pub(crate) fn cards_fit(places: &Places, stored: &Stored) -> bool
 /// Whether the rules on links hold: whose they are, that each was given, and which are the newest.
 fn links_hold(alloc: Global, known: &Known, stored: &Stored) -> Result<bool, Memory>
     requires known { IsOfRows known.now stored.now }
-    requires due { list_all (placed_as_due known.now.placed.entries) stored.now.rooms.items ≡ true }
-    requires homes { list_all (stay_has_home stored.now) stored.now.stays.items ≡ true }
+    requires due { list_all (placed_as_due known.now.placed.entries) stored.now.room.items ≡ true }
+    requires homes { list_all (stay_has_home stored.now) stored.now.stay.items ≡ true }
     ensures { IfOk result (λ hold. hold ≡ links_hold stored.now) }
 {
-    let codes = brought_codes(alloc, &stored.cards)?;
+    let codes = brought_codes(alloc, &stored.card)?;
     let brought = index_of(alloc, &codes)?;
-    let lasts = lasts_of(alloc, &stored.cards)?;
-    let owners = owners_of(alloc, &stored.cards)?;
+    let lasts = lasts_of(alloc, &stored.card)?;
+    let owners = owners_of(alloc, &stored.card)?;
     if !all_agree(&owners, stored) {
         return Ok(false);
     }
@@ -78,11 +78,11 @@ fn links_hold(alloc: Global, known: &Known, stored: &Stored) -> Result<bool, Mem
 /// Whether the rules of the table of cards hold, where those of the stays and codes do.
 pub(crate) fn cards_hold(alloc: Global, known: &Known, stored: &Stored) -> Result<bool, Memory>
     requires known { IsOfRows known.now stored.now }
-    requires due { list_all (placed_as_due known.now.placed.entries) stored.now.rooms.items ≡ true }
-    requires homes { list_all (stay_has_home stored.now) stored.now.stays.items ≡ true }
+    requires due { list_all (placed_as_due known.now.placed.entries) stored.now.room.items ≡ true }
+    requires homes { list_all (stay_has_home stored.now) stored.now.stay.items ≡ true }
     ensures { IfOk result (λ hold. hold ≡ card_holds stored.now) }
 {
-    let keys = card_keys(alloc, &stored.cards)?;
+    let keys = card_keys(alloc, &stored.card)?;
     if !are_numbered(&keys) {
         return Ok(false);
     }

@@ -31,10 +31,10 @@ fn code_fits(places: &Places, stored: &Stored, code: &PlainCode) -> bool
 /// Whether each code is in range and its room is there.
 pub(crate) fn codes_fit(places: &Places, stored: &Stored) -> bool
     requires { AreOf places.now stored.now }
-    ensures { result ≡ list_all (code_fits (rows_of stored.now)) stored.now.codes.items }
+    ensures { result ≡ list_all (code_fits (rows_of stored.now)) stored.now.code.items }
 {
-    for i in 0..stored.codes.len() {
-        if !code_fits(places, stored, &stored.codes[i]) {
+    for i in 0..stored.code.len() {
+        if !code_fits(places, stored, &stored.code[i]) {
             return false;
         }
     }
@@ -94,10 +94,10 @@ pub(crate) fn stands_later(places: &Places, stored: &Stored, room: u64, from: u6
 /// Whether the rules of the table of codes hold.
 pub(crate) fn codes_hold(alloc: Global, known: &Known, stored: &Stored) -> Result<bool, Memory>
     requires places { AreOf known.now.places stored.now }
-    requires placed { PlacesOf known.now.placed.entries stored.now.codes.items }
+    requires placed { PlacesOf known.now.placed.entries stored.now.code.items }
     ensures { IfOk result (λ hold. hold ≡ code_holds stored.now) }
 {
-    let keys = code_keys(alloc, &stored.codes)?;
+    let keys = code_keys(alloc, &stored.code)?;
     if !rise(&keys) {
         return Ok(false);
     }

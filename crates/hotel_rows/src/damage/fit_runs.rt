@@ -7,7 +7,7 @@ ghost use Rattle.hotel_model.specs.Words.{said_of, pair_cmp};
 ghost use Rattle.hotel_model.specs.Rows.{PlaceKey, at_number};
 ghost use Rattle.hotel_rows.specs.Stored.{number_of, fit_row};
 ghost use Rattle.hotel_rows.specs.FitRuns.{fit_run_of, first_in, comes_next, begin_key, FitRunsOf, BeginsOf, FitsOf};
-ghost use Rattle.hotel_rows.specs.FitRuns.{fits_in, last_place_in, begins_in, is_begun, is_ended, fitted_as_due};
+ghost use Rattle.hotel_rows.specs.FitRuns.{fit_count, last_place_in, begins_in, starts_at_one, is_ended, fitted_as_due};
 
 use crate::damage::numbers::number;
 use crate::stored::{PlainFit, PlainRoom};
@@ -92,7 +92,7 @@ fn with_first(run: Option<FitRun>, fit: &PlainFit) -> FitRun
 }
 
 fn add_fit(runs: &mut BTreeMap<u64, FitRun>, fit: &PlainFit) -> Result<(), Memory>
-    requires { fits_in runs.old.entries (number_of fit.now.room) < 2 ^ 63 }
+    requires { fit_count runs.old.entries (number_of fit.now.room) < 2 ^ 63 }
     ensures { OnOk result ((r : ℕ) (fs : List FitRow)
         → at_number runs.old.entries (number_of fit.now.room) ≡ fit_run_of fs
         → at_number runs.new.entries r
@@ -152,7 +152,7 @@ pub(crate) fn room_fits(alloc: Global, fits: &[PlainFit]) -> Result<RoomFits, Me
 
 /// How many fits a room has.
 pub(crate) fn fits_of_room(fits: &RoomFits, room: u64) -> u64
-    ensures { result ≡ fits_in fits.now.runs.entries room }
+    ensures { result ≡ fit_count fits.now.runs.entries room }
 {
     match run_at(&fits.runs, room) {
         Some(run) => run.fits,
@@ -186,7 +186,7 @@ pub(crate) fn ends_with_fit(fits: &RoomFits, room: u64, codes: u64) -> bool
 
 /// Whether the fits of a room are 1 to n, as many as a room can have, the first at place 0 with no note before it.
 fn is_begun(run: &FitRun) -> bool
-    ensures { result ≡ is_begun run.now }
+    ensures { result ≡ starts_at_one run.now }
 {
     if !run.in_order || run.fit != 1 {
         return false;

@@ -56,10 +56,10 @@ fn fits_have_rooms(places: &Places, stored: &Stored, fits: &[PlainFit]) -> bool
 
 /// Whether the fits of each room are as they must be.
 pub(crate) fn rooms_are_fitted(fits: &RoomFits, stored: &Stored) -> bool
-    ensures { result ≡ list_all (fitted_as_due fits.now.runs.entries) stored.now.rooms.items }
+    ensures { result ≡ list_all (fitted_as_due fits.now.runs.entries) stored.now.room.items }
 {
-    for i in 0..stored.rooms.len() {
-        if !is_fitted(fits, &stored.rooms[i]) {
+    for i in 0..stored.room.len() {
+        if !is_fitted(fits, &stored.room[i]) {
             return false;
         }
     }

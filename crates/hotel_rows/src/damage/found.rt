@@ -5,7 +5,7 @@ ghost use Rattle.std.specs.Option.{option_copied};
 ghost use Rattle.hotel_model.specs.Rows.{at_number};
 ghost use Rattle.hotel_rows.specs.Stored.{number_of, fits_of, rows_of, joined_row};
 ghost use Rattle.hotel_rows.specs.Stored.{stay_row, code_row, card_row, inside_pair};
-ghost use Rattle.hotel_rows.specs.Keys.{Finds, room_key, stay_key, code_key, card_key, note_key, fit_key};
+ghost use Rattle.hotel_rows.specs.Keys.{IndexesFirst, room_key, stay_key, code_key, card_key, note_key, fit_key};
 ghost use Rattle.hotel_rows.specs.Places.{AreOf};
 ghost use Rattle.hotel_rows.specs.declared.stored.PlainRoom.{PlainRoom};
 
@@ -28,7 +28,7 @@ pub(crate) type FitKey = (u64, u64);
 
 /// Where each key stands first.
 pub(crate) fn index_of(alloc: Global, keys: &[u64]) -> Result<BTreeMap<u64, usize>, Memory>
-    ensures { IfOk result (λ places. Finds places.entries keys.now) }
+    ensures { IfOk result (λ places. IndexesFirst places.entries keys.now) }
 {
     let mut places = BTreeMap::new(alloc);
     for i in 0..keys.len() {
@@ -153,13 +153,13 @@ pub(crate) struct Places {
 pub(crate) fn places_of(alloc: Global, stored: &Stored) -> Result<Places, Memory>
     ensures { IfOk result (λ places. AreOf places stored.now) }
 {
-    let room_keys = room_keys(alloc, &stored.rooms)?;
+    let room_keys = room_keys(alloc, &stored.room)?;
     let rooms = index_of(alloc, &room_keys)?;
-    let stay_keys = stay_keys(alloc, &stored.stays)?;
+    let stay_keys = stay_keys(alloc, &stored.stay)?;
     let stays = index_of(alloc, &stay_keys)?;
-    let code_keys = code_keys(alloc, &stored.codes)?;
+    let code_keys = code_keys(alloc, &stored.code)?;
     let codes = index_of(alloc, &code_keys)?;
-    let card_keys = card_keys(alloc, &stored.cards)?;
+    let card_keys = card_keys(alloc, &stored.card)?;
     let cards = index_of(alloc, &card_keys)?;
     Ok(Places {
         rooms,
@@ -181,16 +181,16 @@ pub(crate) fn room_at<'a>(places: &Places, stored: &'a Stored, room: u64) -> Opt
     ensures row { option_map (joined_row (fits_of stored.now)) (option_copied result)
         ≡ at_number (rows_of stored.now).rooms room }
     ensures key { IfSome result (λ plain. number_of plain.now.room ≡ room) }
-    ensures rules { IfSome result (λ plain. (t : PlainRoom → Bool) → list_all t stored.now.rooms.items ≡ true
+    ensures rules { IfSome result (λ plain. (t : PlainRoom → Bool) → list_all t stored.now.room.items ≡ true
         → t plain.now ≡ true) }
 {
     let Some(place) = place_at(&places.rooms, room) else {
         return None;
     };
-    if place >= stored.rooms.len() {
+    if place >= stored.room.len() {
         return None;
     }
-    Some(&stored.rooms[place])
+    Some(&stored.room[place])
 }
 
 /// The stay of a party.
@@ -201,10 +201,10 @@ pub(crate) fn stay_at<'a>(places: &Places, stored: &'a Stored, party: u64) -> Op
     let Some(place) = place_at(&places.stays, party) else {
         return None;
     };
-    if place >= stored.stays.len() {
+    if place >= stored.stay.len() {
         return None;
     }
-    Some(&stored.stays[place])
+    Some(&stored.stay[place])
 }
 
 /// The row of a code.
@@ -215,10 +215,10 @@ pub(crate) fn code_at(places: &Places, stored: &Stored, code: u64) -> Option<Pla
     let Some(place) = place_at(&places.codes, code) else {
         return None;
     };
-    if place >= stored.codes.len() {
+    if place >= stored.code.len() {
         return None;
     }
-    Some(stored.codes[place])
+    Some(stored.code[place])
 }
 
 /// The card of a number.
@@ -229,8 +229,8 @@ pub(crate) fn card_at(places: &Places, stored: &Stored, number: u64) -> Option<P
     let Some(place) = place_at(&places.cards, number) else {
         return None;
     };
-    if place >= stored.cards.len() {
+    if place >= stored.card.len() {
         return None;
     }
-    Some(stored.cards[place])
+    Some(stored.card[place])
 }

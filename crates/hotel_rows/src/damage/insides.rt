@@ -57,7 +57,7 @@ fn fits_inside(known: &Known, stored: &Stored, room: &PlainRoom, card: PlainCard
 
 fn inside_fits(known: &Known, stored: &Stored, inside: &PlainInside) -> bool
     requires known { IsOfRows known.now stored.now }
-    requires due { list_all (placed_as_due known.now.placed.entries) stored.now.rooms.items ≡ true }
+    requires due { list_all (placed_as_due known.now.placed.entries) stored.now.room.items ≡ true }
     ensures { result ≡ inside_fits (rows_of stored.now) (inside_pair inside.now) }
 {
     let named = number(inside.room);
@@ -72,7 +72,7 @@ fn inside_fits(known: &Known, stored: &Stored, inside: &PlainInside) -> bool
 
 fn insides_fit(known: &Known, stored: &Stored) -> bool
     requires known { IsOfRows known.now stored.now }
-    requires due { list_all (placed_as_due known.now.placed.entries) stored.now.rooms.items ≡ true }
+    requires due { list_all (placed_as_due known.now.placed.entries) stored.now.room.items ≡ true }
     ensures { result ≡ list_all (λ e. inside_fits (rows_of stored.now) (inside_pair e)) stored.now.inside.items }
 {
     for i in 0..stored.inside.len() {
@@ -86,7 +86,7 @@ fn insides_fit(known: &Known, stored: &Stored) -> bool
 /// Whether the rules of the table of cards that are inside hold, where those of the codes do.
 pub(crate) fn insides_hold(alloc: Global, known: &Known, stored: &Stored) -> Result<bool, Memory>
     requires known { IsOfRows known.now stored.now }
-    requires due { list_all (placed_as_due known.now.placed.entries) stored.now.rooms.items ≡ true }
+    requires due { list_all (placed_as_due known.now.placed.entries) stored.now.room.items ≡ true }
     ensures { IfOk result (λ hold. hold ≡ inside_holds stored.now) }
 {
     let keys = inside_keys(alloc, &stored.inside)?;

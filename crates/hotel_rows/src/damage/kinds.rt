@@ -25,7 +25,7 @@ pub(crate) fn meta_holds(stored: &Stored) -> bool
     ensures { result ≡ meta_holds stored.now }
 {
     let Some(day) = number_if(stored.day) else {
-        return stored.kinds.is_empty();
+        return stored.kind.is_empty();
     };
     day <= u64::from(LAST_DAY)
 }
@@ -82,8 +82,8 @@ pub(crate) fn kinds_hold(alloc: Global, stored: &Stored) -> Result<Option<Kinds>
     ensures { IfOk result (λ read. MatchOption read (kind_holds stored.now ≡ false)
         (λ known. (kind_holds stored.now ≡ true) × KindsOf known.entries stored.now)) }
 {
-    if !kinds_rise(&stored.kinds) {
+    if !kinds_rise(&stored.kind) {
         return Ok(None);
     }
-    read_kinds(alloc, &stored.kinds)
+    read_kinds(alloc, &stored.kind)
 }

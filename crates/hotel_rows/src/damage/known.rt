@@ -32,7 +32,7 @@ pub(crate) fn known_of(
     requires fits { FitsOf fits (plain_fits stored.now) }
     ensures { IfOk result (λ known. IsOfRows known stored.now) }
 {
-    let placed = place_codes(alloc, &stored.codes)?;
+    let placed = place_codes(alloc, &stored.code)?;
     Ok(Known {
         places,
         fits,

@@ -7,7 +7,7 @@ ghost use Rattle.hotel_rows.specs.Stored.{number_of, plain_fits, rows_of};
 ghost use Rattle.hotel_rows.specs.Lasts.{link_of_pair, link_pair, LastsOf};
 ghost use Rattle.hotel_rows.specs.Owners.{OwnersOf, owner_in};
 ghost use Rattle.hotel_model.specs.Words.{said_of};
-ghost use Rattle.hotel_rows.specs.Keys.{Finds, new_code_of};
+ghost use Rattle.hotel_rows.specs.Keys.{IndexesFirst, new_code_of};
 ghost use Rattle.hotel_rows.specs.FitRuns.{BeginsOf};
 ghost use Rattle.hotel_rows.specs.Known.{IsOfRows};
 ghost use Rattle.hotel_rows.specs.Placed.{PlacesOf, are_due_at, placed_as_due};
@@ -47,8 +47,8 @@ fn is_first(code: &PlainCode) -> bool
 }
 
 fn has_brought(brought: &BTreeMap<u64, usize>, stored: &Stored, code: u64) -> bool
-    requires { Finds brought.now.entries (map new_code_of stored.now.cards.items) }
-    ensures { result ≡ list_any (λ card. number_of card.new_code == code) stored.now.cards.items }
+    requires { IndexesFirst brought.now.entries (map new_code_of stored.now.card.items) }
+    ensures { result ≡ list_any (λ card. number_of card.new_code == code) stored.now.card.items }
 {
     brought.contains_key(&code)
 }
@@ -66,7 +66,7 @@ fn is_brought(
     stored: &Stored,
     code: &PlainCode,
 ) -> bool
-    requires brought { Finds brought.now.entries (map new_code_of stored.now.cards.items) }
+    requires brought { IndexesFirst brought.now.entries (map new_code_of stored.now.card.items) }
     requires begins { BeginsOf fits.now.begins.entries (plain_fits stored.now) }
     ensures { result ≡ is_brought stored.now code.now }
 {
@@ -79,12 +79,12 @@ fn is_brought(
 
 /// Whether a card brought each code but the first of its room, and those that fits begin with, which none did.
 pub(crate) fn all_brought(brought: &BTreeMap<u64, usize>, fits: &RoomFits, stored: &Stored) -> bool
-    requires brought { Finds brought.now.entries (map new_code_of stored.now.cards.items) }
+    requires brought { IndexesFirst brought.now.entries (map new_code_of stored.now.card.items) }
     requires begins { BeginsOf fits.now.begins.entries (plain_fits stored.now) }
-    ensures { result ≡ list_all (is_brought stored.now) stored.now.codes.items }
+    ensures { result ≡ list_all (is_brought stored.now) stored.now.code.items }
 {
-    for i in 0..stored.codes.len() {
-        if !is_brought(brought, fits, stored, &stored.codes[i]) {
+    for i in 0..stored.code.len() {
+        if !is_brought(brought, fits, stored, &stored.code[i]) {
             return false;
         }
     }
@@ -93,8 +93,8 @@ pub(crate) fn all_brought(brought: &BTreeMap<u64, usize>, fits: &RoomFits, store
 
 /// Whether a link's cards are of a party, where it has any.
 fn is_link_of(owners: &BTreeMap<LinkKey, u64>, stored: &Stored, link: LinkKey, party: u64) -> bool
-    requires { OwnersOf owners.now.entries stored.now.cards.items }
-    ensures { result ≡ said_of (owner_in stored.now.cards.items (link_of_pair link)) true (λ owner. owner == party) }
+    requires { OwnersOf owners.now.entries stored.now.card.items }
+    ensures { result ≡ said_of (owner_in stored.now.card.items (link_of_pair link)) true (λ owner. owner == party) }
 {
     let Some(owner) = owner_of(owners, link.0, link.1) else {
         return true;
@@ -111,12 +111,12 @@ fn all_owned(
     codes: u64,
     party: u64,
 ) -> bool
-    requires owners { OwnersOf owners.now.entries stored.now.cards.items }
-    requires own { list_all (agrees stored.now) stored.now.cards.items ≡ true }
+    requires owners { OwnersOf owners.now.entries stored.now.card.items }
+    requires own { list_all (agrees stored.now) stored.now.card.items ≡ true }
     requires begins { BeginsOf known.now.fits.begins.entries (plain_fits stored.now) }
-    requires placed { PlacesOf known.now.placed.entries stored.now.codes.items }
+    requires placed { PlacesOf known.now.placed.entries stored.now.code.items }
     requires due { are_due_at known.now.placed.entries room codes ≡ true }
-    ensures { result ≡ list_all (is_owned stored.now room party) stored.now.cards.items }
+    ensures { result ≡ list_all (is_owned stored.now room party) stored.now.card.items }
 {
     if ends_with_fit(&known.fits, room, codes) {
         return true;
@@ -133,10 +133,10 @@ fn has_owner(
     stored: &Stored,
     room: &PlainRoom,
 ) -> bool
-    requires owners { OwnersOf owners.now.entries stored.now.cards.items }
-    requires own { list_all (agrees stored.now) stored.now.cards.items ≡ true }
+    requires owners { OwnersOf owners.now.entries stored.now.card.items }
+    requires own { list_all (agrees stored.now) stored.now.card.items ≡ true }
     requires begins { BeginsOf known.now.fits.begins.entries (plain_fits stored.now) }
-    requires placed { PlacesOf known.now.placed.entries stored.now.codes.items }
+    requires placed { PlacesOf known.now.placed.entries stored.now.code.items }
     requires due { placed_as_due known.now.placed.entries room.now ≡ true }
     ensures { result ≡ has_owner stored.now room.now }
 {
@@ -154,15 +154,15 @@ pub(crate) fn all_have_owners(
     known: &Known,
     stored: &Stored,
 ) -> bool
-    requires owners { OwnersOf owners.now.entries stored.now.cards.items }
-    requires own { list_all (agrees stored.now) stored.now.cards.items ≡ true }
+    requires owners { OwnersOf owners.now.entries stored.now.card.items }
+    requires own { list_all (agrees stored.now) stored.now.card.items ≡ true }
     requires begins { BeginsOf known.now.fits.begins.entries (plain_fits stored.now) }
-    requires placed { PlacesOf known.now.placed.entries stored.now.codes.items }
-    requires due { list_all (placed_as_due known.now.placed.entries) stored.now.rooms.items ≡ true }
-    ensures { result ≡ list_all (has_owner stored.now) stored.now.rooms.items }
+    requires placed { PlacesOf known.now.placed.entries stored.now.code.items }
+    requires due { list_all (placed_as_due known.now.placed.entries) stored.now.room.items ≡ true }
+    ensures { result ≡ list_all (has_owner stored.now) stored.now.room.items }
 {
-    for i in 0..stored.rooms.len() {
-        if !has_owner(owners, known, stored, &stored.rooms[i]) {
+    for i in 0..stored.room.len() {
+        if !has_owner(owners, known, stored, &stored.room[i]) {
             return false;
         }
     }
@@ -207,7 +207,7 @@ fn last_of(lasts: &BTreeMap<u64, LinkKey>, party: u64) -> Option<LinkKey>
 /// Whether a link is the newest of a room that is there.
 fn is_newest_at(known: &Known, stored: &Stored, home: u64, link: LinkKey) -> bool
     requires known { IsOfRows known.now stored.now }
-    requires due { list_all (placed_as_due known.now.placed.entries) stored.now.rooms.items ≡ true }
+    requires due { list_all (placed_as_due known.now.placed.entries) stored.now.room.items ≡ true }
     requires there { is_some (at_number (rows_of stored.now).rooms home) ≡ true }
     ensures { result ≡ is_newest (rows_of stored.now) home (record { old_code = link.0; new_code = link.1 }) }
 {
@@ -226,8 +226,8 @@ fn has_newest(
     home: u64,
 ) -> bool
     requires known { IsOfRows known.now stored.now }
-    requires due { list_all (placed_as_due known.now.placed.entries) stored.now.rooms.items ≡ true }
-    requires lasts { LastsOf lasts.now.entries stored.now.cards.items }
+    requires due { list_all (placed_as_due known.now.placed.entries) stored.now.room.items ≡ true }
+    requires lasts { LastsOf lasts.now.entries stored.now.card.items }
     requires there { is_some (at_number (rows_of stored.now).rooms home) ≡ true }
     ensures { result ≡ has_newest (rows_of stored.now) party home }
 {
@@ -244,8 +244,8 @@ fn has_last(
     stay: &PlainStay,
 ) -> bool
     requires known { IsOfRows known.now stored.now }
-    requires due { list_all (placed_as_due known.now.placed.entries) stored.now.rooms.items ≡ true }
-    requires lasts { LastsOf lasts.now.entries stored.now.cards.items }
+    requires due { list_all (placed_as_due known.now.placed.entries) stored.now.room.items ≡ true }
+    requires lasts { LastsOf lasts.now.entries stored.now.card.items }
     requires home { stay_has_home stored.now stay.now ≡ true }
     ensures { result ≡ has_last stored.now stay.now }
 {
@@ -258,13 +258,13 @@ fn has_last(
 /// Whether the last card of each party in house has the newest link of its room.
 pub(crate) fn all_have_lasts(known: &Known, stored: &Stored, lasts: &BTreeMap<u64, LinkKey>) -> bool
     requires known { IsOfRows known.now stored.now }
-    requires due { list_all (placed_as_due known.now.placed.entries) stored.now.rooms.items ≡ true }
-    requires lasts { LastsOf lasts.now.entries stored.now.cards.items }
-    requires homes { list_all (stay_has_home stored.now) stored.now.stays.items ≡ true }
-    ensures { result ≡ list_all (has_last stored.now) stored.now.stays.items }
+    requires due { list_all (placed_as_due known.now.placed.entries) stored.now.room.items ≡ true }
+    requires lasts { LastsOf lasts.now.entries stored.now.card.items }
+    requires homes { list_all (stay_has_home stored.now) stored.now.stay.items ≡ true }
+    ensures { result ≡ list_all (has_last stored.now) stored.now.stay.items }
 {
-    for i in 0..stored.stays.len() {
-        if !has_last(known, stored, lasts, &stored.stays[i]) {
+    for i in 0..stored.stay.len() {
+        if !has_last(known, stored, lasts, &stored.stay[i]) {
             return false;
         }
     }

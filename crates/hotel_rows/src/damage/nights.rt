@@ -65,8 +65,8 @@ fn has_night_among(_counts: Option<&Counts>, stored: &Stored, stay: &PlainStay) 
     ensures { result ≡ has_night stored.now stay.now }
 {
     let kind = stay.kind.as_str();
-    let taken = stays_on(&stored.stays, kind, number(stay.arrive));
-    taken <= rooms_with(&stored.rooms, kind)
+    let taken = stays_on(&stored.stay, kind, number(stay.arrive));
+    taken <= rooms_with(&stored.room, kind)
 }
 
 /// The same by the counts; none where they don't tell it.
@@ -114,10 +114,10 @@ fn has_night_of(counts: Option<&Counts>, stored: &Stored, stay: &PlainStay) -> b
 fn nights_fit_by(counts: Option<&Counts>, stored: &Stored) -> bool
     requires counted { IfSome counts (λ counts. IsCountedOf stored.now counts.now) }
     requires damaged { counts ≡ None → ¬ (first_damaged_of stored.now ≡ None) }
-    ensures { result ≡ list_all (has_night stored.now) stored.now.stays.items }
+    ensures { result ≡ list_all (has_night stored.now) stored.now.stay.items }
 {
-    for i in 0..stored.stays.len() {
-        if !has_night_of(counts, stored, &stored.stays[i]) {
+    for i in 0..stored.stay.len() {
+        if !has_night_of(counts, stored, &stored.stay[i]) {
             return false;
         }
     }
@@ -128,7 +128,7 @@ fn nights_fit_by(counts: Option<&Counts>, stored: &Stored) -> bool
 ///
 /// Rows that can't be counted, which the tests before this one have refused, are looked up one by one.
 pub(crate) fn nights_fit(alloc: Global, stored: &Stored) -> Result<bool, Memory>
-    ensures { IfOk result (λ fit. fit ≡ list_all (has_night stored.now) stored.now.stays.items) }
+    ensures { IfOk result (λ fit. fit ≡ list_all (has_night stored.now) stored.now.stay.items) }
 {
     match counts_of(alloc, stored) {
         Ok(counts) => Ok(nights_fit_by(Some(&counts), stored)),

@@ -82,10 +82,10 @@ fn has_counts(runs: &BTreeMap<u64, NoteRun>, room: &PlainRoom) -> bool
 
 /// Whether the counts of each room's notes are 1 and on, as many as its row says.
 pub(crate) fn rooms_have_counts(runs: &BTreeMap<u64, NoteRun>, stored: &Stored) -> bool
-    ensures { result ≡ list_all (counted_as_due runs.now.entries) stored.now.rooms.items }
+    ensures { result ≡ list_all (counted_as_due runs.now.entries) stored.now.room.items }
 {
-    for i in 0..stored.rooms.len() {
-        if !has_counts(runs, &stored.rooms[i]) {
+    for i in 0..stored.room.len() {
+        if !has_counts(runs, &stored.room[i]) {
             return false;
         }
     }

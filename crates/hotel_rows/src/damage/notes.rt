@@ -4,7 +4,7 @@ ghost use Rattle.std.specs.List.{list_all};
 ghost use Rattle.keycard_rules.specs.declared.note.TheConstants.{LAST_SECOND};
 ghost use Rattle.hotel_model.specs.SoundNotes.{act_fits, has_link_at};
 ghost use Rattle.hotel_model.specs.SoundRooms.{is_day};
-ghost use Rattle.hotel_rows.specs.Damage.{note_columns, note_holds};
+ghost use Rattle.hotel_rows.specs.Damage.{are_note_columns, note_holds};
 ghost use Rattle.hotel_rows.specs.Stored.{rows_of, number_of, note_row};
 ghost use Rattle.hotel_rows.specs.Places.{AreOf};
 ghost use Rattle.hotel_rows.specs.RowTests.{plain_note_fits};
@@ -33,7 +33,7 @@ fn has_link_at(places: &Places, stored: &Stored, room: u64, named: u64, old: u64
 
 /// Whether the note has a card exactly where one entered or left.
 fn has_columns(note: &PlainNote) -> bool
-    ensures { result ≡ note_columns note.now }
+    ensures { result ≡ are_note_columns note.now }
 {
     let act = number(note.act);
     if act > 2 {
@@ -86,10 +86,10 @@ fn note_fits(places: &Places, stored: &Stored, note: &PlainNote) -> bool
 /// Whether each note fits.
 pub(crate) fn notes_fit(places: &Places, stored: &Stored) -> bool
     requires { AreOf places.now stored.now }
-    ensures { result ≡ list_all (plain_note_fits (rows_of stored.now)) stored.now.notes.items }
+    ensures { result ≡ list_all (plain_note_fits (rows_of stored.now)) stored.now.note.items }
 {
-    for i in 0..stored.notes.len() {
-        if !note_fits(places, stored, &stored.notes[i]) {
+    for i in 0..stored.note.len() {
+        if !note_fits(places, stored, &stored.note[i]) {
             return false;
         }
     }
@@ -101,11 +101,11 @@ pub(crate) fn notes_hold(alloc: Global, places: &Places, stored: &Stored) -> Res
     requires { AreOf places.now stored.now }
     ensures { IfOk result (λ hold. hold ≡ note_holds stored.now) }
 {
-    let keys = note_keys(alloc, &stored.notes)?;
+    let keys = note_keys(alloc, &stored.note)?;
     if !rise_in_pairs(&keys) {
         return Ok(false);
     }
-    let runs = runs_of(alloc, &stored.notes)?;
+    let runs = runs_of(alloc, &stored.note)?;
     if !notes_fit(places, stored) {
         return Ok(false);
     }

@@ -55,8 +55,8 @@ pub(crate) fn owner_of(owners: &BTreeMap<LinkKey, u64>, old: u64, new: u64) -> O
 }
 
 fn is_own(owners: &BTreeMap<LinkKey, u64>, stored: &Stored, card: &PlainCard) -> bool
-    requires { OwnersOf owners.now.entries stored.now.cards.items }
-    ensures { result ≡ is_own stored.now.cards.items card.now }
+    requires { OwnersOf owners.now.entries stored.now.card.items }
+    ensures { result ≡ is_own stored.now.card.items card.now }
 {
     let old = number(card.old_code);
     let new = number(card.new_code);
@@ -67,11 +67,11 @@ fn is_own(owners: &BTreeMap<LinkKey, u64>, stored: &Stored, card: &PlainCard) ->
 }
 
 fn all_own(owners: &BTreeMap<LinkKey, u64>, stored: &Stored) -> bool
-    requires { OwnersOf owners.now.entries stored.now.cards.items }
-    ensures { result ≡ list_all (is_own stored.now.cards.items) stored.now.cards.items }
+    requires { OwnersOf owners.now.entries stored.now.card.items }
+    ensures { result ≡ list_all (is_own stored.now.card.items) stored.now.card.items }
 {
-    for i in 0..stored.cards.len() {
-        if !is_own(owners, stored, &stored.cards[i]) {
+    for i in 0..stored.card.len() {
+        if !is_own(owners, stored, &stored.card[i]) {
             return false;
         }
     }
@@ -80,8 +80,8 @@ fn all_own(owners: &BTreeMap<LinkKey, u64>, stored: &Stored) -> bool
 
 /// Whether the cards of one link have one party.
 pub(crate) fn all_agree(owners: &BTreeMap<LinkKey, u64>, stored: &Stored) -> bool
-    requires { OwnersOf owners.now.entries stored.now.cards.items }
-    ensures { result ≡ list_all (agrees stored.now) stored.now.cards.items }
+    requires { OwnersOf owners.now.entries stored.now.card.items }
+    ensures { result ≡ list_all (agrees stored.now) stored.now.card.items }
 {
     all_own(owners, stored)
 }

@@ -134,10 +134,10 @@ fn has_places(placed: &BTreeMap<u64, Placed>, room: &PlainRoom) -> bool
 
 /// Whether that is so at each room.
 pub(crate) fn rooms_have_places(placed: &BTreeMap<u64, Placed>, stored: &Stored) -> bool
-    ensures { result ≡ list_all (placed_as_due placed.now.entries) stored.now.rooms.items }
+    ensures { result ≡ list_all (placed_as_due placed.now.entries) stored.now.room.items }
 {
-    for i in 0..stored.rooms.len() {
-        if !has_places(placed, &stored.rooms[i]) {
+    for i in 0..stored.room.len() {
+        if !has_places(placed, &stored.room[i]) {
             return false;
         }
     }
@@ -186,7 +186,7 @@ pub(crate) fn is_newest(
     old: u64,
     new: u64,
 ) -> bool
-    requires placed { PlacesOf placed.now.entries stored.now.codes.items }
+    requires placed { PlacesOf placed.now.entries stored.now.code.items }
     requires begins { BeginsOf fits.now.begins.entries (plain_fits stored.now) }
     requires due { placed_as_due placed.now.entries room.now ≡ true }
     ensures { result ≡ is_newest (rows_of stored.now) (number_of room.now.room)

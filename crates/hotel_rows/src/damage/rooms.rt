@@ -3,7 +3,7 @@ ghost use Rattle.std.specs.Prelude.{◌≡◌, IfOk};
 ghost use Rattle.std.specs.List.{list_all};
 ghost use Rattle.hotel_model.specs.Stays.{room_of_state};
 ghost use Rattle.hotel_rows.specs.Stored.{plain_fits, rows_of, room_row, stay_row};
-ghost use Rattle.hotel_rows.specs.Damage.{most_notes, room_columns, room_holds};
+ghost use Rattle.hotel_rows.specs.Damage.{most_notes, are_room_columns, room_holds};
 ghost use Rattle.hotel_rows.specs.Known.{KindsOf};
 ghost use Rattle.hotel_rows.specs.Places.{AreOf};
 ghost use Rattle.hotel_rows.specs.FitRuns.{FitRunsOf, BeginsOf, FitsOf};
@@ -22,14 +22,14 @@ use std::alloc::Global;
 fn most_notes(stored: &Stored) -> u64
     ensures { result ≡ most_notes stored.now }
 {
-    if stored.fits.is_none() {
+    if stored.fit.is_none() {
         return u64::from(LAST_NUMBER);
     }
     u64::from(LAST_FIT) * u64::from(LAST_NUMBER)
 }
 
 fn has_columns(room: &PlainRoom) -> bool
-    ensures { result ≡ room_columns room.now }
+    ensures { result ≡ are_room_columns room.now }
 {
     number(room.secured) <= 1
 }
@@ -47,7 +47,7 @@ fn has_few_codes(stored: &Stored, fits: &RoomFits, room: &PlainRoom) -> bool
     ensures { result ≡ has_few_codes stored.now room.now }
 {
     let codes = number(room.codes);
-    let cards = stored.cards.len() as u64;
+    let cards = stored.card.len() as u64;
     codes <= cards || codes - cards <= fits_of_room(fits, number(room.room))
 }
 
@@ -131,10 +131,10 @@ fn rooms_fit(kinds: &Kinds, places: &Places, fits: &RoomFits, stored: &Stored) -
     requires kinds { KindsOf kinds.now.entries stored.now }
     requires places { AreOf places.now stored.now }
     requires fits { FitsOf fits.now (plain_fits stored.now) }
-    ensures { result ≡ list_all (room_fits stored.now) stored.now.rooms.items }
+    ensures { result ≡ list_all (room_fits stored.now) stored.now.room.items }
 {
-    for i in 0..stored.rooms.len() {
-        if !room_fits(kinds, places, fits, stored, &stored.rooms[i]) {
+    for i in 0..stored.room.len() {
+        if !room_fits(kinds, places, fits, stored, &stored.room[i]) {
             return false;
         }
     }
@@ -154,7 +154,7 @@ pub(crate) fn rooms_hold(
     requires fits { FitsOf fits.now (plain_fits stored.now) }
     ensures { IfOk result (λ hold. hold ≡ room_holds stored.now) }
 {
-    let keys = room_keys(alloc, &stored.rooms)?;
+    let keys = room_keys(alloc, &stored.room)?;
     if !rise(&keys) {
         return Ok(false);
     }

@@ -3,7 +3,7 @@ ghost use Rattle.std.specs.Prelude.{◌≡◌, IfOk};
 ghost use Rattle.std.specs.List.{list_all};
 ghost use Rattle.hotel_nights.specs.Guests.{is_guest};
 ghost use Rattle.hotel_rows.specs.Stored.{rows_of, stay_row};
-ghost use Rattle.hotel_rows.specs.Damage.{stay_columns, stay_holds};
+ghost use Rattle.hotel_rows.specs.Damage.{are_stay_columns, stay_holds};
 ghost use Rattle.hotel_rows.specs.Known.{KindsOf};
 ghost use Rattle.hotel_rows.specs.Places.{AreOf};
 ghost use Rattle.hotel_rows.specs.RowTests.{are_stay_days, has_home, stay_fits};
@@ -20,7 +20,7 @@ use std::alloc::Global;
 
 /// Whether the stay has a room exactly where it is in house.
 fn has_columns(stay: &PlainStay) -> bool
-    ensures { result ≡ stay_columns stay.now }
+    ensures { result ≡ are_stay_columns stay.now }
 {
     let state = number(stay.state);
     if state > 3 {
@@ -103,10 +103,10 @@ pub(crate) fn stays_fit(
 ) -> Result<bool, Memory>
     requires kinds { KindsOf kinds.now.entries stored.now }
     requires places { AreOf places.now stored.now }
-    ensures { IfOk result (λ fit. fit ≡ list_all (stay_fits stored.now) stored.now.stays.items) }
+    ensures { IfOk result (λ fit. fit ≡ list_all (stay_fits stored.now) stored.now.stay.items) }
 {
-    for i in 0..stored.stays.len() {
-        if !stay_fits(alloc, kinds, places, stored, &stored.stays[i])? {
+    for i in 0..stored.stay.len() {
+        if !stay_fits(alloc, kinds, places, stored, &stored.stay[i])? {
             return Ok(false);
         }
     }
@@ -124,7 +124,7 @@ pub(crate) fn stays_hold(
     requires places { AreOf places.now stored.now }
     ensures { IfOk result (λ hold. hold ≡ stay_holds stored.now) }
 {
-    let keys = stay_keys(alloc, &stored.stays)?;
+    let keys = stay_keys(alloc, &stored.stay)?;
     if !are_numbered(&keys) {
         return Ok(false);
     }

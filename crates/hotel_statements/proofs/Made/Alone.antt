@@ -19,7 +19,7 @@ use Rattle.sqlite_keyed.proofs.SortLemmas.{IsPermutation-sort_by}
 use Rattle.sqlite_keyed.proofs.ListLemmas.{none_from_any, all_both, all_map}
 use Rattle.hotel_model.specs.Words.{pair_cmp}
 use Rattle.hotel_statements.specs.Trees.{inside_tree, fit_tree}
-use Rattle.hotel_statements.specs.Tables.{HasId, listed}
+use Rattle.hotel_statements.specs.Tables.{HasId, in_key_order}
 use Rattle.hotel_statements.specs.Schema.{desk_schema, inside_table, fit_table, at_tree}
 use Rattle.hotel_statements.specs.Values.{int}
 use Rattle.hotel_statements.proofs.Keys.{truly}
@@ -101,7 +101,7 @@ module _ (a b : ℕ) (id : ℤ) (more : Row) (rows after : List Row) where
       (key : X → ℕ × ℕ) → ((r : Row) → Good r → test a b r ≡ is_eq (pair_cmp (a, b) (key (read r))))
       → AllByRecursion Good rows → AllByRecursion HasId rows → clashes plain (1 ∷ 2 ∷ []) after row ≡ false
       → is_taken rows row ≡ false → after ≡ put_row row rows
-      → AllByRecursion (λ e. is_eq (pair_cmp (a, b) (key e)) ≡ false) (listed cmp read rows)
+      → AllByRecursion (λ e. is_eq (pair_cmp (a, b) (key e)) ≡ false) (in_key_order cmp read rows)
   alone cmp total Good read key tested good ids free fresh is =
       let out = all_both Good (λ r. test a b r ≡ false) (λ r. is_eq (pair_cmp (a, b) (key (read r))) ≡ false)
       (λ r g no. sym (tested r g) ∙ no) rows good (lonely free fresh is ids) in

@@ -20,7 +20,7 @@ use Rattle.hotel_model.specs.declared.rows.RoomRow.{RoomRow}
 use Rattle.hotel_model.specs.declared.rows.CodeRow.{CodeRow}
 use Rattle.hotel_model.specs.Words.{pair_cmp, said_of}
 use Rattle.hotel_model.specs.Rows.{Rows, at_number}
-use Rattle.hotel_rows.specs.Joined.{with_fit, under_fit, joined, FitEntries}
+use Rattle.hotel_rows.specs.Joined.{with_fit, under_fit, joined_with, FitEntries}
 use Rattle.hotel_statements.specs.declared.version.Version.{Version}
 use Rattle.hotel_statements.specs.declared.version.Version.TheVariants.{First}
 use Rattle.hotel_statements.specs.Trees.{meta_tree, kind_tree, room_tree, stay_tree, code_tree, card_tree, inside_tree}
@@ -35,7 +35,7 @@ use Rattle.hotel_statements.specs.Tables.{AreMetas, AreKinds, AreRooms, AreStays
 use Rattle.hotel_statements.specs.Tables.{IsTable, AreNotes, AreFits, AreTables, AreTablesOf, IsFitTable, AreApartIds}
 use Rattle.hotel_statements.specs.Tables.{HasId}
 use Rattle.hotel_statements.specs.Tables.{metas_in, rows_in, fits_in, bare_rooms_in, bare_notes_in, bare_rows_in}
-use Rattle.hotel_statements.specs.Tables.{listed, by_key}
+use Rattle.hotel_statements.specs.Tables.{in_key_order, by_key}
 use Rattle.hotel_statements.specs.Steps.{MovesRows}
 
 -- each table has the same rows in both
@@ -53,7 +53,7 @@ same_tables a b same was fits = record {
   meta = subst AreMetas (sym same.0) was.meta;
   meta_row = (
     was.meta_row.0,
-    ap (listed (by_key nat_cmp) (λ r. meta_of (meta_columns r))) same.0 ∙ was.meta_row.1,
+    ap (in_key_order (by_key nat_cmp) (λ r. meta_of (meta_columns r))) same.0 ∙ was.meta_row.1,
   );
   kind = subst AreKinds (sym same.1.0) was.kind;
   room = subst AreRooms (sym same.1.1.0) was.room;
@@ -80,7 +80,7 @@ same_bare a b same =
     rw (meta, kind, room, stay, code, card, inside, note) refl
 
 pub same_fits : (a b : Trees) → b fit_tree ≡ a fit_tree → fits_in b ≡ fits_in a
-same_fits a b same = ap (listed (by_key pair_cmp) (λ r. fit_of (fit_columns r))) same
+same_fits a b same = ap (in_key_order (by_key pair_cmp) (λ r. fit_of (fit_columns r))) same
 
 pub front_of : (a b : Trees) → Same a b → SameFront a b × (b fit_tree ≡ a fit_tree)
 front_of a b same =
@@ -94,7 +94,7 @@ pub same_desk : (a b : Trees) → Same a b → AreTables a → AreTables b × (r
 same_desk a b same was =
     let front = front_of a b same in (
       same_tables a b front.0 was (subst AreFits (sym front.1) was.fit),
-      ap₂ joined (same_fits a b front.1) (same_bare a b front.0),
+      ap₂ joined_with (same_fits a b front.1) (same_bare a b front.0),
     )
 
 -- ---- one table written
@@ -149,7 +149,7 @@ steps {tree} {rows} old new make shown did now =
 abbrev pub AreRowsOf : {X : Type 0} → (X → X → Ordering) → (Row → Row) → (Row → X) → (X → Row) → List Row → List X
     → Type 0
 AreRowsOf cmp columns of written rows list =
-    IsTable cmp columns of written rows × (listed cmp (λ r. of (columns r)) rows ≡ list)
+    IsTable cmp columns of written rows × (in_key_order cmp (λ r. of (columns r)) rows ≡ list)
 
 -- Each `assumption` is the record of the nine tables: that of these rows, and those of the other trees as they were.
 module _ {db : Trees} {rows : List Row} (was : AreTables db) where
@@ -233,4 +233,4 @@ version_set {db} {rows} was empty made =
     ap (λ (metas : List (ℕ × (ℕ × Option ℕ))). let all : Rows = record (bare_rows_in db) {
       day = said_of (at_number metas 1) None (λ meta. meta.1);
     } in all) was.meta_row.1 in
-    (assumption, now ∙ sym before, ap (listed (by_key pair_cmp) (λ r. fit_of (fit_columns r))) empty)
+    (assumption, now ∙ sym before, ap (in_key_order (by_key pair_cmp) (λ r. fit_of (fit_columns r))) empty)

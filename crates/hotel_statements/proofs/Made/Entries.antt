@@ -21,7 +21,7 @@ use Rattle.sqlite_keyed.proofs.ListLemmas.{all_weaker, all_both, all_map, none_f
 use Rattle.sqlite_keyed.proofs.ListLemmas.{ascending_weaker, IsPermutation-filter}
 use Rattle.sqlite_keyed.proofs.SortLemmas.{IsPermutation-sort_by}
 use Rattle.hotel_statements.specs.Values.{int}
-use Rattle.hotel_statements.specs.Tables.{IsTableOf, IsTable, IsWrittenAs, listed, by_key}
+use Rattle.hotel_statements.specs.Tables.{IsTableOf, IsTable, IsWrittenAs, in_key_order, by_key}
 use Rattle.hotel_statements.proofs.Keyed.{key_total}
 use Rattle.hotel_statements.proofs.Keys.{same_number, is_key}
 use Rattle.hotel_statements.proofs.Perm.{all_left, found_of, none_permuted, every_shuffled, put_makes, filter_makes}
@@ -119,14 +119,15 @@ put_back {X} k f e (a ∷ es) up one = elim (cases_Bool (eqb a.0 k)) [
 pub put_keyed : {X : Type 0} (cmp : X → X → Ordering) (total : IsTotalOrder cmp)
     (Good : Row → Type 0) (of : Row → X) (new : Row) (x : X) (rows : List Row)
     → IsTableOf cmp Good of rows → Good new → of new ≡ x → is_taken rows new ≡ false
-    → AllByRecursion (λ y. is_eq (cmp x y) ≡ false) (listed cmp of rows) → IsTableOf cmp Good of (put_row new rows)
-    × (listed cmp of (put_row new rows) ≡ insert_sorted cmp x (listed cmp of rows))
+    → AllByRecursion (λ y. is_eq (cmp x y) ≡ false) (in_key_order cmp of rows)
+    → IsTableOf cmp Good of (put_row new rows)
+    × (in_key_order cmp of (put_row new rows) ≡ insert_sorted cmp x (in_key_order cmp of rows))
 put_keyed cmp total Good of new x rows was good is fresh apart =
     let keys =
     every_shuffled (λ y. is_eq (cmp x y) ≡ false) _ _ (IsPermutation-sort_by cmp total (map of rows)) apart in
     let put = put_makes cmp total Good of new rows was good fresh
     (subst (λ z. AllByRecursion (λ y. is_eq (cmp z y) ≡ false) (map of rows)) (sym is) keys) in
-    (put.0, put.1 ∙ ap (λ z. insert_sorted cmp z (listed cmp of rows)) is)
+    (put.0, put.1 ∙ ap (λ z. insert_sorted cmp z (in_key_order cmp of rows)) is)
 
 -- ---- tables whose key is the number of the row
 
@@ -152,7 +153,7 @@ module _ {X : Type 0} (columns : Row → Row) (of : Row → ℕ × X) (written :
   pub insert_makes : (new : Row) (k : ℕ) (x : X) (rows : List Row) → IsTable cmp columns of written rows → Good new
       → read new ≡ (k, x) → rowid new ≡ int k → is_taken rows new ≡ false
       → IsTable cmp columns of written (put_row new rows)
-      × (listed cmp read (put_row new rows) ≡ insert_entry nat_cmp (listed cmp read rows) k x)
+      × (in_key_order cmp read (put_row new rows) ≡ insert_entry nat_cmp (in_key_order cmp read rows) k x)
   insert_makes new k x rows was good is id fresh =
       let apart : AllByRecursion (λ r. is_eq (nat_cmp k (read r).0) ≡ false) rows =
       all_both Good _ _ (λ r h free. apart_from k new r id h free) rows was.good
@@ -160,7 +161,7 @@ module _ {X : Type 0} (columns : Row → Row) (of : Row → ℕ × X) (written :
       let sorted = every_shuffled (λ (y : ℕ × X). is_eq (nat_cmp k y.0) ≡ false) _ _
       (IsPermutation-sym _ _ (IsPermutation-sort_by cmp total (map read rows))) (all_map _ read rows apart) in
       let put = put_keyed cmp total Good read new (k, x) rows was good is fresh sorted in
-      (put.0, put.1 ∙ entry_put nat_cmp k x (listed cmp read rows) sorted)
+      (put.0, put.1 ∙ entry_put nat_cmp k x (in_key_order cmp read rows) sorted)
 
   -- ---- a row that is changed in its place
 
@@ -198,8 +199,8 @@ module _ {X : Type 0} (columns : Row → Row) (of : Row → ℕ × X) (written :
   ]
 
   rises : (rows : List Row) → IsTable cmp columns of written rows
-      → IsAscending (λ (a b : ℕ × X). a.0 < b.0) (listed cmp read rows)
-  rises rows was = ascending_weaker _ _ (λ a b less. above a.0 b.0 less) (listed cmp read rows)
+      → IsAscending (λ (a b : ℕ × X). a.0 < b.0) (in_key_order cmp read rows)
+  rises rows was = ascending_weaker _ _ (λ a b less. above a.0 b.0 less) (in_key_order cmp read rows)
       (sort_rises cmp total (map read rows) was.apart)
     where
       above : (a b : ℕ) → nat_cmp a b ≡ Less → a < b
@@ -216,15 +217,17 @@ module _ {X : Type 0} (columns : Row → Row) (of : Row → ℕ × X) (written :
 
   pub update_makes : (k : ℕ) (f : X → X) (rows after : List Row) → IsTable cmp columns of written rows
       → ((filter (λ r. eqb (read r).0 k) rows ≡ []) × (after ≡ rows)) ⊎ ((r : Row) × Updated k f rows after r)
-      → IsTable cmp columns of written after × (listed cmp read after ≡ changed_at k f (listed cmp read rows))
+      → IsTable cmp columns of written after
+      × (in_key_order cmp read after ≡ changed_at k f (in_key_order cmp read rows))
   update_makes k f rows after was (inl none) =
       let mapped : filter (λ (e : ℕ × X). eqb e.0 k) (map read rows) ≡ [] =
       sym (filter_mapped cmp total Good read (λ r. eqb (read r).0 k) (λ e. eqb e.0 k) rows
       (all_weaker Good _ (λ r h. refl) rows was.good)) ∙ ap (map read) none.0 in
-      let sorted : filter (λ (e : ℕ × X). eqb e.0 k) (listed cmp read rows) ≡ [] =
-      none_left (listed cmp read rows) (map read rows) k (IsPermutation-sort_by cmp total (map read rows)) mapped in (
+      let sorted : filter (λ (e : ℕ × X). eqb e.0 k) (in_key_order cmp read rows) ≡ [] =
+      none_left (in_key_order cmp read rows) (map read rows) k
+      (IsPermutation-sort_by cmp total (map read rows)) mapped in (
         subst (IsTable cmp columns of written) (sym none.1) was,
-        ap (listed cmp read) none.1 ∙ sym (none_changed k f (listed cmp read rows) sorted),
+        ap (in_key_order cmp read) none.1 ∙ sym (none_changed k f (in_key_order cmp read rows) sorted),
       )
   update_makes k f rows after was (inr (r, did)) =
       let number : (read r).0 ≡ k =
@@ -238,9 +241,9 @@ module _ {X : Type 0} (columns : Row → Row) (of : Row → ℕ × X) (written :
       let one : filter (λ (e : ℕ × X). eqb e.0 k) (map read rows) ≡ read r ∷ [] =
       sym (filter_mapped cmp total Good read (λ r. eqb (read r).0 k) (λ e. eqb e.0 k) rows
       (all_weaker Good _ (λ r h. refl) rows was.good)) ∙ ap (map read) did.found in
-      let sorted : filter (λ (e : ℕ × X). eqb e.0 k) (listed cmp read rows) ≡ read r ∷ [] = one_left
-      (listed cmp read rows) (map read rows) k (read r) (IsPermutation-sort_by cmp total (map read rows)) one in (
+      let sorted : filter (λ (e : ℕ × X). eqb e.0 k) (in_key_order cmp read rows) ≡ read r ∷ [] = one_left
+      (in_key_order cmp read rows) (map read rows) k (read r) (IsPermutation-sort_by cmp total (map read rows)) one in (
         subst (IsTable cmp columns of written) (sym did.after_is) put.0,
-        ap (listed cmp read) did.after_is ∙ put.1 ∙ ap (λ es. insert_entry nat_cmp es k (f (read r).1)) cut.1
-            ∙ put_back k f (read r) (listed cmp read rows) (rises rows was) sorted,
+        ap (in_key_order cmp read) did.after_is ∙ put.1 ∙ ap (λ es. insert_entry nat_cmp es k (f (read r).1)) cut.1
+            ∙ put_back k f (read r) (in_key_order cmp read rows) (rises rows was) sorted,
       )

@@ -19,7 +19,7 @@ use Rattle.hotel_statements.specs.Texts.{update_version, insert_fit}
 use Rattle.hotel_statements.specs.Values.{int}
 use Rattle.hotel_statements.specs.Columns.{fit_columns, fit_of, fit_written}
 use Rattle.hotel_statements.specs.Tables.{AreTables, HasId, IsWrittenAs, by_key, bare_rows_in, fits_in}
-use Rattle.hotel_statements.specs.Upgrade.{IsOutdated, IsFilling, HasFits, with_first}
+use Rattle.hotel_statements.specs.Upgrade.{IsOutdated, IsFilling, HasFits, with_first_fit}
 use Rattle.hotel_statements.proofs.Keyed.{column_equals, key_total}
 use Rattle.hotel_statements.proofs.Keys.{and_true}
 use Rattle.hotel_statements.proofs.Perm.{put_fresh, every_shuffled}
@@ -87,7 +87,7 @@ fit_tested room number r good =
 
 pub first_fit_step : (old new : State) (room count : ℕ)
     → ExecutesInside 0 insert_fit (int room ∷ int 1 ∷ int 0 ∷ int 0 ∷ []) old new (Ok count)
-    → (IsTrue old.is_open → IsFilling old) → HasFits (with_first (fits_in old.now.trees) room) old new
+    → (IsTrue old.is_open → IsFilling old) → HasFits (with_first_fit (fits_in old.now.trees) room) old new
 first_fit_step old new room count h before =
     let was = before h.1.was_open in
     let db = old.now.trees in

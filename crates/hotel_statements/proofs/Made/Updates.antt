@@ -32,7 +32,7 @@ use Rattle.hotel_statements.specs.Texts.{update_state}
 use Rattle.hotel_statements.specs.Values.{int, maybe_int}
 use Rattle.hotel_statements.specs.Columns.{bit_of, state_number, meta_columns, meta_of, meta_written, room_columns}
 use Rattle.hotel_statements.specs.Columns.{room_of, room_written, stay_columns, stay_of, stay_written}
-use Rattle.hotel_statements.specs.Tables.{AreMetas, IsTable, IsWrittenAs, listed, by_key, rows_in, fits_in}
+use Rattle.hotel_statements.specs.Tables.{AreMetas, IsTable, IsWrittenAs, in_key_order, by_key, rows_in, fits_in}
 use Rattle.hotel_statements.specs.Tables.{bare_rooms_in}
 use Rattle.hotel_core.specs.Refinement.Finds.{AnyRows}
 use Rattle.hotel_statements.specs.Steps.{IsMidWith, MovesRows, day_set, room_issued, room_freed, room_noted}
@@ -76,7 +76,7 @@ module _ {X : Type 0} (columns : Row → Row) (of : Row → ℕ × X) (written :
     pub rows : List Row
     pub changes : Changed tree rows old new
     pub made : AreRowsOf (by_key nat_cmp) columns of written rows
-        (changed_at k f (listed (by_key nat_cmp) read (old.now.trees tree)))
+        (changed_at k f (in_key_order (by_key nat_cmp) read (old.now.trees tree)))
 
   pub sets : {at : ℕ} {text : List ℕ} {terms : List Term} (tree : ℕ) (t : Table) (k : ℕ)
       (more : Row) (f : X → X) (source stored : Row → Row) (old new : State) (count : ℕ)

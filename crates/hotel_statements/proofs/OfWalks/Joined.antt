@@ -19,7 +19,7 @@ use Rattle.sqlite.specs.Query.{Query, Join, inner, end, IsAnswer, Output, output
 use Rattle.sqlite.specs.Program.{overlay}
 use Rattle.sqlite.specs.Term.{Term, Env, holds}
 use Rattle.sqlite.specs.Tree.{Trees, IsAscending}
-use Rattle.hotel_statements.specs.Tables.{listed}
+use Rattle.hotel_statements.specs.Tables.{in_key_order}
 use Rattle.hotel_statements.proofs.Answers.{same_tree, single}
 
 abbrev pub over : Join → List Term → List Term → List (Term × Key) → Query
@@ -58,13 +58,13 @@ module _ (db : Trees) (test : List Term) (q : Query) where
       → ((r : Row) → Good r
       → IsPermutation (map (output q) (matches (overlay db []) test more (env ++ r ∷ []))) (h (of r)))
       → IsPermutation (map (output q)
-      (matches (overlay db []) test (inner tree more) env)) (flat_map h (listed cmp of (db tree)))
+      (matches (overlay db []) test (inner tree more) env)) (flat_map h (in_key_order cmp of (db tree)))
   one_more_table cmp total Good of tree more env h good each =
       let f : Row → List Output = λ r. map (output q) (matches (overlay db []) test more (env ++ r ∷ [])) in
       let split : map (output q) (matches (overlay db []) test (inner tree more) env) ≡ flat_map f (db tree) =
       map-flat_map (output q) (λ r. matches (overlay db []) test more (env ++ r ∷ [])) (overlay db [] tree)
       ∙ ap (flat_map f) (same_tree db tree) in
-      subst (λ os. IsPermutation os (flat_map h (listed cmp of (db tree)))) (sym split)
+      subst (λ os. IsPermutation os (flat_map h (in_key_order cmp of (db tree)))) (sym split)
       (IsPermutation-trans _ _ _ (each_row Good of f h each (db tree) good)
       (IsPermutation-flat_map h _ _ (IsPermutation-sym _ _ (IsPermutation-sort_by cmp total (map of (db tree))))))
 

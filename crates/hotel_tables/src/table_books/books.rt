@@ -6,7 +6,7 @@ ghost use Rattle.hotel_tables.specs.Applied.{LeavesChange};
 ghost use Rattle.hotel_tables.specs.Causes.{ChangeFails};
 
 use crate::table_books::TableBooks;
-use hotel_core::{Books, Change, CodeRow, FitRow, NextNumbers, RoomRow};
+use hotel_core::{Books, Change, FitRow, NextNumbers, RoomRow};
 use hotel_nights::{Day, Guest, KindCode, Stay};
 use hotel_statements::look_ups;
 use keycard_rules::{Card, CardNo, Code, Count, FitNo, LockNote, LookFault, PartyNo, RoomNo};
@@ -40,10 +40,10 @@ impl<S: Alter> Books for TableBooks<S> {
         self.counting(row)
     }
 
-    fn code_place(&mut self, code: Code) -> Result<Option<CodeRow>, LookFault> {
+    fn code_place(&mut self, code: Code) -> Result<Option<(RoomNo, u32)>, LookFault> {
         self.ask()?;
         self.answers = false;
-        let place = look_ups::code(self.alloc, &mut self.conn, code);
+        let place = look_ups::code_place(self.alloc, &mut self.conn, code);
         self.counting(place)
     }
 

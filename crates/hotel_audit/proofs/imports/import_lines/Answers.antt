@@ -5,7 +5,7 @@ use Rattle.std.proofs.lemmas.List.{take_all}
 use Rattle.keycard_rules.specs.Calls.{Passes}
 use Rattle.hotel_core.proofs.Names.{take_more}
 use Rattle.hotel_audit.specs.{declared.answer.LineAnswer.LineAnswer, declared.imports.ImportFault.ImportFault}
-use Rattle.hotel_audit.specs.Import.{AreAnswered, Imports, LineHappens, has_taken, stopped}
+use Rattle.hotel_audit.specs.Import.{AreAnswered, Imports, LineImported, has_taken, stopped}
 use Rattle.hotel_audit.specs.declared.audit_file.AuditFault.TheVariants as fault
 use Rattle.hotel_audit.proofs.LineAnswers.{AreAnswered-append, passes_next}
 use Rattle.hotel_audit.proofs.ImportEnds.{answered_before, none_begun}
@@ -51,7 +51,7 @@ returns g c =
       each = subst (λ lines. AreAnswered lines given) all inv.each;
       ends = (refl, refl);
       behind = c.loop-line.books;
-      through = subst (λ lines. Passes (LineHappens g.B.Kept g.B.Books.rows) c.args.books.now (zip lines given)
+      through = subst (λ lines. Passes (LineImported g.B.Kept g.B.Books.rows) c.args.books.now (zip lines given)
           c.loop-line.books) all inv.through;
       leaves = refl;
     }
@@ -69,7 +69,7 @@ loop-line-preserved g c =
       number = omega (arith, c.in-Ok-push.ensures.len, inv.number);
       each = rw (e, c.in-Ok-push.ensures.items) (AreAnswered-append (take i xs) (c.line-item.result ∷ [])
           c.loop-line.answers.items (c.in-Ok-answer_line.answer ∷ []) inv.each (f.answer, tt));
-      through = rw (e, c.in-Ok-push.ensures.items) (passes_next (LineHappens g.B.Kept g.B.Books.rows) c.args.books.now
+      through = rw (e, c.in-Ok-push.ensures.items) (passes_next (LineImported g.B.Kept g.B.Books.rows) c.args.books.now
           (take i xs) c.loop-line.answers.items c.line-item.result c.in-Ok-answer_line.answer inv.each inv.through
           f.went);
     }

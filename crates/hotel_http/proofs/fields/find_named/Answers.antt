@@ -2,7 +2,7 @@ use Rattle.std.proofs.Common.{◌∙◌, List, [], ◌∷◌, ◌++◌, ℕ, ap,
 use Rattle.std.specs.Str.{str_eq_ignore_ascii_case}
 use Rattle.hotel_http.proofs.FieldLemmas.{tells_none, tells_named, tells_other}
 use Rattle.httparse.specs.Spans.{header_bytes}
-use Rattle.hotel_http.specs.Fields.{Tells, values_named}
+use Rattle.hotel_http.specs.Fields.{IsFoundIn, values_named}
 use Rattle.hotel_http.proofs.fields.find_named.Goals as goal
 use Rattle.hotel_http.proofs.fields.find_named.Goals.{then-is_same_text, else-is_same_text}
 
@@ -18,9 +18,10 @@ loop-header-preserved c =
     elim c.if-is_same_text.branch [
       | then-is_same_text w ↦
           tells_named _ (header_bytes c.args.bytes.now) _ _ _ _ c.loop-header-test.true (same ∙ w.if-is_same_text.true)
-          (subst (Tells _) (sym w.found-is) (subst (λ (l : List ℕ). Tells (before ++ l ∷ []) w.once_more-found.result)
+          (subst (IsFoundIn _) (sym w.found-is)
+          (subst (λ (l : List ℕ). IsFoundIn (before ++ l ∷ []) w.once_more-found.result)
           w.of-then-is_same_text.ensures (w.once_more-found.ensures before c.loop-header.invariant)))
       | else-is_same_text w ↦
           tells_other _ (header_bytes c.args.bytes.now) _ _ _ _ c.loop-header-test.true (same ∙ w.if-is_same_text.false)
-          (subst (Tells _) (sym w.found-is) c.loop-header.invariant)
+          (subst (IsFoundIn _) (sym w.found-is) c.loop-header.invariant)
     ]

@@ -1,8 +1,8 @@
 use Rattle.std.proofs.Common.{◌≡◌, [], subst, List, Ok, Err, Bool}
 use Rattle.hotel_audit.specs.Import.{has_taken}
 use Rattle.hotel_audit.specs.declared.answer.LineAnswer.{LineAnswer}
-use Rattle.hotel_http.specs.{AuditAnswer.lines_answer, AuditAnswer.fault_answer, AuditAnswer.fault_status}
-use Rattle.hotel_http.specs.{Serve.imported, Serve.ended, Serve.taken_by, Serve.EndsAs}
+use Rattle.hotel_http.specs.{AuditAnswer.lines_answer, AuditAnswer.fault_answer, AuditAnswer.import_status}
+use Rattle.hotel_http.specs.{Serve.imported, Serve.ended, Serve.taken_before_fault, Serve.EndsAs}
 use Rattle.hotel_http.specs.{declared.status.Status.Status, declared.status.Status.TheVariants.Success}
 use Rattle.hotel_http.proofs.ServeLemmas.{ends_as, file_came}
 use Rattle.hotel_http.proofs.serve.answer_audit.Goals as goal
@@ -26,8 +26,9 @@ returns-in-Err-clause-went g c =
     let new = g.W.Write.contents c.write_fault-written.new.writer in
     let why = c.in-Err.why in
     let written = c.write_fault-written.result in
-    let ends = ends_as (fault_answer why) (fault_status why) (taken_by why) written old new c.ended-in-Err.result
-    (subst (λ (b : Bool). c.ended-in-Err.result ≡ ended written (fault_status why) b) c.taken_by.ensures
+    let ends = ends_as (fault_answer why) (import_status why) (taken_before_fault why) written old new
+    c.ended-in-Err.result
+    (subst (λ (b : Bool). c.ended-in-Err.result ≡ ended written (import_status why) b) c.taken_by.ensures
     (subst (λ (s : Status). c.ended-in-Err.result ≡ ended written s c.taken_by.result)
     c.fault_status.ensures c.ended-in-Err.ensures))
     c.write_fault-written.ensures.writes.ok c.write_fault-written.ensures.writes.err in

@@ -1,7 +1,7 @@
 use Rattle.std.proofs.Common.{[], ℕ, List, subst, false, Ok, Err}
 use Rattle.hotel_model.specs.declared.reply.Refusal.{Refusal}
 use Rattle.hotel_model.specs.declared.reply.Reply.TheVariants.{Refused}
-use Rattle.hotel_http.specs.{Answer.list_answer, Serve.outcome, Serve.replied, Serve.EndsAs}
+use Rattle.hotel_http.specs.{Answer.list_answer, Serve.full_answer, Serve.replied, Serve.EndsAs}
 use Rattle.hotel_http.specs.{declared.status.Status.TheVariants.Success}
 use Rattle.hotel_http.proofs.ServeLemmas.{ends_as, list_came}
 use Rattle.hotel_http.proofs.serve.answer_list.Goals as goal
@@ -14,7 +14,7 @@ returns-in-Ok-clause-went g c =
     let ends = ends_as (list_answer c.deref.result.now) Success false c.write_csv-written.result old new c.ended.result
     c.ended.ensures c.write_csv-written.ensures.writes.ok c.write_csv-written.ensures.writes.err in
     list_came c.args.list.now (Ok c.in-Ok.text.items) old new c.ended.result g.met.B.Books.kept_rows made.books
-    made.text (subst (λ (t : List ℕ). EndsAs (outcome (list_answer t) Success false) [] old new c.ended.result)
+    made.text (subst (λ (t : List ℕ). EndsAs (full_answer (list_answer t) Success false) [] old new c.ended.result)
     c.deref.ensures.value ends)
 
 pub returns-in-Err-clause-went : goal.returns-in-Err-clause-went

@@ -11,7 +11,7 @@ loop-i-init c = λ kind d. ap (λ es. counted es kind d) c.empty-nights.ensures 
 
 pub loop-i-preserved : goal.loop-i-preserved
 loop-i-preserved c =
-    let all = c.args.stored.now.stays in
+    let all = c.args.stored.now.stay in
     let stays = all.items in
     let low : c.loop-i.i < length stays = omega (arith, c.loop-i-test.true, c.len-i-end.ensures, all.ok.0) in
     let at : c.index.result.now ≡ get_or stays c.loop-i.i c.index.result.now = search rules in

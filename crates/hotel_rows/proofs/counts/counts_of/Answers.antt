@@ -14,5 +14,5 @@ returns-in_err-kinds-clause-err c = λ none.
 pub returns-in_err-nights-clause-err : goal.returns-in_err-nights-clause-err
 returns-in_err-nights-clause-err c = λ none.
     passed_on _ (λ why. why ≡ Memory) c.from_residual-in_err-nights.ensures.1
-    (only_memory _ (list_all tells_stay c.args.stored.now.stays.items)
+    (only_memory _ (list_all tells_stay c.args.stored.now.stay.items)
     (stays_told c.args.stored.now none) c.in_err-nights.ensures.err)

@@ -5,7 +5,7 @@ use Rattle.sqlite.specs.Effect.{Database}
 use Rattle.keycard_rules.specs.declared.numbers.TheConstants.{LAST_NUMBER}
 use Rattle.hotel_model.specs.Refinement.Lookups.{number_after}
 use Rattle.hotel_statements.specs.Tables.{rows_in}
-use Rattle.hotel_statements.specs.Readable.{IsNumber, BeginsWith}
+use Rattle.hotel_statements.specs.Readable.{IsNumber, FirstColumnIs}
 use Rattle.hotel_statements.specs.Texts as text
 use Rattle.hotel_statements.proofs.Statements.Selects as selects
 use Rattle.hotel_statements.proofs.Since.{fails_later, clean_before}
@@ -24,7 +24,7 @@ returns-in_err-card g c =
     inr (fails_later old mid new (clean_before mid new c.last_card.ensures.crash)
     (c.in_ok-party.ensures.unchanged tt) c.in_ok-party.ensures.crash
     text.select_last_card [] _ selects.select_last_card c.in_ok-party.ensures.books clean
-    (BeginsWith (IsNumber LAST_NUMBER)) (c.in_err-card.ensures.cause clean other))))
+    (FirstColumnIs (IsNumber LAST_NUMBER)) (c.in_err-card.ensures.cause clean other))))
 
 pub returns : goal.returns
 returns g c =

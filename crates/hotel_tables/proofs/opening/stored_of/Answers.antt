@@ -1,9 +1,8 @@
 use Rattle.std.proofs.Common.{◌≡◌, ◌∙◌, sym, ap, subst, map, true, false, true≢false, inl, inr, List}
-use Rattle.std.proofs.Common.{arith, rules, to_z-of_z}
 use Rattle.std.specs.Ordering.{int_cmp}
 use Rattle.hotel_statements.specs.declared.plain_rows.NumberedInside.{NumberedInside}
 use Rattle.hotel_tables.specs.Opening.{id_inside, plain_inside}
-use Rattle.hotel_tables.proofs.Opened.{stored_are, read_meta, ids_apart, small_number}
+use Rattle.hotel_tables.proofs.Opened.{stored_are, read_meta, ids_apart}
 use Rattle.hotel_statements.specs.Tables.{AreApart}
 use Rattle.hotel_tables.proofs.opening.stored_of.Goals as goal
 
@@ -14,8 +13,7 @@ returns-clause-ok c = λ db read.
     let apart = subst (λ (ls : List NumberedInside). c.in-Ok-true.field-0 ≡ true → AreApart int_cmp (map id_inside ls))
     c.deref.ensures.value c.in-Ok-true.ensures.0 in
     let inside = c.in-Ok.ensures ∙ ap (map plain_inside) c.deref-2.ensures.value in (
-      stored_are {of = c.args.version} t db c.in_ok-meta.meta _ c.in-Ok.inside
-          (first_of (search (rules, is.2), grind (arith, to_z-of_z, is.2, small_number c.args.version))) read is inside
+      stored_are {of = c.args.version} t db c.in_ok-meta.meta c.in-Ok.inside read is inside
           (sym c.all_rise.ensures ∙ c.if-not-all_rise.false),
       ids_apart t.inside.items db read.1.0.1.0 (apart c.in-Ok-true.field-0-test),
     )
@@ -37,6 +35,6 @@ returns-then-not-all_rise-clause-err c = λ db read.
     let plain = c.in_ok-meta.meta in
     let is = c.in_ok-meta.ensures.ok in
     let inside = c.in-Ok.ensures ∙ ap (map plain_inside) c.deref-2.ensures.value in
-    let stored = stored_are {in_order = false} {of = c.args.version} t db plain plain.version c.in-Ok.inside is.2
+    let stored = stored_are {in_order = false} {of = c.args.version} t db plain c.in-Ok.inside
     read is inside (sym c.all_rise.ensures ∙ c.if-not-all_rise.true) in
     inr (read_meta c.args.version t db plain read is, inr (inl (_, stored)))

@@ -6,5 +6,5 @@ use Rattle.hotel_rows.proofs.damage.cards.cards_fit.Given as goal
 
 abbrev pub invariant-loop-i : goal.invariant-loop-i
 invariant-loop-i l =
-    list_all (λ card. card_fits (rows_of l.stored) (card_row card)) l.stored.cards.items
-    ≡ list_all (λ card. card_fits (rows_of l.stored) (card_row card)) (drop l.i l.stored.cards.items)
+    list_all (λ card. card_fits (rows_of l.stored) (card_row card)) l.stored.card.items
+    ≡ list_all (λ card. card_fits (rows_of l.stored) (card_row card)) (drop l.i l.stored.card.items)

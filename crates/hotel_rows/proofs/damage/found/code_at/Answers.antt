@@ -7,17 +7,17 @@ use Rattle.hotel_rows.proofs.damage.found.code_at.Goals as goal
 pub returns-in_default : goal.returns-in_default
 returns-in_default c =
     let none : c.place_at.result ≡ None = search rules in
-    sym (none_found code_key code_row c.args.places.now.codes.entries c.args.stored.now.codes.items c.args.code
+    sym (none_found code_key code_row c.args.places.now.codes.entries c.args.stored.now.code.items c.args.code
     c.requires.codes (sym c.place_at.ensures ∙ none))
 
 pub returns-then-place-len : goal.returns-then-place-len
 returns-then-place-len c =
-    let low = one_bound code_key code_row c.args.places.now.codes.entries c.args.stored.now.codes.items c.args.code
+    let low = one_bound code_key code_row c.args.places.now.codes.entries c.args.stored.now.code.items c.args.code
     c.in-Some.place c.requires.codes (sym c.place_at.ensures ∙ c.in-Some.is) in
     absurd (omega (arith, low, c.if-place-len.true, c.len.ensures))
 
 pub returns : goal.returns
 returns c =
     ap (λ plain. Some (code_row plain)) c.index.ensures
-    ∙ sym (one_found code_key code_row c.args.places.now.codes.entries c.args.stored.now.codes.items c.args.code
+    ∙ sym (one_found code_key code_row c.args.places.now.codes.entries c.args.stored.now.code.items c.args.code
     c.in-Some.place c.index.result.now c.requires.codes (sym c.place_at.ensures ∙ c.in-Some.is))

@@ -12,9 +12,9 @@ returns-in_default c =
     let none : c.place_at.result ≡ None = search rules in
     record {
       row = sym (ap (λ es. at_number es c.args.room)
-          (rooms_are (fits_of c.args.stored.now) c.args.stored.now.rooms.items)
+          (rooms_are (fits_of c.args.stored.now) c.args.stored.now.room.items)
           ∙ none_found room_key (joined_row (fits_of c.args.stored.now))
-          c.args.places.now.rooms.entries c.args.stored.now.rooms.items c.args.room c.requires.rooms
+          c.args.places.now.rooms.entries c.args.stored.now.room.items c.args.room c.requires.rooms
           (sym c.place_at.ensures ∙ none));
       key = tt;
       rules = tt;
@@ -23,14 +23,14 @@ returns-in_default c =
 pub returns-then-place-len : goal.returns-then-place-len
 returns-then-place-len c =
     let low = one_bound room_key (joined_row (fits_of c.args.stored.now))
-    c.args.places.now.rooms.entries c.args.stored.now.rooms.items c.args.room c.in-Some.place c.requires.rooms
+    c.args.places.now.rooms.entries c.args.stored.now.room.items c.args.room c.in-Some.place c.requires.rooms
     (sym c.place_at.ensures ∙ c.in-Some.is) in
     absurd (omega (arith, low, c.if-place-len.true, c.len.ensures))
 
 pub returns : goal.returns
 returns c =
     let entries = c.args.places.now.rooms.entries in
-    let plain_rows = c.args.stored.now.rooms.items in
+    let plain_rows = c.args.stored.now.room.items in
     let fits = fits_of c.args.stored.now in
     let there = sym c.place_at.ensures ∙ c.in-Some.is in
     let low = one_bound room_key (joined_row (fits_of c.args.stored.now))

@@ -5,4 +5,4 @@ use Rattle.hotel_rows.proofs.damage.links.all_brought.Given as goal
 
 abbrev pub invariant-loop-i : goal.invariant-loop-i
 invariant-loop-i l =
-    list_all (is_brought l.stored) l.stored.codes.items ≡ list_all (is_brought l.stored) (drop l.i l.stored.codes.items)
+    list_all (is_brought l.stored) l.stored.code.items ≡ list_all (is_brought l.stored) (drop l.i l.stored.code.items)

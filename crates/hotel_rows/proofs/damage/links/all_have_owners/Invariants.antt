@@ -5,4 +5,4 @@ use Rattle.hotel_rows.proofs.damage.links.all_have_owners.Given as goal
 
 abbrev pub invariant-loop-i : goal.invariant-loop-i
 invariant-loop-i l =
-    list_all (has_owner l.stored) l.stored.rooms.items ≡ list_all (has_owner l.stored) (drop l.i l.stored.rooms.items)
+    list_all (has_owner l.stored) l.stored.room.items ≡ list_all (has_owner l.stored) (drop l.i l.stored.room.items)

@@ -18,7 +18,7 @@ returns-then-ends_with_fit c =
     let s = c.args.stored.now in
     let placed = c.args.known.now.placed.entries in
     let begins = c.args.known.now.fits.begins.entries in
-    let plain_rows = s.cards.items in
+    let plain_rows = s.card.items in
     let newest = newest_known s placed begins c.args.room c.args.codes c.requires.placed c.requires.begins
     c.requires.due
     ∙ ap (λ b. cond b None (last_link_of (values_of (places_in placed c.args.room))))
@@ -32,7 +32,7 @@ returns-in_default c =
     let s = c.args.stored.now in
     let placed = c.args.known.now.placed.entries in
     let begins = c.args.known.now.fits.begins.entries in
-    let plain_rows = s.cards.items in
+    let plain_rows = s.card.items in
     let none : c.newest_of.result ≡ None = search rules in
     let newest = newest_known s placed begins c.args.room c.args.codes c.requires.placed c.requires.begins
     c.requires.due
@@ -48,7 +48,7 @@ returns c =
     let s = c.args.stored.now in
     let placed = c.args.known.now.placed.entries in
     let begins = c.args.known.now.fits.begins.entries in
-    let plain_rows = s.cards.items in
+    let plain_rows = s.card.items in
     let newest = newest_known s placed begins c.args.room c.args.codes c.requires.placed c.requires.begins
     c.requires.due
     ∙ ap (λ b. cond b None (last_link_of (values_of (places_in placed c.args.room))))

@@ -6,4 +6,4 @@ use Rattle.hotel_rows.proofs.damage.links.has_brought.Goals as goal
 
 pub returns : goal.returns
 returns c = c.contains_key.ensures ∙ ap is_some (c.requires c.args.code)
-    ∙ any_placed new_code_of c.args.stored.now.cards.items c.args.code
+    ∙ any_placed new_code_of c.args.stored.now.card.items c.args.code

@@ -28,7 +28,7 @@ returns-clause-has c = λ s h.
     ∙ night_told s c.args.counts.now c.args.stay.now c.in-Ok.kind c.in-Ok-day.first
     (c.rooms-rooms.result + 1) c.in-Ok-day-2.next c.full_night-full.result h
     (c.in-Ok.ensures.ok ∙ c.as_str.ensures.value) arrive rooms next
-    (c.full_night-full.ensures (values_of (map stay_entry s.stays.items)) h.1.0)
+    (c.full_night-full.ensures (values_of (map stay_entry s.stay.items)) h.1.0)
 
 -- what the test has
 tells : (counts : Counts) (plain : PlainStay) → tells_night counts plain ≡ true

@@ -7,7 +7,7 @@ use Rattle.hotel_rows.proofs.damage.nights.nights_fit_by.Goals as goal
 pub returns-then-not-has_night_of : goal.returns-then-not-has_night_of
 returns-then-not-has_night_of c =
     let s = c.args.stored.now in
-    let xs = s.stays.items in
+    let xs = s.stay.items in
     let i = c.loop-i.i in
     let here : i < length xs = omega (arith, c.loop-i-test.true, c.len-i-end.ensures) in
     let it = ap (has_night s) (sym c.index.ensures) ∙ sym c.has_night_of.ensures ∙ c.if-not-has_night_of.true in
@@ -17,7 +17,7 @@ returns-then-not-has_night_of c =
 pub loop-i-preserved : goal.loop-i-preserved
 loop-i-preserved c =
     let s = c.args.stored.now in
-    let xs = s.stays.items in
+    let xs = s.stay.items in
     let i = c.loop-i.i in
     let here : i < length xs = omega (arith, c.loop-i-test.true, c.len-i-end.ensures) in
     let it = ap (has_night s) (sym c.index.ensures) ∙ sym c.has_night_of.ensures ∙ c.if-not-has_night_of.false in

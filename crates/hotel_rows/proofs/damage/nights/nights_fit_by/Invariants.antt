@@ -5,4 +5,4 @@ use Rattle.hotel_rows.proofs.damage.nights.nights_fit_by.Given as goal
 
 abbrev pub invariant-loop-i : goal.invariant-loop-i
 invariant-loop-i l =
-    list_all (has_night l.stored) l.stored.stays.items ≡ list_all (has_night l.stored) (drop l.i l.stored.stays.items)
+    list_all (has_night l.stored) l.stored.stay.items ≡ list_all (has_night l.stored) (drop l.i l.stored.stay.items)

@@ -4,5 +4,5 @@ use Rattle.hotel_rows.specs.Owners.{is_own}
 use Rattle.hotel_rows.proofs.damage.owners.all_own.Given as goal
 
 abbrev pub invariant-loop-i : goal.invariant-loop-i
-invariant-loop-i l = list_all (is_own l.stored.cards.items) l.stored.cards.items
-    ≡ list_all (is_own l.stored.cards.items) (drop l.i l.stored.cards.items)
+invariant-loop-i l = list_all (is_own l.stored.card.items) l.stored.card.items
+    ≡ list_all (is_own l.stored.card.items) (drop l.i l.stored.card.items)

@@ -3,7 +3,7 @@ use Rattle.std.specs.Prelude.{bytes_eq, string_bytes}
 use Rattle.std.specs.List.{list_any}
 use Rattle.hotel_model.specs.Rows.{has_kind}
 use Rattle.hotel_rows.specs.Stored.{number_of, room_row, rows_of}
-use Rattle.hotel_rows.specs.Damage.{most_notes, room_columns}
+use Rattle.hotel_rows.specs.Damage.{most_notes, are_room_columns}
 use Rattle.hotel_rows.specs.RowTests.{is_room_number, has_few_codes, is_at_home, is_secured_as_due}
 use Rattle.hotel_rows.proofs.damage.rooms.room_fits.Goals as goal
 
@@ -18,7 +18,7 @@ returns-then-not-has_kind c =
     let s = c.args.stored.now in
     let plain = c.args.room.now in
     let rows = rows_of s in
-    fourth_fails (room_columns plain) (is_room_number plain)
+    fourth_fails (are_room_columns plain) (is_room_number plain)
     (nat_lt (number_of plain.lock_place) (number_of plain.codes)) (has_kind rows (string_bytes plain.kind))
     (has_few_codes s plain)
     (nat_le (number_of plain.notes) (most_notes s)) (is_at_home rows (room_row plain)) (is_secured_as_due s plain)

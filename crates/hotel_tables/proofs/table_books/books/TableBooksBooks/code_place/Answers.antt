@@ -9,7 +9,7 @@ returns g c =
     asked_then_looked g.S.Store c.args.self.now c.ask.new.self c.counting.new.self _ asked.ready asked.no_fewer
     asked.counted (λ rows. code_place rows c.args.code)
     (look_up_counted g.S.Store _ _ c.self.view_is _ _ c.counting.ensures.conn c.counting.ensures.no_fewer
-    (λ clean. (asked.ready.unchanged clean).0.is_open) (λ _ _. of_code c.args.code) c.code-place.ensures
+    (λ clean. (asked.ready.unchanged clean).0.is_open) (λ _ _. of_code c.args.code) c.code_place-place.ensures
     c.counting.ensures.same c.counting.ensures.counted)
 
 pub returns-in_err-ask : goal.returns-in_err-ask

@@ -1,0 +1,137 @@
+//! Walks over books in memory of which one call fails.
+ghost use Rattle.std.specs.Prelude.{◌≡◌, Err, IfSome, Some};
+ghost use Rattle.keycard_rules.specs.Rise.{Counts, HasRisen, NoFewer, one_of};
+ghost use Rattle.hotel_core.specs.Books.Walks.{failure_of};
+ghost use Rattle.stopping_books.specs.Stops.{counts, EndsAs};
+
+use crate::calls::Calls;
+use crate::stopping_books::StoppingBooks;
+use hotel_core::{BehindRow, ChainRow, HouseRow, Sink, Stop, WalkFault, Walks};
+use hotel_nights::{Day, Stay};
+use keycard_rules::{LockNote, LookFault, RoomNo};
+
+/// A sink that hands rows on to another one, up to the call that fails.
+#[derive(Drop)]
+pub(crate) struct Passing<'a, S> {
+    sink: &'a mut S,
+    calls: Calls,
+    /// Whether it stopped since the call failed, and not since the other sink stopped.
+    failed: bool,
+}
+
+impl<'a, S> Passing<'a, S> {
+    /// No row is handed on yet.
+    fn new(sink: &'a mut S, calls: Calls) -> Passing<'a, S>
+        ensures same_sink { result.sink.ghost_name ≡ sink.entry.ghost_name }
+        ensures untouched { result.sink.now ≡ sink.old }
+    {
+        Passing {
+            sink,
+            calls,
+            failed: false,
+        }
+    }
+}
+
+impl<'a, R, S: Sink<R>> Sink<R> for Passing<'a, S> {
+    ghost use Rattle.std.specs.Prelude.{◌≡◌};
+    ghost use Rattle.stopping_books.specs.Stops.{StopsEither};
+
+    ghost after = { λ old row new. (new.sink.ghost_name ≡ old.sink.ghost_name)
+        × S.after old.sink.now row new.sink.now };
+
+    ghost after_stop = { λ old row new. (new.sink.ghost_name ≡ old.sink.ghost_name)
+        × StopsEither new.failed (new.sink.now ≡ old.sink.now) (S.after_stop old.sink.now row new.sink.now) };
+
+    fn take(&mut self, row: &R) -> Result<(), Stop> {
+        self.failed = self.calls.fails();
+        if self.failed {
+            return Err(Stop);
+        }
+        self.sink.take(row)
+    }
+}
+
+impl StoppingBooks {
+    /// The fault of a walk that failed for this cause, which is counted.
+    fn walk_failed(&mut self, cause: LookFault) -> WalkFault
+        ensures same { failure_of (Err result) ≡ Some cause }
+        ensures rows { self.new.rows ≡ self.old.rows }
+        ensures no_fewer { NoFewer (counts self.old) (counts self.new) }
+        ensures counted { Counts (λ why. one_of why (failure_of (Err result))) (counts self.old) (counts self.new) }
+        ensures rose { HasRisen (counts self.old cause) (counts self.new cause) }
+    {
+        self.count(cause);
+        match cause {
+            LookFault::Memory => WalkFault::Memory,
+            LookFault::Store => WalkFault::Store,
+        }
+    }
+
+    /// How a walk ends that the books in memory ended so, after these calls.
+    fn ended(
+        &mut self,
+        end: Result<(), WalkFault>,
+        calls: Calls,
+        failed: bool,
+    ) -> Result<(), WalkFault>
+        ensures ends { EndsAs end failed result }
+        ensures rows { self.new.rows ≡ self.old.rows }
+        ensures no_fewer { NoFewer (counts self.old) (counts self.new) }
+        ensures counted { Counts (λ why. one_of why (failure_of result)) (counts self.old) (counts self.new) }
+        ensures rose { IfSome (failure_of result) (λ cause. HasRisen (counts self.old cause) (counts self.new cause)) }
+    {
+        self.calls = calls;
+        match end {
+            Ok(()) => match self.begin() {
+                Ok(()) => Ok(()),
+                Err(LookFault::Memory) => Err(WalkFault::Memory),
+                Err(LookFault::Store) => Err(WalkFault::Store),
+            },
+            Err(WalkFault::Memory) => Err(self.walk_failed(LookFault::Memory)),
+            Err(WalkFault::Store) => Err(self.walk_failed(LookFault::Store)),
+            Err(WalkFault::Stopped) if failed => Err(self.walk_failed(self.cause())),
+            Err(WalkFault::Stopped) => Err(WalkFault::Stopped),
+        }
+    }
+}
+
+impl Walks for StoppingBooks {
+    fn walk_arrivals<S: Sink<Stay>>(&mut self, day: Day, sink: &mut S) -> Result<(), WalkFault> {
+        let mut passing = Passing::new(sink, self.calls);
+        let end = self.books.walk_arrivals(day, &mut passing);
+        self.ended(end, passing.calls, passing.failed)
+    }
+
+    fn walk_in_house<S: Sink<HouseRow>>(&mut self, sink: &mut S) -> Result<(), WalkFault> {
+        let mut passing = Passing::new(sink, self.calls);
+        let end = self.books.walk_in_house(&mut passing);
+        self.ended(end, passing.calls, passing.failed)
+    }
+
+    fn walk_chain<S: Sink<ChainRow>>(
+        &mut self,
+        room: RoomNo,
+        sink: &mut S,
+    ) -> Result<(), WalkFault> {
+        let mut passing = Passing::new(sink, self.calls);
+        let end = self.books.walk_chain(room, &mut passing);
+        self.ended(end, passing.calls, passing.failed)
+    }
+
+    fn walk_left_behind<S: Sink<BehindRow>>(&mut self, sink: &mut S) -> Result<(), WalkFault> {
+        let mut passing = Passing::new(sink, self.calls);
+        let end = self.books.walk_left_behind(&mut passing);
+        self.ended(end, passing.calls, passing.failed)
+    }
+
+    fn walk_audit<S: Sink<LockNote>>(
+        &mut self,
+        room: RoomNo,
+        sink: &mut S,
+    ) -> Result<(), WalkFault> {
+        let mut passing = Passing::new(sink, self.calls);
+        let end = self.books.walk_audit(room, &mut passing);
+        self.ended(end, passing.calls, passing.failed)
+    }
+}
