@@ -24,7 +24,7 @@ use Rattle.hotel_audit.specs.Import.{replies_in, told_by_import}
 use Rattle.hotel_audit.proofs.NoteReplies.{answered_is, answered_sure, failed_reply, failure_told}
 use Rattle.hotel_audit.proofs.ShutImports.{no_words, since_lines}
 
--- a call that told a failure, where that is known of honest books alone
+-- a call that reported a failure, where that is known of honest books alone
 leaves_as : {B : Type 0} {K : KeptOf B} {old new : B} {told other : Option LookFault}
     → (K.is_honest new → told ≡ other) → Leaves K old told new → Leaves K old other new
 leaves_as {K = K} {old = old} {new = new} e l = record {
@@ -38,7 +38,7 @@ never : {why : LookFault} {answer : LineAnswer} → ◌≡◌ {A = Result LineAn
 never e = cc
 
 module _ {B : Type 0} (K : KeptOf B) (rows : B → Rows) where
-  -- no call of the answered lines told a failure
+  -- no call of the answered lines reported a failure
   calls_of : (old new : B) (lines : List Line) (answers : List LineAnswer) → AreAnswered lines answers
       → Passes (LineImported K rows) old (zip lines answers) new
       → Passes (Leaves K) old (map (λ command. None) (commands_of lines)) new
@@ -66,7 +66,8 @@ module _ {B : Type 0} (K : KeptOf B) (rows : B → Rows) where
   runs_of source old new [] (a ∷ answers) each p = absurd each
   runs_of source old new (l ∷ lines) [] each p = absurd each
   runs_of source old new (line.Unread cause ∷ lines) (a ∷ answers) each p =
-      rw (each.0) (subst (λ b. Happens K rows b (λ h h'. Runs h source (commands_of lines) (replies_in answers) h' source) new)
+      rw (each.0)
+      (subst (λ b. Happens K rows b (λ h h'. Runs h source (commands_of lines) (replies_in answers) h' source) new)
       p.1.1 (runs_of source p.0 new lines answers each.1 p.2))
   runs_of source old new (line.Note note ∷ lines) (a ∷ answers) each p = λ honest h reached stands.
       let given = p.1.0 in
@@ -78,7 +79,8 @@ module _ {B : Type 0} (K : KeptOf B) (rows : B → Rows) where
         l.0,
         l.1,
         l.2,
-        subst (λ said. Runs h source (command.Reported note ∷ commands_of lines) (behind_reply said (replies_in answers))
+        subst
+            (λ said. Runs h source (command.Reported note ∷ commands_of lines) (behind_reply said (replies_in answers))
             l.0 source) (sym (answered_is given a p.1.1)) r,
         l.4,
       )
@@ -91,7 +93,7 @@ module _ {B : Type 0} (K : KeptOf B) (rows : B → Rows) where
   failed_note file lines behind new why (line.Unread cause, rest, is, goes) = absurd (never goes.0)
   failed_note file lines behind new why (line.Note note, rest, is, goes) = (note, goes.0, goes.1, goes.2, goes.3)
 
-  -- it told so
+  -- it reported so
   fails_told : (file : Result (List Line) AuditFault) (lines : List Line) (behind new : B) (why : LookFault)
       → NextFails K rows file lines behind why new → Leaves K behind (Some why) new
   fails_told file lines behind new why fails =

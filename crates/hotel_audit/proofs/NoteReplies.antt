@@ -57,7 +57,7 @@ failed_reply (reply.Refused r) why e n = by (is_failed (reply.Refused r)) refl
     by false q = let f = rw q at e in cc f
 failed_reply _ why e n = absurd n
 
--- the failure that is told is the one that the reply tells
+-- the failure that is reported is the one of the reply
 pub failure_told : (given : Reply) (why : LookFault)
     → Err why ≡ answer_of given → is_failed given ≡ true → failure_in given ≡ Some why
 failure_told (reply.Refused refusal.Memory) why e f = let same : why ≡ look.Memory = cc e in rw same refl

@@ -27,9 +27,9 @@ field_texts f = record {
   moment = f.moment.now;
 }
 
--- the fields of a record, where they are eight
-abbrev pub eight_fields : List (List ℕ) → Option FieldTexts
-eight_fields (room ∷ fit ∷ count ∷ kind ∷ card ∷ old_code ∷ new_code ∷ moment ∷ []) =
+-- the fields of a record of this room and fit, where the others are six
+abbrev pub fields_behind : List ℕ → List ℕ → List (List ℕ) → Option FieldTexts
+fields_behind room fit (count ∷ kind ∷ card ∷ old_code ∷ new_code ∷ moment ∷ []) =
     Some (record {
       room = room;
       fit = fit;
@@ -40,24 +40,10 @@ eight_fields (room ∷ fit ∷ count ∷ kind ∷ card ∷ old_code ∷ new_code
       new_code = new_code;
       moment = moment;
     })
-eight_fields _ = None
+fields_behind room fit _ = None
 
--- the fields of a record, where they are seven: it is as if it named the room's first lock
-abbrev pub seven_fields : List (List ℕ) → Option FieldTexts
-seven_fields (room ∷ count ∷ kind ∷ card ∷ old_code ∷ new_code ∷ moment ∷ []) =
-    Some (record {
-      room = room;
-      fit = codes "1";
-      count = count;
-      kind = kind;
-      card = card;
-      old_code = old_code;
-      new_code = new_code;
-      moment = moment;
-    })
-seven_fields _ = None
-
--- the fields of a record, where they are as many as the columns
+-- the fields of a record, where they are as many as the columns: eight; or seven, where it is of the room's first lock
 abbrev pub fields_under : Columns → List (List ℕ) → Option FieldTexts
-fields_under WithFit fields = eight_fields fields
-fields_under WithoutFit fields = seven_fields fields
+fields_under WithFit (room ∷ fit ∷ others) = fields_behind room fit others
+fields_under WithoutFit (room ∷ others) = fields_behind room (codes "1") others
+fields_under columns _ = None

@@ -150,8 +150,8 @@ failures_of (Err (Memory answered taken)) = Some look.Memory ∷ []
 failures_of (Err (Store answered taken)) = Some look.Store ∷ []
 failures_of _ = []
 
--- What the calls of an import told that ended so behind these lines: each note was answered, and where it was stopped
--- the next one failed.
+-- What the calls of an import reported that ended so behind these lines: each note was answered, and where it was
+-- stopped the next one failed.
 abbrev pub told_by_import : List Line → Result (List LineAnswer) ImportFault → List (Option LookFault)
 told_by_import lines outcome = map (λ command. None) (commands_of lines) ++ failures_of outcome
 

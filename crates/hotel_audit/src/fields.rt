@@ -1,11 +1,11 @@
 //! The fields of an audit file's record.
 
-ghost use Rattle.std.specs.Prelude.{◌≡◌, option_map};
+ghost use Rattle.std.specs.Prelude.{◌≡◌, drop, option_map};
 ghost use Rattle.csv.specs.Records.{fields_of};
-ghost use Rattle.hotel_audit.specs.Fields.{eight_fields, fields_under, seven_fields, field_texts};
+ghost use Rattle.hotel_audit.specs.Fields.{field_texts, fields_behind, fields_under};
 
 use crate::header::Columns;
-use csv::ByteRecord;
+use csv::{ByteRecord, ByteRecordIter};
 
 /// The fields of a record, each as its bytes.
 #[derive(Clone, Copy)]
@@ -20,50 +20,43 @@ pub(crate) struct Fields<'a> {
     pub moment: &'a [u8],
 }
 
-/// The fields of a record; None where they aren't eight.
-pub(crate) fn eight_fields(row: &ByteRecord) -> Option<Fields<'_>>
-    ensures { option_map field_texts result ≡ eight_fields (fields_of row.now) }
+/// The fields of a record of this room and fit, of which these are left; None where they aren't six.
+fn fields_behind<'a>(
+    room: &'a [u8],
+    fit: &'a [u8],
+    mut left: ByteRecordIter<'a>,
+) -> Option<Fields<'a>>
+    ensures { option_map field_texts result
+        ≡ fields_behind room.now fit.now (drop left.entry.at (fields_of left.entry.row.now)) }
 {
-    if row.len() != 8 {
-        return None;
+    let fields = Fields {
+        room,
+        fit,
+        count: left.next()?,
+        kind: left.next()?,
+        card: left.next()?,
+        old_code: left.next()?,
+        new_code: left.next()?,
+        moment: left.next()?,
+    };
+    match left.next() {
+        None => Some(fields),
+        Some(_) => None,
     }
-    Some(Fields {
-        room: row.get(0)?,
-        fit: row.get(1)?,
-        count: row.get(2)?,
-        kind: row.get(3)?,
-        card: row.get(4)?,
-        old_code: row.get(5)?,
-        new_code: row.get(6)?,
-        moment: row.get(7)?,
-    })
 }
 
-/// The fields of a record, of the room's first lock; None where they aren't seven.
-pub(crate) fn seven_fields(row: &ByteRecord) -> Option<Fields<'_>>
-    ensures { option_map field_texts result ≡ seven_fields (fields_of row.now) }
-{
-    if row.len() != 7 {
-        return None;
-    }
-    Some(Fields {
-        room: row.get(0)?,
-        fit: b"1".as_slice(),
-        count: row.get(1)?,
-        kind: row.get(2)?,
-        card: row.get(3)?,
-        old_code: row.get(4)?,
-        new_code: row.get(5)?,
-        moment: row.get(6)?,
-    })
-}
-
-/// The fields of a record; None where they aren't as many as the columns.
+/// The fields of a record; None where they aren't as many as the columns. Without a column of fits it is of the room's
+/// first lock.
 pub(crate) fn fields_of_record(row: &ByteRecord, columns: Columns) -> Option<Fields<'_>>
     ensures { option_map field_texts result ≡ fields_under columns (fields_of row.now) }
 {
+    let mut left = row.iter();
+    let room = left.next()?;
     match columns {
-        Columns::WithFit => eight_fields(row),
-        Columns::WithoutFit => seven_fields(row),
+        Columns::WithFit => {
+            let fit = left.next()?;
+            fields_behind(room, fit, left)
+        }
+        Columns::WithoutFit => fields_behind(room, b"1", left),
     }
 }

@@ -34,8 +34,7 @@ pub fn stopped_and_sent_again()
 /// counts 1, 2 and so on, each once.
 ///
 /// The history is then the one before the files and the events of the notes that were answered Taken, in order, so that
-/// the tables are those of these events.
-/// The last two clauses speak of other commands between the files too.
+/// the tables are those of these events. The last two clauses speak of other commands between the files too.
 pub fn files_counted()
     ensures of_files { FilesCounted }
     ensures of_histories { NotesCounted }

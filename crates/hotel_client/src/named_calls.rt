@@ -1,5 +1,5 @@
-//! Calls that somebody else's program makes by name, with ample memory: notes that are read and reported, words, commands
-//! alone, and connections over a listener of its own.
+//! Calls that somebody else's program makes by name, with ample memory: notes that are read and reported, words,
+//! commands alone, and connections over a listener of its own.
 ghost use Rattle.std.specs.Prelude.{◌≡◌, OnOk};
 ghost use Rattle.std.specs.Duration.{as_nanos};
 
@@ -91,7 +91,7 @@ fn words_parsed(rt: HostRuntime) -> Result<(), Fail> {
     Ok(())
 }
 
-/// The line's command alone is answered so, with this status, and no fault is told.
+/// The line's command alone is answered so, with this status, and no fault is reported.
 fn is_answered(
     alloc: Global,
     desk: &mut Desk,

@@ -179,3 +179,19 @@ fn sound_tables(rt: HostRuntime) -> Result<(), Fail> {
     assert!(rt; first_damaged(rt.alloc(), &stored) == Ok(Some(TableName::Card)));
     Ok(())
 }
+
+/// A fit of a room that isn't there: the schema refuses it too, so no damaged database shows it.
+#[test]
+fn a_fit_without_its_room(rt: HostRuntime) -> Result<(), Fail> {
+    let mut conn = two_entries_in_tables(rt.alloc())?.books.close();
+    let mut stored = stored(rt.alloc(), &mut conn)?;
+    let fits = stored.fit.as_mut().ok_or("no table of fits")?;
+    fits.push(PlainFit {
+        room: 102,
+        fit: 1,
+        place: 0,
+        before: 0,
+    })?;
+    assert!(rt; first_damaged(rt.alloc(), &stored) == Ok(Some(TableName::Fit)));
+    Ok(())
+}

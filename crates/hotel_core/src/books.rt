@@ -22,7 +22,7 @@ use keycard_rules::{
 /// The books of the desk: nine tables, each seen as the list of its rows in the order of their keys.
 ///
 /// A look-up changes nothing but the counts of failures. What is answered is so where the state is honest as the call
-/// ends. What is answered for want of memory or by the store's failure is counted, each by its cause.
+/// ends. What is answered for lack of memory or by the store's failure is counted, each by its cause.
 pub trait Books: Issued {
     /// The rows of the nine tables.
     ghost rows: { Self → Rows };
@@ -30,7 +30,7 @@ pub trait Books: Issued {
     /// What a stop leaves in a change, or after it, from the first state to the second.
     ghost leaves_change: { Change → Self → Self → Type 0 };
 
-    /// Why a change from the first state to the second isn't made, but for want of memory: a call of the store failed.
+    /// Why a change from the first state to the second isn't made, but for lack of memory: a call of the store failed.
     ghost change_fails: { Change → Self → Self → Type 0 };
 
     /// The business day, once it is set.

@@ -190,8 +190,7 @@ impl NightIndex {
     }
 
     /// The first night from `arrive` on and before `depart` that so many of the stays, or more, take in rooms of the
-    /// kind,
-    /// where these are the stays that are counted. It takes no memory.
+    /// kind, where these are the stays that are counted. It takes no memory.
     pub fn full_night(&self, kind: &KindCode, rooms: u32, arrive: Day, depart: Day) -> Option<Day>
         ensures { (stays : List Stay) → CountsNights self.now stays
             → result ≡ first_day (is_full stays kind.now rooms) arrive (depart - arrive) }

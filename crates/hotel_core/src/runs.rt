@@ -8,7 +8,7 @@ use hotel_model::{Command, Reply};
 use rand_core::Rng;
 use std::alloc::Global;
 
-/// Want of memory for the replies: no command was begun, and so 0 were answered.
+/// Lack of memory for the replies: no command was begun, and so 0 were answered.
 #[derive(Clone, Copy, Debug, PartialEq, Eq)]
 pub struct RunFault {
     pub answered: usize,

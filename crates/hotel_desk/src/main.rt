@@ -13,8 +13,7 @@ use std::process::ExitCode;
 /// The program over the system's streams, with books over these stores. It answers the exit status.
 ///
 /// Here the store is a parameter, and in `run_on` the disk: what the books and the store know is compared as it stands
-/// here,
-/// and not with all that is below it.
+/// here, and not with all that is below it.
 fn run_over<S: Alter + Drop, E: Databases<TableBooks<S>>>(rt: &HostRuntime, around: &mut E) -> u8 {
     let mut reader = rt.stdin().lock();
     let mut writer = rt.stdout().lock();

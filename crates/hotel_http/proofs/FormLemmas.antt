@@ -1,61 +1,61 @@
--- The fields of a form that are looked at one after the other.
-use Rattle.std.proofs.Common.{◌≡◌, ℕ, List, [], ◌∷◌, ◌++◌, map, sym, ap, ◌∙◌, refl, cond, true, false, append_assoc}
-use Rattle.std.proofs.Common.{append-nil, subst, Result, Ok, IfOk, filter}
+-- The fields of a name, which an iterator gives one after the other.
+use Rattle.std.proofs.Common.{◌≡◌, ℕ, ◌<◌, List, [], ◌∷◌, map, filter, length, ap, sym, refl, cond, true, false, arith}
+use Rattle.std.proofs.Common.{Option, Some, None, ◌∙◌, Bor}
+use Rattle.std.proofs.lemmas.Iterator.{YieldsList}
+use Rattle.std.proofs.lemmas.Iterator.Consumers.{YieldsList-turn, YieldsList-end}
+use Rattle.std.specs.Option.{option_map}
 use Rattle.std.specs.Str.{bytes_eq}
-use Rattle.std.specs.Str.Lossy.{utf8_lossy}
 use Rattle.std.specs.Cow.{cow_str_bytes}
-use Rattle.std.specs.declared.alloc.AllocError.{AllocError}
-use Rattle.std.specs.declared.alloc.Global.{Global}
-use Rattle.std.specs.declared.borrow.CowStr.{CowStr}
-use Rattle.form_urlencoded.specs.Form.{decode, DecodesTo}
-use Rattle.hotel_http.specs.{Fields.Pair, Form.decoded, Form.texts_named, Form.text_of_field, Form.TellsTexts}
-use Rattle.hotel_http.specs.{declared.form.Texts.Texts}
+use Rattle.hotel_http.specs.{Fields.Pair, declared.form.Field.Field, Form.field_read, Form.texts_named, Form.only}
 
-texts_cons : (name : List ℕ) (p : Pair) (rest : List Pair)
-    → texts_named name (p ∷ rest) ≡ text_of_field name (decoded p.0) (decoded p.1) ++ texts_named name rest
+-- the fields of this name
+abbrev pub fields_named : List ℕ → List Field → List Field
+fields_named name fields = filter (λ field. bytes_eq (cow_str_bytes field.name) name) fields
+
+abbrev pub text_of : Field → List ℕ
+text_of field = cow_str_bytes field.text
+
+texts_read : (name : List ℕ) (fields : List Field)
+    → texts_named name (map field_read fields) ≡ map text_of (fields_named name fields)
 unfolding texts_named
-texts_cons name p rest =
-    let f = λ (pair : Pair). decoded pair.1 in
-    let left = filter (λ (pair : Pair). bytes_eq (decoded pair.0) name) rest in
-    elim (bytes_eq (decoded p.0) name) as (λ b. map f (cond b (p ∷ left) left)
-    ≡ cond b (f p ∷ []) [] ++ map f left) [ true ↦ refl | false ↦ refl ]
+texts_read name [] = refl
+texts_read name (field ∷ fields) =
+    let left = filter (λ (pair : Pair). bytes_eq pair.0 name) (map field_read fields) in
+    let named = fields_named name fields in
+    elim (bytes_eq (cow_str_bytes field.name) name) as (λ b. map (λ (pair : Pair). pair.1)
+    (cond b (field_read field ∷ left) left) ≡ map text_of (cond b (field ∷ named) named)) [
+      | true ↦ ap (λ (l : List (List ℕ)). text_of field ∷ l) (texts_read name fields)
+      | false ↦ texts_read name fields
+    ]
 
-field_next : (name : List ℕ) (seen whole : List (List ℕ)) (before left : List Pair) (n v field text : List ℕ)
-    → seen ++ texts_named name before ≡ whole
-    → before ≡ (n, v) ∷ left → field ≡ utf8_lossy (decode n) → text ≡ utf8_lossy (decode v)
-    → (seen ++ text_of_field name field text) ++ texts_named name left ≡ whole
-field_next name seen whole before left n v field text e cut a b =
-    append_assoc seen (text_of_field name field text) (texts_named name left)
-    ∙ ap (λ (l : List ℕ). seen ++ (text_of_field name l text ++ texts_named name left)) a
-    ∙ ap (λ (l : List ℕ). seen ++ (text_of_field name (utf8_lossy (decode n)) l ++ texts_named name left)) b
-    ∙ ap (λ (l : List (List ℕ)). seen ++ l) (sym (texts_cons name (n, v) left))
-    ∙ ap (λ (l : List Pair). seen ++ texts_named name l) (sym cut)
-    ∙ e
+-- the first of two, where the second isn't there
+abbrev pub alone : {A : Type 0} → Option A → Option A → Option A
+alone (Some x) None = Some x
+alone (Some x) (Some y) = None
+alone None second = None
 
--- The texts of the fields so far, and those of the fields that are left, are the whole.
-abbrev pub Found : List ℕ → Texts → List Pair → List (List ℕ) → Type 0
-Found name found left whole = (seen : List (List ℕ)) × TellsTexts seen found × (seen ++ texts_named name left ≡ whole)
+none_of_more : {A B : Type 0} (f : A → B) (all : List A) → 1 < length all → only (map f all) ≡ None
+none_of_more f [] more = absurd (omega (arith, more))
+none_of_more f (x ∷ []) more = absurd (omega (arith, more))
+none_of_more f (x ∷ y ∷ all) more = refl
 
--- One more field, which is the first of those that are left.
-pub found_next : (name : List ℕ) (found new : Texts) (before left : List Pair)
-    (whole : List (List ℕ)) (field text : CowStr Global)
-    (item : Result (CowStr Global × CowStr Global) AllocError) → item ≡ Ok (field, text) → Found name found before whole
-    → (n : List ℕ) × (v : List ℕ) × (before ≡ (n, v) ∷ left)
-    × IfOk item (λ pair. DecodesTo n (cow_str_bytes pair.0) × DecodesTo v (cow_str_bytes pair.1))
-    → ((texts : List (List ℕ)) → TellsTexts texts found
-    → TellsTexts (texts ++ text_of_field name (cow_str_bytes field) (cow_str_bytes text)) new)
-    → Found name new left whole
-found_next name found new before left whole field text item is (seen, tells, e) (n, v, cut, decoded) more =
-    let (f, t) = subst (λ i. IfOk i (λ (pair : CowStr Global × CowStr Global). DecodesTo n (cow_str_bytes pair.0)
-    × DecodesTo v (cow_str_bytes pair.1))) is decoded in (
-      seen ++ text_of_field name (cow_str_bytes field) (cow_str_bytes text),
-      more seen tells,
-      field_next name seen whole before left n v _ _ e cut f.2 t.2,
-    )
+-- What an iterator gives alone is the only one of its list.
+only_given : {S A B C : Type 0} {steps : S → Option A → S → Type 0} {v : A → B} {s t u : S} {all : List B}
+    (f : B → C) → YieldsList steps v s all → (first second : Option A) → steps s first t → steps t second u
+    → only (map f all) ≡ option_map (λ x. f (v x)) (alone first second)
+only_given f road None second one two = ap (λ l. only (map f l)) (sym (YieldsList-end road [] _ refl _ _ refl one).0)
+only_given f road (Some x) None one two =
+    ap (λ l. only (map f l)) (sym (YieldsList-end road (x ∷ []) _ (_, one, refl) _ _ refl two).0)
+only_given {all = all} f road (Some x) (Some y) one two =
+    none_of_more f all (YieldsList-turn road (x ∷ []) _ (_, one, refl) _ _ y refl two).0
 
--- No field is left.
-pub fields_end : (name : List ℕ) (seen whole : List (List ℕ)) (before : List Pair)
-    → seen ++ texts_named name before ≡ whole → before ≡ [] → seen ≡ whole
-unfolding texts_named
-fields_end name seen whole before e none =
-    sym (append-nil seen) ∙ ap (λ (l : List Pair). seen ++ texts_named name l) (sym none) ∙ e
+-- The field that an iterator over those of a name gives alone has the text that stands once.
+pub only_text : {S : Type 0} {steps : S → Option (Bor Field) → S → Type 0} {s t u : S} {form : List Pair}
+    (name : List ℕ) (fields : List Field) → map field_read fields ≡ form
+    → YieldsList steps (λ field. field.now) s (fields_named name fields)
+    → {first second : Option (Bor Field)} → steps s first t → steps t second u
+    → (found : Option (Bor Field)) → alone first second ≡ found
+    → option_map (λ field. text_of field.now) found ≡ only (texts_named name form)
+only_text name fields read road {first} {second} one two found is =
+    ap (option_map (λ field. text_of field.now)) (sym is) ∙ sym (only_given text_of road first second one two)
+    ∙ ap only (sym (texts_read name fields) ∙ ap (texts_named name) read)

@@ -1,23 +1,26 @@
 -- The fields of a form.
-use Rattle.std.specs.Prelude.{◌≡◌, ℕ, ◌<◌, length, List, [], ◌∷◌, map, filter, if◌then◌else◌, Option, Some, None}
+use Rattle.std.specs.Prelude.{ℕ, List, [], ◌∷◌, map, filter, Option, Some, None}
 use Rattle.std.specs.Cow.{cow_str_bytes}
 use Rattle.std.specs.Str.{bytes_eq}
 use Rattle.std.specs.Str.Lossy.{utf8_lossy}
 use Rattle.form_urlencoded.specs.Form.{raw_pairs, decode}
-use Rattle.hotel_http.specs.{Fields.Pair, declared.form.Texts.Texts}
-use Rattle.hotel_http.specs.declared.form.Texts.TheVariants.{Absent, Once, Often}
+use Rattle.hotel_http.specs.{Fields.Pair, declared.form.Field.Field}
 
--- the text that a name or a value of a form stands for
-abbrev pub decoded : List ℕ → List ℕ
-decoded raw = utf8_lossy (decode raw)
+-- the texts that a name and a value of a form stand for
+abbrev pub decoded : Pair → Pair
+decoded (name, value) = (utf8_lossy (decode name), utf8_lossy (decode value))
+
+-- the fields of a form, in order
+abbrev pub form_fields : List ℕ → List Pair
+form_fields body = map decoded (raw_pairs body)
+
+-- the name and the text of a field that was read
+abbrev pub field_read : Field → Pair
+field_read field = (cow_str_bytes field.name, cow_str_bytes field.text)
 
 -- the texts of the fields of this name, in order
 unfoldable pub texts_named : List ℕ → List Pair → List (List ℕ)
-texts_named name pairs = map (λ pair. decoded pair.1) (filter (λ pair. bytes_eq (decoded pair.0) name) pairs)
-
--- the text of one field, where it has the name
-abbrev pub text_of_field : List ℕ → List ℕ → List ℕ → List (List ℕ)
-text_of_field name field text = if bytes_eq field name then text ∷ [] else []
+texts_named name fields = map (λ field. field.1) (filter (λ field. bytes_eq field.0 name) fields)
 
 -- the only one
 abbrev pub only : {A : Type 0} → List A → Option A
@@ -27,10 +30,4 @@ only (text ∷ other ∷ texts) = None
 
 -- the text of a form's field that stands once
 abbrev pub form_text : List ℕ → List ℕ → Option (List ℕ)
-form_text name body = only (texts_named name (raw_pairs body))
-
--- How often a field stands is told, and its text where it stands once.
-abbrev pub TellsTexts : List (List ℕ) → Texts → Type 0
-TellsTexts texts Absent = texts ≡ []
-TellsTexts texts (Once text) = texts ≡ cow_str_bytes text ∷ []
-TellsTexts texts Often = 1 < length texts
+form_text name body = only (texts_named name (form_fields body))

@@ -76,7 +76,7 @@ abbrev pub imported : Result (List LineAnswer) ImportFault → FullAnswer
 imported (Ok answers) = full_answer (lines_answer answers) Success (has_taken answers)
 imported (Err why) = full_answer (fault_answer why) (import_status why) (taken_before_fault why)
 
--- The answer to a list, by what its calls told: it in full or that its room isn't there; or the failure.
+-- The answer to a list, by what its calls reported: it in full or that its room isn't there; or the failure.
 abbrev pub ListComes : Option Listing → FullAnswer → Told → Type 0
 ListComes listing out told = ((out ≡ list_reply listing) × NoCallFailed told)
     ⊎ ((why : LookFault) × (out ≡ replied (reply.Refused (refusal_of why))) × ListFailed why told)
@@ -116,7 +116,7 @@ EndsAs out before old new (Ok served) =
     (served.status ≡ out.status) × (served.acted ≡ out.acted) × Appends old new (before ++ out.text)
 EndsAs out before old new (Err cut) = (cut.acted ≡ out.acted) × AppendsFront old new (before ++ out.text)
 
--- This came of calls that told this, and its answer was written so behind this text.
+-- This came of calls that reported this, and its answer was written so behind this text.
 abbrev pub Answered : (History → Stream → FullAnswer → Told → History → Stream → Type 0) → Stream → Stream → List ℕ
     → Option (List ℕ) → Option (List ℕ) → AnswerEnd → Told → History → History → Type 0
 Answered came s s' before old new end told h h' =

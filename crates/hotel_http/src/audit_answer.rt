@@ -25,8 +25,7 @@ fn answers_size(answers: &[LineAnswer]) -> u128
     size
 }
 
-/// Writes the answer to an audit file whose lines were all answered. After a fault the writer took a
-/// front of it.
+/// Writes the answer to an audit file whose lines were all answered. After a fault the writer took a front of it.
 pub fn write_audit<W: Write>(
     writer: &mut W,
     answers: &[LineAnswer],
@@ -72,8 +71,7 @@ fn fault_body(why: &ImportFault) -> HeadText
     text
 }
 
-/// Writes the answer to an audit file whose import has no answers. After a fault the writer took a
-/// front of it.
+/// Writes the answer to an audit file whose import has no answers. After a fault the writer took a front of it.
 pub fn write_fault<W: Write>(
     writer: &mut W,
     why: &ImportFault,

@@ -1,61 +1,59 @@
 //! The fields of a form.
 
-ghost use Rattle.std.specs.Prelude.{◌≡◌, ◌++◌, List, ℕ, IfOk};
-ghost use Rattle.std.specs.Cow.{cow_str_bytes};
+ghost use Rattle.std.specs.Prelude.{◌≡◌, IfOk};
 ghost use Rattle.std.specs.Option.{option_map};
-ghost use Rattle.hotel_http.specs.Form.{TellsTexts, text_of_field, only, form_text};
+ghost use Rattle.hotel_http.specs.Form.{form_fields, texts_named, only};
 
 use std::alloc::{AllocError, Global};
 use std::borrow::CowStr;
+use std::marker::Model;
 
-/// How often a field of a form stands, and its text where it stands once.
+/// A field of a form. What needs no decoding is borrowed from the body.
 #[derive(Drop)]
-enum Texts<'b> {
-    Absent,
-    Once(CowStr<'b, Global>),
-    Often,
-}
-
-/// What is found with one more field.
-fn look<'b>(
-    found: Texts<'b>,
-    field: &CowStr<'b, Global>,
+struct Field<'b> {
+    name: CowStr<'b, Global>,
     text: CowStr<'b, Global>,
-    name: &str,
-) -> Texts<'b>
-    ensures { (texts : List (List ℕ)) → TellsTexts texts found.entry
-        → TellsTexts (texts ++ text_of_field name.now (cow_str_bytes field.now) (cow_str_bytes text.entry)) result }
-{
-    if field.as_str() != name {
-        return found;
-    }
-    match found {
-        Texts::Absent => Texts::Once(text),
-        _ => Texts::Often,
+}
+
+/// The fields of a form, in order. Contracts see the name and the text of each.
+#[derive(Drop)]
+pub struct Form<'b> {
+    fields: Vec<Field<'b>>,
+}
+
+impl<'b> Model for Form<'b> {
+    ghost use Rattle.std.specs.Prelude.{map, List};
+    ghost use Rattle.hotel_http.specs.{Fields.Pair, Form.field_read};
+
+    ghost Value = { List Pair };
+
+    ghost view = { λ form. map field_read form.fields.items };
+}
+
+impl Form<'_> {
+    /// The text of the field of this name. None where it doesn't stand, or more than once.
+    pub fn text(&self, name: &str) -> Option<&str>
+        ensures { option_map (λ text. text.now) result ≡ only (texts_named name.now self.now) }
+    {
+        let mut named = self
+            .fields
+            .iter()
+            .filter(|field| field.name.as_str() == name);
+        match (named.next(), named.next()) {
+            (Some(field), None) => Some(field.text.as_str()),
+            _ => None,
+        }
     }
 }
 
-fn only_one(found: Texts<'_>) -> Option<CowStr<'_, Global>>
-    ensures { (texts : List (List ℕ)) → TellsTexts texts found.entry → option_map cow_str_bytes result ≡ only texts }
+/// Reads a form.
+pub fn read_form<'b>(alloc: Global, body: &'b [u8]) -> Result<Form<'b>, AllocError>
+    ensures { IfOk result (λ form. form ≡ form_fields body.now) }
 {
-    match found {
-        Texts::Once(text) => Some(text),
-        _ => None,
-    }
-}
-
-/// The text of the field of this name. None where it doesn't stand, or more than once.
-pub fn read_form<'b>(
-    alloc: Global,
-    body: &'b [u8],
-    name: &str,
-) -> Result<Option<CowStr<'b, Global>>, AllocError>
-    ensures { IfOk result (λ text. option_map cow_str_bytes text ≡ form_text name.now body.now) }
-{
-    let mut found = Texts::Absent;
+    let mut fields = Vec::new(alloc);
     for pair in form_urlencoded::parse(alloc, body) {
-        let (field, text) = pair?;
-        found = look(found, &field, text, name);
+        let (name, text) = pair?;
+        fields.push(Field { name, text })?;
     }
-    Ok(only_one(found))
+    Ok(Form { fields })
 }

@@ -54,7 +54,7 @@ fn add_all(router: &mut Router<Target>, routes: &[(&str, Target)]) -> Result<(),
     Ok(())
 }
 
-/// Makes the table of routes. No two of them conflict, so it fails only by want of memory. A server makes it once, and
+/// Makes the table of routes. No two of them conflict, so it fails only by lack of memory. A server makes it once, and
 /// serves each request by it.
 #[tactic(auto, unfolding(crate::specs::Routes::hotel_routes))]
 pub fn make_routes(alloc: Global) -> Result<Routes, InsertError>

@@ -92,7 +92,8 @@ fn ask_four<'v>(
 fn ask_field(alloc: Global, verb: Verb, name: &str, body: &[u8]) -> Result<Option<Ask>, AllocError>
     ensures { IfOk result (λ given. given ≡ of_field verb name.now body.now) }
 {
-    let Some(value) = read_form(alloc, body, name)? else {
+    let form = read_form(alloc, body)?;
+    let Some(value) = form.text(name) else {
         return Ok(None);
     };
     ask_one(alloc, verb, value.as_bytes())
@@ -115,7 +116,8 @@ fn ask_part_and_room(
 ) -> Result<Option<Ask>, AllocError>
     ensures { IfOk result (λ given. given ≡ of_part_and_room verb path.now body.now) }
 {
-    let Some(room) = read_form(alloc, body, "room")? else {
+    let form = read_form(alloc, body)?;
+    let Some(room) = form.text("room") else {
         return Ok(None);
     };
     ask_two(alloc, verb, second_part(path).as_bytes(), room.as_bytes())
@@ -125,10 +127,8 @@ fn ask_part_and_room(
 fn ask_room_and_kind(alloc: Global, verb: Verb, body: &[u8]) -> Result<Option<Ask>, AllocError>
     ensures { IfOk result (λ given. given ≡ of_room_and_kind verb body.now) }
 {
-    let Some(room) = read_form(alloc, body, "room")? else {
-        return Ok(None);
-    };
-    let Some(kind) = read_form(alloc, body, "kind")? else {
+    let form = read_form(alloc, body)?;
+    let (Some(room), Some(kind)) = (form.text("room"), form.text("kind")) else {
         return Ok(None);
     };
     ask_two(alloc, verb, room.as_bytes(), kind.as_bytes())
@@ -138,16 +138,13 @@ fn ask_room_and_kind(alloc: Global, verb: Verb, body: &[u8]) -> Result<Option<As
 fn ask_reservation(alloc: Global, verb: Verb, body: &[u8]) -> Result<Option<Ask>, AllocError>
     ensures { IfOk result (λ given. given ≡ of_reservation verb body.now) }
 {
-    let Some(kind) = read_form(alloc, body, "kind")? else {
-        return Ok(None);
-    };
-    let Some(arrive) = read_form(alloc, body, "arrive")? else {
-        return Ok(None);
-    };
-    let Some(nights) = read_form(alloc, body, "nights")? else {
-        return Ok(None);
-    };
-    let Some(guest) = read_form(alloc, body, "guest")? else {
+    let form = read_form(alloc, body)?;
+    let (Some(kind), Some(arrive), Some(nights), Some(guest)) = (
+        form.text("kind"),
+        form.text("arrive"),
+        form.text("nights"),
+        form.text("guest"),
+    ) else {
         return Ok(None);
     };
     ask_four(

@@ -44,7 +44,7 @@ none_both told later first second = (
   all_both told later first.1 second.1,
 )
 
--- what the calls of a list told, behind calls of which none failed
+-- what the calls of a list reported, behind calls of which none failed
 pub told_both : (end : Result (Unit {0}) ListFault) (told later : Told) → NoCallFailed told → ListTold end later
     → ListTold end (told ++ later)
 told_both (Ok done) told later first t = none_both told later first t

@@ -23,7 +23,7 @@ pub front_of_first : (a b : Option (List ℕ)) (bs cs : List ℕ) → AppendsFro
 front_of_first a b bs cs (n, within, h) =
     (n, simp length-append (omega arith), subst (Appends a b) (sym (take-append-le n bs cs within)) h)
 
--- a sink that stopped, and not for want of memory
+-- a sink that stopped, and not for lack of memory
 stopped_for_write : (failed : Bool) → list_result (Err walk.Stopped) failed ≡ Err fault.Write → failed ≡ true
 stopped_for_write true e = refl
 stopped_for_write false e = cc
@@ -38,7 +38,7 @@ then_same a b c h k = record {
   none_forgotten = then_none_forgotten a.calls.now b.calls.now c.calls.now h.none_forgotten k.none_forgotten;
 }
 
--- a list told what its walk did
+-- a list reported what its walk did
 pub walk_told : {W : Type 0} (contents : W → Option (List ℕ)) (b c : Lines W)
     (end result : Result (Unit {0}) WalkFault) (last : Result (Unit {0}) ListFault)
     → Finishes contents b c end result → last ≡ list_result result c.write_failed → ListTold last (failure_of end ∷ [])

@@ -90,14 +90,14 @@ list_result (Err walk.Memory) write_failed = Err fault.Memory
 list_result (Err walk.Store) write_failed = Err fault.Store
 list_result (Err walk.Stopped) write_failed = if write_failed then Err fault.Write else Err fault.Memory
 
--- What the calls of a list told that failed for this cause: the last one this. Memory of the list's own may have been
--- wanting, which no call told.
+-- What the calls of a list reported that failed for this cause: the last one this. The list's own
+-- memory may have run out, which no call reported.
 abbrev pub ListFailed : LookFault → Told → Type 0
 ListFailed look.Memory told = (all_answer told ≡ true) ⊎ LastCallFailed look.Memory told
 ListFailed look.Store told = LastCallFailed look.Store told
 
--- What the calls of a list told that ended so. One that was written in full, or whose room isn't there, made a call or
--- more.
+-- What the calls of a list reported that ended so. One that was written in full, or whose room isn't there, made a call
+-- or more.
 abbrev pub ListTold : Result (Unit {0}) ListFault → Told → Type 0
 ListTold (Ok done) told = NoCallFailed told
 ListTold (Err fault.NoRoom) told = NoCallFailed told
@@ -105,7 +105,7 @@ ListTold (Err fault.Memory) told = ListFailed look.Memory told
 ListTold (Err fault.Store) told = ListFailed look.Store told
 ListTold (Err fault.Write) told = all_answer told ≡ true
 
--- A list made these calls of the books, which told what its end says, and left what was there.
+-- A list made these calls of the books, which reported what its end says, and left what was there.
 pub record LooksAt {B : Type 0} (K : KeptOf B) (old new : B) (result : Result (Unit {0}) ListFault) : Type 0 where
   pub kept : K.is_clean new → K.is_kept old new
   pub told : Told

@@ -92,8 +92,7 @@ pub fn read_more<R: Read>(
     Ok(got)
 }
 
-/// Why an input was not read whole: a read failed, it has more bytes than the limit, or memory for
-/// them was refused.
+/// Why an input was not read whole: a read failed, it has more bytes than the limit, or memory for them was refused.
 #[derive(Debug, Drop)]
 pub enum WholeFault {
     Read,

@@ -11,15 +11,14 @@ use crate::line::Line;
 use hotel_core::{Sink, Stop, WalkFault};
 use std::io::Write;
 
-/// Writes the line of each row that it takes. Lines are gathered in memory first, and many of them are
-/// written at once.
+/// Writes the line of each row that it takes. Lines are gathered in memory first, and many of them are written at once.
 #[derive(Drop)]
 pub(crate) struct Lines<'a, W> {
     pub(crate) writer: &'a mut W,
     pub(crate) calls: &'a mut IoCalls,
     /// The lines that aren't written yet.
     pub(crate) gathered: &'a mut Gathered,
-    /// Whether it stopped since a write failed, and not for want of memory.
+    /// Whether it stopped since a write failed, and not for lack of memory.
     pub(crate) write_failed: bool,
 }
 
@@ -64,7 +63,7 @@ impl<'a, W: Write> Lines<'a, W> {
     }
 
     /// Writes what is still gathered after a walk that ended so, where it handed over all rows. After another end
-    /// nothing more is written, so that the list tells what its walk told. It answers how the list ended.
+    /// nothing more is written, so that the list reports what its walk reported. It answers how the list ended.
     pub(crate) fn finish(&mut self, end: Result<(), WalkFault>) -> Result<(), WalkFault>
         ensures same { SameEnds self.old self.new }
         ensures ends { Finishes W.contents self.old self.new end result }

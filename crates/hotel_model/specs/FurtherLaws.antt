@@ -20,8 +20,8 @@ ReissuesKeep = (h : History) (ahead : List ℕ) (party : ℕ) (event : Event) �
     → (answer_to h ahead (command.Reissue party)).happens ≡ Some event
     → ((r : ℕ) → registered (h ▷ event) r ≡ registered h r) × (stays (h ▷ event) ≡ stays h)
 
--- A code is listed with a room and a place exactly where it stands at this place among the codes that were issued at that
--- room.
+-- A code is listed with a room and a place exactly where it stands at this place among the codes that were issued at
+-- that room.
 abbrev pub CodesAreListed : Type 0
 CodesAreListed = (h : History) → Reached h → (code : ℕ) (row : CodeRow)
     → (at_number (all_issued h) code ≡ Some row)

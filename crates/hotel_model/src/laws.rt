@@ -51,8 +51,8 @@ pub fn reissues_keep()
     ensures { ReissuesKeep }
 {}
 
-/// The list of all issued codes has each code of each room, at its place, and no other: what fresh means is read off one
-/// list.
+/// The list of all issued codes has each code of each room, at its place, and no other: what fresh means is read off
+/// one list.
 pub fn codes_are_listed()
     ensures { CodesAreListed }
 {}

@@ -11,8 +11,7 @@ use std::marker::Model;
 
 /// A day from 2000-01-01 to 2099-12-31 of the Gregorian calendar.
 ///
-/// Contracts see a day as its number: how many days after 2000-01-01 it is, 0 to `LAST_DAY`.
-/// Days are ordered by it.
+/// Contracts see a day as its number: how many days after 2000-01-01 it is, 0 to `LAST_DAY`. Days are ordered by it.
 #[derive(Clone, Copy, PartialEq, Eq, PartialOrd, Ord, Hash, Debug)]
 pub struct Day {
     number: u16,

@@ -86,7 +86,8 @@ script_ends K rows stream contents known old new books books' source source' (Er
       input,
       some,
       within,
-      new_desk (λ s s'. ScriptCut (take done (answered_lines script)) s s' (contents old) (contents new)) (stream source)
+      new_desk (λ s s'. ScriptCut (take done (answered_lines script)) s s' (contents old) (contents new))
+          (stream source)
           (stream source') (λ told h h'. cut_known _ _ _ _ _ _ _ told h h' (λ _. clean)) clean at_rows none none'
           at_source sound ((scripts_happen K rows stream contents).cut (books, source, old) (books', source', new)
           (take done (answered_lines script)) cut),

@@ -39,7 +39,7 @@ use Rattle.hotel_program.specs.Script.{ListAnswers.tells_failure, WholeScript.Li
 use Rattle.hotel_program.specs.Shut.{ComesToNothing, ScriptsNothing, ServesNothing, TookNothing}
 use Rattle.hotel_program.proofs.OfScript.ListAnswerLemmas.{none_told, reply_sure, told_failed}
 
--- what was asked tells a failure, where the last of its calls wasn't answered
+-- what was asked reports a failure, where the last of its calls wasn't answered
 told_so : (b : Bool) → (b ≡ false → ⊥) → b ≡ true
 told_so true f = refl
 told_so false f = absurd (f refl)
@@ -88,7 +88,7 @@ module _ {S R W : Type 0} (K : KeptOf S) (rows : S → Rows) (stream : R → Str
         Appends-trans (contents old.2) (contents mid.2) (contents new.2) a.0 (concat rest.0) a.2.0 rest.2,
       )
 
--- a reply that tells a failure takes nothing
+-- a reply that reports a failure takes nothing
 not_accepted : (given : Reply) → IsSome (failure_in given) → is_accepted given ≡ false
 not_accepted (reply.Refused why) k = refl
 not_accepted _ k = absurd (false≢true k)

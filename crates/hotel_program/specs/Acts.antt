@@ -61,7 +61,7 @@ views kept rows stream contents told bound = record {
   bound = bound;
 }
 
--- An act ended by this status, or by this fault, which was told.
+-- An act ended by this status, or by this fault, which was reported.
 abbrev pub EndsBy : {S R W F E : Type 0} → Views S R W F E → Result ℕ Fault → ℕ → Desk S R W F E → Desk S R W F E
     → Type 0
 EndsBy v end status old new = (status ≡ end_status end) × Reports v.told old.faults end new.faults
@@ -101,7 +101,7 @@ ScriptEnds v known status old new = (end : Result ScriptEnd ScriptFault) × Ends
 abbrev pub listening_text : ℕ → List ℕ
 listening_text port = codes "listening on 127.0.0.1:" ++ decimal port ++ codes "\n"
 
--- Connections were served: this many, each to its end, and the faults of these ends were told.
+-- Connections were served: this many, each to its end, and the faults of these ends were reported.
 abbrev pub ServesConnections : {S R W F E : Type 0} → Views S R W F E → ℕ → Desk S R W F E → Desk S R W F E → Type 0
 ServesConnections v count old new =
     (ends : List ConnectionEnd) × (length ends ≡ count) × ReportsAll v.told old.faults (faults_of ends) new.faults

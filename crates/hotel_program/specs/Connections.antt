@@ -27,7 +27,7 @@ ConnectionEnd = Option (Result Served ServeFault)
 abbrev pub NothingCame : History → Stream → Told → History → Stream → Type 0
 NothingCame h s told h' s' = (told ≡ []) × (h' ≡ h) × (s' ≡ s)
 
--- What a request asks for came of calls that told this; its answer has this in it.
+-- What a request asks for came of calls that reported this; its answer has this in it.
 abbrev pub RequestCame : (FullAnswer → Type 0) → History → Stream → Told → History → Stream → Type 0
 RequestCame said h s told h' s' = (wanted : Wanted) × (out : FullAnswer) × Comes wanted h s out told h' s' × said out
 
@@ -95,11 +95,11 @@ connection_end (Some (Ok served)) = Ok tt
 connection_end (Some (Err why)) = Err (connection_fault why)
 connection_end None = Err Closed
 
--- The fault that is told, if there is one.
+-- The fault that is reported, if there is one.
 abbrev pub faults_at : Result (Unit {0}) Fault → List Fault
 faults_at (Ok done) = []
 faults_at (Err fault) = fault ∷ []
 
--- The faults that are told of connections that ended so.
+-- The faults that are reported of connections that ended so.
 abbrev pub faults_of : List ConnectionEnd → List Fault
 faults_of ends = flat_map (λ end. faults_at (connection_end end)) ends

@@ -55,7 +55,7 @@ fault_status _ = 5
 abbrev pub IsOfFiles : Fault → Type 0
 IsOfFiles why = fault_status why ≢ 2
 
--- A fault of a file that is read: it can't be had, or memory is wanting.
+-- A fault of a file that is read: it can't be had, or memory runs out.
 abbrev pub IsOfReading : Fault → Type 0
 IsOfReading File = Unit {0}
 IsOfReading Memory = Unit {0}
@@ -78,7 +78,7 @@ abbrev pub end_status : Result ℕ Fault → ℕ
 end_status (Ok status) = status
 end_status (Err fault) = fault_status fault
 
--- A fault was told, once; nothing was where there is none.
+-- A fault was reported, once; nothing was where there is none.
 abbrev pub Reports : {F : Type 0} → (F → Fault → F → Type 0) → F → Result ℕ Fault → F → Type 0
 Reports told old (Ok status) new = new ≡ old
 Reports told old (Err fault) new = told old fault new
@@ -88,7 +88,7 @@ abbrev pub IsHeard : {F : Type 0} → (F → List ℕ → Calls → F → Type 0
 IsHeard heard old (Ok status) calls new = Unit {0}
 IsHeard heard old (Err fault) calls new = heard old (fault_text fault) calls new
 
--- Faults were told, one after the other.
+-- Faults were reported, one after the other.
 abbrev pub ReportsAll : {F : Type 0} → (F → Fault → F → Type 0) → F → List Fault → F → Type 0
 ReportsAll {F} told old [] new = new ≡ old
 ReportsAll {F} told old (fault ∷ faults) new = (mid : F) × told old fault mid × ReportsAll told mid faults new

@@ -87,7 +87,7 @@ abbrev pub desk_with : {S W F E : Type 0} → S → ChaCha → Outer W F E → E
 desk_with books source outer around =
     record { books = books; source = source; writer = outer.writer; faults = outer.faults; around = around }
 
--- It stopped by a fault, which was told; nothing was written, and nothing more was asked of the surroundings.
+-- It stopped by a fault, which was reported; nothing was written, and nothing more was asked of the surroundings.
 abbrev pub EndsEarly : {D W F E : Type 0} → OuterViews D W F E → Fault → E → ℕ → Outer W F E → Outer W F E → Type 0
 EndsEarly v why at status old new =
     (status ≡ fault_status why) × v.told old.faults why new.faults × (new.writer ≡ old.writer) × (new.around ≡ at)
@@ -199,7 +199,7 @@ AreFaulty words = HasOne IsWrong (fault_of desk words) ⊎ RefuseValue words
 abbrev pub AskForHelp : List Text → Type 0
 AskForHelp words = HasOne IsShown (fault_of desk words)
 
--- What a status says of the words: 2 that they are faulty. Of faulty ones it is that, or 4 where memory was wanting;
+-- What a status says of the words: 2 that they are faulty. Of faulty ones it is that, or 4 where memory ran out;
 -- another only where help may be what they ask for.
 pub record StatusSays (words : List Text) (status : ℕ) : Type 0 where
   pub faulty : status ≡ 2 → AreFaulty words

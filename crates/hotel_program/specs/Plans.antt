@@ -129,7 +129,7 @@ abbrev pub HasOne : (ErrorKind → Type 0) → Kinds → Type 0
 HasOne is_so kinds = (why : ErrorKind) × IsAmong why kinds × is_so why
 
 -- These are the kinds of faults that the words have by the definition of `clap`, and the fault is of one of them; a
--- value is refused of words that have none, and want of memory comes of any.
+-- value is refused of words that have none, and lack of memory comes of any.
 abbrev pub IsToldBy : Kinds → UsageFault → Type 0
 IsToldBy kinds (Shown text) = HasOne IsShown kinds
 IsToldBy kinds (Usage text) = HasOne IsWrong kinds

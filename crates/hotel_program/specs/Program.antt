@@ -49,7 +49,7 @@ abbrev pub zero_seeded : Stream
 zero_seeded = stream_of (steps_u32 (next_word 10)) (of_seed (replicate SEED_BYTES 0))
 
 -- This went over a new desk in memory: from no rows and a source of zeros to a history of which what is assured holds,
--- by calls none of which told that the store failed.
+-- by calls none of which reported that the store failed.
 abbrev pub OverNewDesk : (Stream → Stream → Type 0 → Told → History → History → Type 0)
     → Type 0
 OverNewDesk went = (h : History) × (s : Stream) × (told : Told) × went zero_seeded s ⊤ told (start no_rows) h
@@ -69,7 +69,7 @@ EndsOverNewDesk contents known old new (Err TooLarge) =
     IfSome known (λ input. SCRIPT_LIMIT < length input) × (new ≡ old)
 EndsOverNewDesk contents known old new (Err _) = new ≡ old
 
--- The exit status of a script that ended so, or the fault that is told.
+-- The exit status of a script that ended so, or the fault that is reported.
 abbrev pub script_end : Result ScriptEnd ScriptFault → Result ℕ Fault
 script_end (Ok end) = Ok 0
 script_end (Err Read) = Err fault.Read

@@ -5,7 +5,6 @@ pub mod Words
 pub mod Lines
 -- What a line asks for.
 pub mod Asks
--- Which failures of a line's answer the books counted.
 -- The answer to a list, and the answer to a line.
 pub mod ListAnswers
 pub mod LineAnswers

@@ -10,7 +10,7 @@ use Rattle.keycard_rules.specs.Calls.{Told}
 use Rattle.hotel_program.specs.Script.{Asks.ask_in, ListAnswers.tells_failure, WholeScript.LinesAnswered}
 use Rattle.hotel_program.specs.Connections.{ConnectionCame, ConnectionEnd, ConnectionHappens}
 
--- Each of these lines that asks something is answered by a text that tells a failure.
+-- Each of these lines that asks something is answered by a text that reports a failure.
 abbrev pub TellFailures : List (List ℕ) → List (List ℕ) → Type 0
 TellFailures [] [] = ⊤
 TellFailures (line ∷ lines) (text ∷ texts) =
@@ -31,7 +31,7 @@ TookNothing (Some (Ok served)) = served.acted ≡ false
 TookNothing (Some (Err (Write acted))) = acted ≡ false
 TookNothing _ = ⊤
 
--- A connection ended so, each of its calls told a failure, and nothing was taken.
+-- A connection ended so, each of its calls reported a failure, and nothing was taken.
 abbrev pub ComesToNothing : ConnectionEnd → Type 0
 ComesToNothing end = (h h' : History) × (s s' : Stream) × (told : Told) × ConnectionCame end h s told h' s'
     × AllByRecursion (λ t. IsSome t) told × TookNothing end

@@ -71,14 +71,15 @@ shorter a b = a - (a - b)
 abbrev pub Reading : Type 0
 Reading = Result ℕ Error × List ℕ
 
--- From a connection and what was left of its time to these behind it, a reading was made in a second, or in what was left
--- where that was less; what it took of this is taken from what was left.
+-- From a connection and what was left of its time to these behind it, a reading was made in a second, or in what was
+-- left where that was less; what it took of this is taken from what was left.
 abbrev pub ReadsRest : {L : Type 0} → (L → ℕ → Result (Unit {0}) Error → L → Type 0)
     → (L → Result Instant Error → L → Type 0) → (L → Result ℕ Error → List ℕ → L → Type 0)
     → L × ℕ → Reading → L × ℕ → Type 0
 ReadsRest limited clock_read was_read old reading new =
     let limit = shorter old.1 SILENCE in
-    (rest : ℕ) × CallInTime limited clock_read (λ l got l'. was_read l got reading.1 l') old.0 limit reading.0 rest new.0
+    (rest : ℕ)
+    × CallInTime limited clock_read (λ l got l'. was_read l got reading.1 l') old.0 limit reading.0 rest new.0
     × (new.1 ≡ old.1 - (limit - rest))
 
 -- how many bytes it brought

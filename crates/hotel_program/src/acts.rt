@@ -19,7 +19,7 @@ use rand_core::Rng;
 use std::alloc::Global;
 use std::io::{Read, Write};
 
-/// The exit status of a script that ended so, or the fault that is told.
+/// The exit status of a script that ended so, or the fault that is reported.
 pub fn end_of_script(end: Result<ScriptEnd, ScriptFault>) -> Result<u8, Fault>
     ensures end { result ≡ script_end end }
     ensures no_usage { end_status result ≢ 2 }
@@ -33,9 +33,8 @@ pub fn end_of_script(end: Result<ScriptEnd, ScriptFault>) -> Result<u8, Fault>
     }
 }
 
-/// Carries out an act over books, and tells the fault that came instead. `file` has the bytes of an audit file where
-/// that is what is asked
-/// for. It answers the exit status.
+/// Carries out an act over books, and reports the fault that came instead. `file` has the bytes of an audit file where
+/// that is what is asked for. It answers the exit status.
 pub fn run_act<B: Walks, R: Rng, I: Read, W: Write, F: FaultSink, E: Surroundings>(
     alloc: Global,
     act: &DeskAct,

@@ -129,7 +129,7 @@ fn serve_connection<L: Listener, B: Walks, R: Rng>(
     }
 }
 
-/// Takes a connection, answers its request, and tells the fault that came instead.
+/// Takes a connection, answers its request, and reports the fault that came instead.
 fn serve_and_tell<L: Listener, B: Walks, R: Rng, F: FaultSink>(
     alloc: Global,
     routes: Option<&Routes>,
@@ -151,11 +151,11 @@ fn serve_and_tell<L: Listener, B: Walks, R: Rng, F: FaultSink>(
     }
 }
 
-/// Takes so many connections, one after the other, and answers the request of each. A connection that
-/// fails is told as a fault, and the next one is taken; behind one that couldn't be taken, after a tenth of a second. A
-/// connection has a second for its first byte, ten in all for its request's other bytes and ten for its answer's,
-/// whatever pieces come in; then its peer is given up. The table of routes is made once, before the first connection;
-/// where memory for it was wanting, each request makes its own. It answers 0.
+/// Takes so many connections, one after the other, and answers the request of each. A connection that fails is reported
+/// as a fault, and the next one is taken; behind one that couldn't be taken, after a tenth of a second. A connection
+/// has a second for its first byte, ten in all for its request's other bytes and ten for its answer's, whatever pieces
+/// come in; then its peer is given up. The table of routes is made once, before the first connection; where memory for
+/// it ran out, each request makes its own. It answers 0.
 pub fn serve_connections<L: Listener + Drop, B: Walks, R: Rng, F: FaultSink>(
     alloc: Global,
     listener: L,

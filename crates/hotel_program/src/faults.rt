@@ -136,7 +136,7 @@ pub trait FaultSink {
     ghost use Rattle.hotel_program.specs.declared.faults.Fault.{Fault};
     ghost use Rattle.hotel_program.specs.Faults.{fault_text};
 
-    /// The meanings that may follow one after a fault was told.
+    /// The meanings that may follow one after a fault was reported.
     ghost told: { Self → Fault → Self → Type 0 };
 
     /// The meanings that may follow one after a text of usage was shown.
@@ -179,7 +179,7 @@ impl<W: Write> FaultSink for W {
     }
 }
 
-/// The exit status of a call that came to this end. A fault is told first.
+/// The exit status of a call that came to this end. A fault is reported first.
 pub fn finish<F: FaultSink>(end: Result<u8, Fault>, faults: &mut F, calls: &mut IoCalls) -> u8
     ensures status { result ≡ end_status end }
     ensures told { Reports F.told faults.old end faults.new }

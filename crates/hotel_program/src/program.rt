@@ -149,8 +149,7 @@ fn audit_file<E: Surroundings>(
 }
 
 /// Carries out a plan. The seed is read first, then an audit file, then the books are opened, and then a port is
-/// listened on; the first
-/// fault is told and ends it.
+/// listened on; the first fault is reported and ends it.
 fn run_plan<I: Read, W: Write, F: FaultSink, B: Walks + Drop, E: Databases<B>>(
     alloc: Global,
     plan: &Plan,
@@ -241,11 +240,9 @@ fn words_fault(why: &io::Error) -> Fault
 }
 
 /// The program, whose exit status it answers. `words` are those after its name, or why one of them could not be read.
-/// Without words it
-/// answers the script that the reader has, over empty books in memory, with codes from a seed of 32 zero bytes. With
-/// words it carries
-/// out what they ask for, over the surroundings `around`. A fault is told to `faults`; where that goes wrong, nobody
-/// hears of it.
+/// Without words it answers the script that the reader has, over empty books in memory, with codes from a seed of 32
+/// zero bytes. With words it carries out what they ask for, over the surroundings `around`. A fault is reported to
+/// `faults`; where that goes wrong, nobody hears of it.
 pub fn run_program<I: Read, W: Write, F: FaultSink, B: Walks + Drop, E: Databases<B>>(
     alloc: Global,
     words: io::Result<Vec<String>>,

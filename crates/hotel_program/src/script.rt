@@ -97,10 +97,9 @@ fn answer_lines<W: Write, B: Walks, R: Rng>(
     Ok(ScriptEnd { lines: done })
 }
 
-/// Answers the lines of a script: all the bytes that the reader has. The whole script is read first;
-/// then each line is carried out and its answer written before the next line is begun. The reads and
-/// writes, those of its lists among them, are added to the caller's; the thousandth interrupted one is
-/// a fault. The writer is not flushed.
+/// Answers the lines of a script: all the bytes that the reader has. The whole script is read first; then each line is
+/// carried out and its answer written before the next line is begun. The reads and writes, those of its lists among
+/// them, are added to the caller's; the thousandth interrupted one is a fault. The writer is not flushed.
 pub fn run_script<I: Read, W: Write, B: Walks, R: Rng>(
     alloc: Global,
     reader: &mut I,

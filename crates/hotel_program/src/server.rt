@@ -43,8 +43,7 @@ fn write_listening<W: Write>(
 }
 
 /// Listens on a port of the loopback address, says so, and answers so many connections, one after the other. It answers
-/// the exit
-/// status: 0, or 5 where the port couldn't be had or the line couldn't be written; then none is answered.
+/// the exit status: 0, or 5 where the port couldn't be had or the line couldn't be written; then none is answered.
 pub fn run_serve<B: Walks, R: Rng, W: Write, F: FaultSink, E: Surroundings>(
     alloc: Global,
     port: u16,

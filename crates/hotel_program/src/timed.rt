@@ -152,8 +152,8 @@ impl<'s, S, L: Link<S>> TimedReader<'s, S, L> {
     pub fn linger(&mut self)
         ensures lingers { (shut : Result (Unit {0}) Error) × (mid : L)
             × L.writes_shut self.old.stream.now self.old.link shut mid
-            × LingersOn (ReadsRest (L.reads_limited self.old.stream.now) L.clock_read
-            (L.was_read self.old.stream.now)) shut (mid, as_nanos self.old.left) (self.new.link, as_nanos self.new.left) }
+            × LingersOn (ReadsRest (L.reads_limited self.old.stream.now) L.clock_read (L.was_read self.old.stream.now))
+            shut (mid, as_nanos self.old.left) (self.new.link, as_nanos self.new.left) }
     {
         if self.link.shut_writes(self.stream).is_err() {
             return;

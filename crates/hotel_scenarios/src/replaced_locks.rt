@@ -1,5 +1,5 @@
-//! The worked scenarios of locks that are replaced: notes by the lock that they are of. `.ci/scenarios` has a room's last
-//! lock.
+//! The worked scenarios of locks that are replaced: notes by the lock that they are of. `.ci/scenarios` has a room's
+//! last lock.
 use crate::scenarios::{CHECKED_IN, OPENED, Scenario, Step, TAKEN_TWICE, TWO_NOTES};
 
 /// The guest of room 101 entered and was checked out. Its lock is replaced, and Bo's party is checked in.

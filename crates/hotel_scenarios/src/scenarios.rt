@@ -10,7 +10,7 @@ pub enum Step {
     Line(&'static [u8], &'static [u8]),
     /// An audit file, the answers to its lines, and the exit status.
     Audit(&'static [u8], &'static [u8], u8),
-    /// Bytes that are no audit file, and the fault that is told.
+    /// Bytes that are no audit file, and the fault that is reported.
     NoAudit(&'static [u8], &'static [u8]),
     /// A list that is asked for alone, as a script's line says it, its answer, and the exit status.
     List(&'static [u8], &'static [u8], u8),
@@ -417,7 +417,7 @@ room,fit,count,kind,card,old,new,at
     3,
 )];
 
-/// Of several causes in a line the one of the earliest field is told.
+/// Of several causes in a line the one of the earliest field is reported.
 pub const CAUSES_WITH_FITS: &[Step] = &[Step::Audit(
     b"\
 room,fit,count,kind,card,old,new,at

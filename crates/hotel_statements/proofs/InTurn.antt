@@ -1,5 +1,6 @@
 -- Statements that are run in turn.
-use Rattle.std.proofs.Common.{◌≡◌, inl, inr, refl, subst, ◌∙◌, ap, false, IsTrue, List, [], ◌∷◌, ◌++◌, ℕ, Ok, Err, Result}
+use Rattle.std.proofs.Common.{◌≡◌, inl, inr, refl, subst, ◌∙◌, ap, false, IsTrue, List, [], ◌∷◌, ◌++◌, ℕ, Ok, Err}
+use Rattle.std.proofs.Common.{Result}
 use Rattle.std.proofs.Common.{IsErr, IsErrAnd, OnOk, arith}
 use Rattle.std.proofs.lemmas.Result.{on_ok_weaker}
 use Rattle.std.proofs.lemmas.Bool.{cases_Bool}

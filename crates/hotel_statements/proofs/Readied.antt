@@ -20,9 +20,11 @@ module _ (old new : State) (books : IsBooks old) (mode : old.in_transaction ≡ 
       → (cause : LookFault) → cause ≡ fault_of e → IsReady old new (Err cause)
   unfolding FailsToQuery
   is_not_ready e not_run cause is =
-      let fails : HasCleanDisk new → FailsToQuery text.select_day (int 1 ∷ []) old new e = λ clean. inl (not_run clean) in
+      let fails : HasCleanDisk new → FailsToQuery text.select_day (int 1 ∷ []) old new e = λ clean. inl (not_run clean)
+      in
       let asked : (q : Query) × Asks text.select_day q = (_, selects.select_day) in
-      let weaker : Survives old new (CommitsShowing text.select_day (int 1 ∷ []) old) = survives_weaker old new _ _ (λ _ db none. absurd none) survives in
+      let weaker : Survives old new (CommitsShowing text.select_day (int 1 ∷ []) old) = survives_weaker old new _ _
+      (λ _ db none. absurd none) survives in
       record {
         books = fault_books text.select_day (int 1 ∷ []) old new books asked mode weaker e fails;
         keeps = fault_keeps text.select_day (int 1 ∷ []) old new books asked mode weaker e fails;

@@ -88,7 +88,8 @@ module _ (version : Version) (text : List ℕ) (q : Query) (old new : State) (ou
       let here = asks_here (was_kept stays opened (open_still clean)) in
       (reads_as text [] old new old.now.schema refl _
       (command_is q _ here.query).1 here.plain here.listing rows (shown clean)).answer Null in
-      subst (λ (t : List ℕ). ReadsPart version (λ a b. FailsIn a.now.schema IsReadable t [] a b) Says old new result) same
+      subst (λ (t : List ℕ). ReadsPart version (λ a b. FailsIn a.now.schema IsReadable t [] a b) Says old new result)
+      same
       (record {
         ours = read_ours stays opened;
         keeps = read_keeps stays opened;

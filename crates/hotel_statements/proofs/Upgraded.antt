@@ -32,7 +32,7 @@ use Rattle.hotel_statements.specs.NewDesk.{MakesNew, AddsIndexes}
 use Rattle.hotel_statements.specs.Statements.{RunsStatements, MakesBy, adds_first_fit, makes_new, makes_second}
 use Rattle.hotel_statements.specs.Statements.{sets_version}
 use Rattle.hotel_statements.specs.Steps.{IsMidOf, RunsStatement}
-use Rattle.hotel_statements.specs.Upgrade.{AreRoomsIn, BecomesDesk, Completes, IsWholeOf, IsOutdated, IsFilling}
+use Rattle.hotel_statements.specs.Upgrade.{AreRoomsFor, BecomesDesk, Completes, IsWholeOf, IsOutdated, IsFilling}
 use Rattle.hotel_statements.specs.Upgrade.{with_first_fit, GivesFits}
 use Rattle.hotel_statements.proofs.Answers.{fused}
 use Rattle.hotel_statements.proofs.Transaction.{Begins, LeavesDesk, Committed, Finishes, start_mid, finished}
@@ -185,9 +185,9 @@ with_others rooms i = ap (λ more. makes_new ++ (sets_version ∷ more))
 
 -- ---- the indexes of a desk of the second version
 
-pub indexes_made : {rooms : List ℕ} {a b : State} (count : ℕ) → AddsIndexes count INDEXES a b
+pub indexes_made : (rooms : List ℕ) {a b : State} (count : ℕ) → AddsIndexes count INDEXES a b
     → Completes (Nine count) rooms a b
-indexes_made {rooms} {a} {b} count did before =
+indexes_made rooms {a} {b} count did before =
     let has = did (λ is_open. (before is_open).schema) in
     let desk = same_desk a.now.trees b.now.trees has.rows (before has.was_open).tables in (
       record {
@@ -203,7 +203,7 @@ indexes_made {rooms} {a} {b} count did before =
 
 -- ---- the transaction
 
-module _ {layout : Layout} {rooms : List ℕ} {old start mid : State} (b : Begins layout old start)
+module _ {layout : Layout} (rooms : List ℕ) {old start mid : State} (b : Begins layout old start)
     (did : HasCleanDisk mid → Completes layout rooms start mid) (ran : Survives start mid (λ _. ⊥)) where
   clean_start : HasCleanDisk mid → HasCleanDisk start
   clean_start clean = omega (arith, ran.clean, clean)
@@ -222,12 +222,12 @@ module _ {layout : Layout} {rooms : List ℕ} {old start mid : State} (b : Begin
   migrated = finished b leaves ran
 
   -- and where those are the desk's
-  module _ (rooms_are : IsKept old → AreRoomsIn rooms old.now.trees) where
+  module _ (rooms_are : IsKept old → AreRoomsFor (version_of layout) rooms old.now.trees) where
     whole : HasCleanDisk mid → IsWholeOf (version_of layout) old.now.trees mid.now.trees
     whole clean =
         let desk = becomes clean in
-        let are : AreRoomsIn rooms start.now.trees =
-        subst (λ (s : State). AreRoomsIn rooms s.now.trees) (sym b.begun)
+        let are : AreRoomsFor (version_of layout) rooms start.now.trees =
+        subst (λ (s : State). AreRoomsFor (version_of layout) rooms s.now.trees) (sym b.begun)
         (rooms_are (start_kept b (clean_start clean) desk.was_open)) in
         record {
           tables = desk.mid.tables;

@@ -29,7 +29,7 @@ use Rattle.hotel_statements.specs.Tables.{rows_in}
 use Rattle.hotel_statements.specs.Books.{IsKept, IsBooks, KeepsRows}
 use Rattle.std.specs.Prelude.{Ok, Err}
 
--- why a look-up has no answer, where the store answered this: memory was wanting, or the store failed
+-- why a look-up has no answer, where the store answered this: memory ran out, or the store failed
 abbrev pub fault_of : Error → LookFault
 fault_of (SqliteFailure OutOfMemory) = why.Memory
 fault_of _ = why.Store
@@ -77,7 +77,7 @@ ShowsUnread schema IsReadable text params db =
     (q : Query) × AsksOf schema text q × (rows : List Row) × IsAnswer q (overlay db []) params rows
     × ¬ All IsReadable rows
 
--- Why a statement over these tables has no answer, but for want of memory: sqlite gives an error of it, or one of
+-- Why a statement over these tables has no answer, but for lack of memory: sqlite gives an error of it, or one of
 -- its rows can't be read.
 abbrev pub FailsIn : Schema → (Row → Type 0) → List ℕ → Row → State → State → Type 0
 FailsIn schema IsReadable text params old new =
@@ -88,7 +88,7 @@ FailsIn schema IsReadable text params old new =
 abbrev pub FailsAt : (Row → Type 0) → List ℕ → Row → State → State → Type 0
 FailsAt = FailsIn desk_schema
 
--- Memory may be wanting at any time; any other failure has this cause.
+-- Memory may run out at any time; any other failure has this cause.
 abbrev pub HasCause : {R : Type 0} → (State → State → Type 0) → State → State → Result R LookFault → Type 0
 HasCause Fails old new result = HasCleanDisk new → IfErr result (λ fault. fault ≢ why.Memory → Fails old new)
 
@@ -104,8 +104,7 @@ pub record LooksFor {R : Type 0} (Fails : State → State → Type 0) (Found : T
   pub crash : LeavesNoMore old new
 
 -- A look-up of the books, of a connection from old to new: where the test holds at its end, its answer says what is
--- wanted of
--- the rows. It changes no row, and a crash in it leaves nothing new.
+-- wanted of the rows. It changes no row, and a crash in it leaves nothing new.
 pub record LooksIf {A R : Type 0} (was : Type 0) (said : R → A) (wanted : Rows → A) (old new : State)
     (result : Result R LookFault) : Type 0 where
   pub books : IsBooks new

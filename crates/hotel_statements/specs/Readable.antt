@@ -49,7 +49,7 @@ IsGuest v = (t : List ℕ) × (v ≡ Text t) × IsUtf8 t × (is_guest t ≡ true
 abbrev pub OrNull : (Value → Type 0) → Value → Type 0
 OrNull Is v = (v ≡ Null) ⊎ Is v
 
--- why a column isn't read so, but for want of memory: it says no such value
+-- why a column isn't read so, but for lack of memory: it says no such value
 abbrev pub IsUnreadAt : (Value → Type 0) → Row → ℕ → LookFault → Type 0
 IsUnreadAt Is r at fault = fault ≢ why.Memory → at < length r → ¬ Is (column r at)
 

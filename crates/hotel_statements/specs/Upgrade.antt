@@ -11,7 +11,7 @@ use Rattle.hotel_model.specs.Words.{pair_cmp}
 use Rattle.hotel_model.specs.Refits.{fit_row}
 use Rattle.hotel_rows.specs.Joined.{FitEntries}
 use Rattle.hotel_statements.specs.declared.version.Version.{Version}
-use Rattle.hotel_statements.specs.declared.version.Version.TheVariants.{First}
+use Rattle.hotel_statements.specs.declared.version.Version.TheVariants.{First, Second}
 use Rattle.hotel_statements.specs.declared.version.Layout.{Layout}
 use Rattle.hotel_statements.specs.Trees.{fit_tree}
 use Rattle.hotel_statements.specs.Schema.{desk_schema, version_of}
@@ -23,6 +23,11 @@ use Rattle.hotel_statements.specs.Steps.{IsMidOf, IsMid}
 abbrev pub AreRoomsIn : List ℕ → Trees → Type 0
 AreRoomsIn rooms db = rooms ≡ keys_of (bare_rooms_in db)
 
+-- the rooms that the making of what is missing asks for: those of a desk of the first version, which has no fits
+abbrev pub AreRoomsFor : Version → List ℕ → Trees → Type 0
+AreRoomsFor First rooms db = AreRoomsIn rooms db
+AreRoomsFor Second rooms db = Unit {0}
+
 -- Within one transaction, the tables became those of a whole desk, and the rows stayed, but for its fits.
 pub record BecomesDesk (old new : State) : Type 0 where
   pub was_open : IsTrue old.is_open
@@ -33,10 +38,12 @@ pub record BecomesDesk (old new : State) : Type 0 where
   pub sound : IsDatabase new.now
   pub bare_rows_are : bare_rows_in new.now.trees ≡ bare_rows_in old.now.trees
 
--- where the connection was open, and the desk was laid out so, it is whole; with its rows, where these are its rooms
+-- where the connection was open, and the desk was laid out so, it is whole; with its rows, where the rooms asked for
+-- are these
 abbrev pub Completes : Layout → List ℕ → State → State → Type 0
 Completes layout rooms old new = (IsTrue old.is_open → IsMidOf layout old) → BecomesDesk old new
-    × (AreRoomsIn rooms old.now.trees → rows_in new.now.trees ≡ rows_of_version (version_of layout) old.now.trees)
+    × (AreRoomsFor (version_of layout) rooms old.now.trees
+    → rows_in new.now.trees ≡ rows_of_version (version_of layout) old.now.trees)
 
 -- The trees are the whole of a desk, with the rows of one of a version: an opening that finds them finds its schema.
 pub record IsWholeOf (version : Version) (old new : Trees) : Type 0 where

@@ -42,16 +42,14 @@ abbrev pub ShowsMany : List ℕ → Row → Trees → Type 0
 ShowsMany text params db =
     (q : Query) × Asks text q × (rows : List Row) × IsAnswer q (overlay db []) params rows × (MOST_ROWS ≤ length rows)
 
--- why a walk ends early, but for want of memory and a sink that stops
+-- why a walk ends early, but for lack of memory and a sink that stops
 abbrev pub WalkFails : (Row → Type 0) → List ℕ → Row → State → State → Type 0
 WalkFails IsReadable text params old new =
     FailsAt IsReadable text params old new ⊎ (IsKept old × ShowsMany text params old.now.trees)
 
 -- A walk over these rows, of a connection from old to new and a sink from its meaning to that at the end: it hands over
--- some rows,
--- which are these where the disk returned what was written, also where a failure ended it. It changes no row, and a
--- crash in it
--- leaves nothing new.
+-- some rows, which are these where the disk returned what was written, also where a failure ended it. It changes no
+-- row, and a crash in it leaves nothing new.
 pub record WalksRows {S R : Type 0} (Fails : State → State → Type 0) (after after_stop : S → R → S → Type 0)
     (rows : List R) (old new : State) (sink end : S) (result : Result (Unit {0}) WalkFault) : Type 0 where
   pub books : IsBooks new

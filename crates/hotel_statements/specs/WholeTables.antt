@@ -50,13 +50,12 @@ pub record IsWhole (version : Version) (text : List ℕ) (tree : ℕ) (columns c
 abbrev pub BeginsAs : {L : Type 0} → (L → Row) → Row → Type 0
 BeginsAs {L} shown row = (l : L) × (more : Row) × (shown l ++ more ≡ row)
 
--- why a table isn't read, but for want of memory
+-- why a table isn't read, but for lack of memory
 abbrev pub TableFails : {L : Type 0} → List ℕ → (L → Row) → State → State → Type 0
 TableFails text shown old new = FailsIn old.now.schema (BeginsAs shown) text [] old new
 
 -- What a reading of the tables promises, of a connection from old to new: what it says of the trees where the test
--- holds at its end.
--- It changes no row, and a crash in it leaves nothing new.
+-- holds at its end. It changes no row, and a crash in it leaves nothing new.
 pub record ReadsIf {R : Type 0} (was : Type 0) (version : Version) (Fails : State → State → Type 0)
     (Says : R → Trees → Type 0) (old new : State)
     (result : Result R LookFault) : Type 0 where
@@ -69,8 +68,7 @@ pub record ReadsIf {R : Type 0} (was : Type 0) (version : Version) (Fails : Stat
   pub crash : LeavesNoMore old new
 
 -- The same of a reading that makes a statement: where it is answered over a disk that returned what was written, the
--- connection
--- is open.
+-- connection is open.
 abbrev pub ReadsPart : {R : Type 0} → Version → (State → State → Type 0) → (R → Trees → Type 0) → State → State
     → Result R LookFault → Type 0
 ReadsPart version Fails Says old new result = ReadsIf (Unit {0}) version Fails Says old new result

@@ -32,7 +32,7 @@ pub fn fault_of(error: Error) -> LookFault
 
 /// A value that a row of columns says.
 ///
-/// A row that is not read is a failure of the store, but where memory for a text was wanting.
+/// A row that is not read is a failure of the store, but where memory for a text ran out.
 pub(crate) trait FromRow: Sized {
     /// What a row with these columns says.
     ghost of: { SqlRow → Self };

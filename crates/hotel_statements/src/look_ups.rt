@@ -1,5 +1,5 @@
-//! The look-ups of the books, each over the connection: one keyed statement, but for a room, a note and the next
-//! numbers, which are two.
+//! The look-ups of the books, each over the connection: one keyed statement, but two for a room, a note and the next
+//! numbers, and for the stays of a kind one that reads all stays.
 ghost use Rattle.std.specs.Prelude.{◌≡◌, ◌<◌, ◌^◌, not, length, true, option_map, unwrap_or};
 ghost use Rattle.std.specs.Map.{keys_of, lookup};
 ghost use Rattle.std.specs.BTreeMap.{is_at};

@@ -1,5 +1,5 @@
-//! The statements that make what is missing of a desk, within a transaction: its indexes, or a desk of the second version
-//! of one of the first.
+//! The statements that make what is missing of a desk, within a transaction: its indexes, or a desk of the second
+//! version of one of the first.
 ghost use Rattle.std.specs.Prelude.{◌≡◌, [], ◌∷◌, false};
 ghost use Rattle.sqlite.specs.Held.{state};
 ghost use Rattle.hotel_statements.specs.declared.version.Layout.TheVariants.{Eight};
@@ -68,7 +68,7 @@ fn upgrade<S: Alter>(tx: &mut Transaction<'_, S>, rooms: &[RoomNo]) -> Result<()
     Ok(())
 }
 
-/// Makes what is missing of a desk that is laid out so, and whose rooms are given.
+/// Makes what is missing of a desk that is laid out so; the rooms of one of the first version are given.
 pub fn complete<S: Alter>(
     tx: &mut Transaction<'_, S>,
     layout: Layout,

@@ -14,7 +14,8 @@ pub enum Version {
 /// How many indexes of ours a new desk has.
 pub const INDEXES: usize = 3;
 
-/// What a desk's database has. An index is no part of a version: of the second one the last ones of ours may be missing.
+/// What a desk's database has. An index is no part of a version: of the second one the last ones of ours may be
+/// missing.
 #[derive(Clone, Copy, Debug, PartialEq, Eq)]
 pub enum Layout {
     /// The eight tables of the first version, and no index of ours.

@@ -1,4 +1,4 @@
-//! Desks that are made and opened on connections.
+//! Desks that are made and opened on connections, and what their databases have.
 use hotel_tables::{OpenFault, TableBooks};
 use sqlite::{Alter, Connection, MemStore};
 use std::alloc::Global;
@@ -40,4 +40,22 @@ pub(crate) fn created<S: Alter + Drop>(
 /// A new desk over tables in memory.
 pub(crate) fn new_tables(alloc: Global) -> Result<TableBooks<MemStore>, Fail> {
     Ok(created(alloc, Connection::open_in_memory(alloc)?)?)
+}
+
+/// What a database has, as a text: the statements of its tables and indexes, in their order, and each table's rows.
+pub(crate) fn database_text<S: Alter>(
+    alloc: Global,
+    conn: &mut Connection<S>,
+) -> Result<String, Fail> {
+    let statements = conn.query_all("SELECT type, name, sql FROM sqlite_schema", &[])?;
+    let mut text = format!(in alloc; "{statements:?}")?;
+    let tables = conn.query_all("SELECT name FROM sqlite_schema WHERE type = 'table'", &[])?;
+    for table in &tables {
+        let name: String = table.get(0)?;
+        let query = format!(in alloc; "SELECT * FROM {name}")?;
+        let rows = conn.query_all(&query, &[])?;
+        let rows = format!(in alloc; "{rows:?}")?;
+        text.push_str(&rows)?;
+    }
+    Ok(text)
 }

@@ -1,6 +1,6 @@
-//! A desk on a connection with a limit on the steps of a statement: a list that goes past it fails, which shuts nothing.
-use crate::connections::opened;
-use crate::stored_rows::database_text;
+//! A desk on a connection with a limit on the steps of a statement: a list that goes past it fails, which shuts
+//! nothing.
+use crate::connections::{database_text, opened};
 use crate::tables::tables_behind;
 use hotel_scenarios::desks::Desk;
 use hotel_scenarios::scenario_runs::desk_of;

@@ -4,11 +4,7 @@
 #[cfg(test)]
 mod connections;
 #[cfg(test)]
-mod damaged_fits;
-#[cfg(test)]
 mod interrupted_walks;
-#[cfg(test)]
-mod stored_rows;
 #[cfg(test)]
 mod tables;
 #[cfg(test)]

@@ -1,13 +1,11 @@
 //! Desks over tables that are closed and opened again, as they were or after a statement that damages them.
-use crate::connections::{created, new_tables, opened, opened_or_left};
-use crate::stored_rows::{database_text, stored};
-use hotel_rows::{TableName, first_damaged};
+use crate::connections::{created, database_text, new_tables, opened, opened_or_left};
 use hotel_scenarios::chains::{TWO_CODES, chain_reads, walks_end};
 use hotel_scenarios::desks::Desk;
 use hotel_scenarios::scenarios::{
     CHECKED_IN, LEFT_BEHIND_RECODED, NEXT_CHECKED_IN, OPENED, Step, TWO_ENTRIES,
 };
-use hotel_tables::{OpenFault, TableBooks};
+use hotel_tables::{OpenFault, TableBooks, TableName};
 use sqlite::{Alter, Connection, Error, MemStore};
 use std::alloc::Global;
 use std::process::Abort;
@@ -42,14 +40,6 @@ fn fault_of<S: Alter + Drop>(alloc: Global, conn: Connection<S>) -> Option<OpenF
     }
 }
 
-/// The first damaged table of the rows that the connection has.
-fn damaged_in<S: Alter>(
-    alloc: Global,
-    conn: &mut Connection<S>,
-) -> Result<Option<TableName>, Fail> {
-    Ok(first_damaged(alloc, &stored(alloc, conn)?)?)
-}
-
 /// An opening of the database is refused so, and leaves it as it is.
 fn is_refused<R: Abort + AllocGlobal>(
     rt: &R,
@@ -68,19 +58,15 @@ fn is_refused<R: Abort + AllocGlobal>(
     }
 }
 
-/// The closed desk, which is whole, is damaged by these statements: the table is named, by its rows and by an opening.
+/// The closed desk is damaged by this statement, and an opening names the table.
 fn is_damaged<R: Abort + AllocGlobal>(
     rt: &R,
     mut conn: Connection<MemStore>,
-    statements: &[&str],
+    statement: &str,
     table: TableName,
 ) -> Result<(), Fail> {
-    assert!(rt; damaged_in(rt.alloc(), &mut conn)? == None);
-    for statement in statements {
-        let changed = change(&mut conn, statement)?;
-        assert!(rt; changed > 0);
-    }
-    assert!(rt; damaged_in(rt.alloc(), &mut conn)? == Some(table));
+    let changed = change(&mut conn, statement)?;
+    assert!(rt; changed > 0);
     is_refused(rt, conn, OpenFault::Damaged(table))
 }
 
@@ -127,8 +113,8 @@ fn is_made_once<R: Abort + AllocGlobal>(rt: &R, conn: Connection<MemStore>) {
 #[test]
 fn reopened_tables(rt: HostRuntime) -> Result<(), Fail> {
     let books = opens_again(&rt, tables_behind(rt.alloc(), TWO_ENTRIES_MADE)?)?;
-    let moved = ["UPDATE code SET place = 5 WHERE place = 1"];
-    is_damaged(&rt, books.close(), &moved, TableName::Code)?;
+    let moved = "UPDATE code SET place = 5 WHERE place = 1";
+    is_damaged(&rt, books.close(), moved, TableName::Code)?;
     is_made_once(&rt, tables_behind(rt.alloc(), &[OPENED])?.close());
     let bare = Connection::open_in_memory(rt.alloc())?;
     assert!(rt; fault_of(rt.alloc(), bare) == Some(OpenFault::NotADesk));

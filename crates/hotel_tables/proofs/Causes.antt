@@ -27,7 +27,7 @@ use Rattle.hotel_tables.specs.Causes.{MakingFails}
 
 -- ---- look-ups
 
--- what has a cause unless memory was wanting has it where the store failed
+-- what has a cause unless memory ran out has it where the store failed
 pub of_store : {P : Type 0} (fault : LookFault) → (fault ≢ why.Memory → P) → fault ≡ why.Store → P
 of_store fault fails is = fails (λ memory. let no : why.Memory ≡ why.Store = sym memory ∙ is in cc)
 

@@ -1,5 +1,6 @@
 -- A look-up or a walk of the tables whose answer was counted, as one of the books.
-use Rattle.std.proofs.Common.{ℕ, ◌≡◌, ◌≤◌, ◌<◌, ◌⊎◌, inl, inr, Bool, true, false, List, [], Result, Ok, Err, Option, Some, None}
+use Rattle.std.proofs.Common.{ℕ, ◌≡◌, ◌≤◌, ◌<◌, ◌⊎◌, inl, inr, Bool, true, false, List, [], Result, Ok, Err, Option}
+use Rattle.std.proofs.Common.{Some, None}
 use Rattle.std.proofs.Common.{◌+◌, nat_le, refl, ap, sym, ◌∙◌, subst, rules, arith}
 use Rattle.std.specs.Prelude.{IfErr, IfOk, OnErr, OnOk, IsTrue}
 use Rattle.std.specs.Result.{IsErr, IsErrAnd}
@@ -44,7 +45,7 @@ answered : {R : Type 0} {P Q : Type 0} (said : R → Type 0) (result : Result R 
 answered said (Ok answer) p q so = so (p, q)
 answered said (Err given) p q so = tt
 
--- an answer tells no failure, and a failure is the one that is told
+-- an answer reports no failure, and a failure is the one that is reported
 pub vouches : {R : Type 0} {P : Type 0} (result : Result R LookFault) → OnOk result P → told_by result ≡ None → P
 vouches (Ok answer) p e = p
 vouches (Err given) p e = cc
@@ -87,7 +88,7 @@ over_tables g = record {
   kept_issued = λ a b h. ap codes_in h;
 }
 
--- a call of the tables that told this, and was counted, leaves what any call of books does
+-- a call of the tables that reported this, and was counted, leaves what any call of books does
 pub leaves_over : {S : Type 0} (g : Ghosts S) (old new : Tabled S) (told : Option LookFault) {Commits : Trees → Type 0}
     → (IsKept (state g new.conn) → IsKept (state g old.conn))
     → (HasCleanDisk (state g new.conn) → told ≡ None → IsTrue (state g new.conn).is_open)
@@ -398,7 +399,8 @@ rows_are (Ok done) change before after ok err = ok
 rows_are (Err given) change before after ok err = err
 
 -- a change whose answer was counted
-module _ {S : Type 0} (g : Ghosts S) (change : Change) (old mid new : Tabled S) (given result : Result (Unit {0}) LookFault)
+module _ {S : Type 0} (g : Ghosts S) (change : Change) (old mid new : Tabled S)
+    (given result : Result (Unit {0}) LookFault)
     (is : result ≡ given) (at : new.conn ≡ mid.conn) where
   pub change_applies : Applies change (state g old.conn) (state g mid.conn) given
       → Applies change (state g old.conn) (state g new.conn) result
@@ -414,7 +416,8 @@ module _ {S : Type 0} (g : Ghosts S) (change : Change) (old mid new : Tabled S) 
   pub change_counts : mid.memory ≡ old.memory → mid.store ≡ old.store
       → Counts (λ cause. one_of cause (told_by result)) (failed mid) (failed new)
       → Counts (λ cause. one_of cause (told_by result)) (failed old) (failed new)
-  change_counts memory store counted cause = subst (λ n. failed new cause ≡ counted_on (one_of cause (told_by result)) n)
+  change_counts memory store counted cause = subst
+      (λ n. failed new cause ≡ counted_on (one_of cause (told_by result)) n)
       (same_failed memory store cause) (counted cause)
 
   pub change_leaves : Applies change (state g old.conn) (state g mid.conn) given → mid.memory ≡ old.memory

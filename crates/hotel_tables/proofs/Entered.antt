@@ -1,6 +1,7 @@
 -- What is entered: a whole desk as it is, and one that lacks something of which a whole one is made.
 use Rattle.std.proofs.Common.{◌≡◌, ◌⊎◌, inl, inr, refl, sym, ap, subst, ◌∙◌, ℕ, List, true, false, Result, Ok, Err}
 use Rattle.std.proofs.Common.{IfErr, IsTrue, arith}
+use Rattle.std.specs.Map.{keys_of}
 use Rattle.sqlite.specs.Schema.{Schema}
 use Rattle.sqlite.specs.Effect.{Database}
 use Rattle.sqlite.specs.State.{State, HasCleanDisk, Survives}
@@ -15,12 +16,12 @@ use Rattle.hotel_statements.specs.declared.version.Version.{Version}
 use Rattle.hotel_statements.specs.declared.version.Layout.{Layout}
 use Rattle.hotel_statements.specs.declared.version.Layout.TheVariants.{Eight, Nine}
 use Rattle.hotel_statements.specs.Schema.{first_schema, with_indexes, schema_of, version_of, is_whole}
-use Rattle.hotel_statements.specs.Tables.{rows_in, rows_of_version}
+use Rattle.hotel_statements.specs.Tables.{bare_rooms_in, rows_in, rows_of_version}
 use Rattle.hotel_statements.specs.Books.{IsKept, IsBooks, IsBooksOf, KeepsRows}
 use Rattle.hotel_statements.specs.Statements.{completes}
 use Rattle.hotel_statements.specs.WholeTables.{IsOurs, AreRead, ReadsTo}
 use Rattle.hotel_statements.specs.declared.whole_tables.Tables.{Tables}
-use Rattle.hotel_statements.specs.Upgrade.{AreRoomsIn, IsWholeOf}
+use Rattle.hotel_statements.specs.Upgrade.{AreRoomsIn, AreRoomsFor, IsWholeOf}
 use Rattle.hotel_statements.proofs.SameSchema.{tables_there, one_version, whole_is, not_whole}
 use Rattle.hotel_statements.proofs.Books.{desk_shown}
 use Rattle.hotel_tables.specs.declared.open_fault.OpenFault.{OpenFault}
@@ -58,7 +59,7 @@ memory_in : (failed : Version → Type 0) (layout : Layout) (old new : State) (w
 memory_in failed layout old new why has told memory other is =
     subst (MemoryFits failed old new) (one_version layout other old.now.schema has is) (told memory)
 
--- a reading that failed is told by its cause
+-- a reading that failed is reported by its cause
 memory_read : (failed : Type 0) (version : Version) (old new : State) (why : OpenFault) (r : Result Tables LookFault)
     → ReadsTo version (AreRead version) old new r
     → IfErr r (λ cause. ◌≡◌ {A = Result Found OpenFault} (Err why) (Err (fault_for cause)))
@@ -151,9 +152,10 @@ entered_whole {fails} (Nine count) {found} old new whole has opens =
 
 module _ (layout : Layout) {found : Found} {old mid : State} (lacks : Lacks layout old.now.schema)
     (opens : Opens (version_of layout) old mid (Ok found)) where
-  pub rooms_read : IsKept mid → AreRoomsIn found.rooms.items mid.now.trees
+  pub rooms_read : IsKept mid → AreRoomsFor (version_of layout) found.rooms.items mid.now.trees
   rooms_read kept =
-      subst (λ (d : Database). AreRoomsIn found.rooms.items d.trees) (sym (opens.keeps kept).1) (opens.found kept).rooms
+      subst (λ (d : Database). AreRoomsFor (version_of layout) found.rooms.items d.trees) (sym (opens.keeps kept).1)
+      (opens.found kept).rooms
 
   -- what is made of it, and what that leaves
   module _ {new : State} (autocommit : new.in_transaction ≡ false) (was : IsKept new → IsKept mid)
@@ -193,7 +195,8 @@ module _ (layout : Layout) {found : Found} {old mid : State} (lacks : Lacks layo
             ∙ ap (λ (d : Database). rows_of_version (version_of layout) d.trees) (opens.keeps (was kept)).1
 
     pub not_made : {fails : LookFault → Version → Type 0} (why : LookFault) → (IsKept new → new.now ≡ mid.now)
-        → ((cause : LookFault) → why ≡ cause → fails cause (version_of layout)) → Enters fails old new (Err (fault_for why))
+        → ((cause : LookFault) → why ≡ cause → fails cause (version_of layout)) → Enters fails old new
+        (Err (fault_for why))
     not_made {fails} why same failed = record {
       autocommit = autocommit;
       books = tt;
@@ -221,25 +224,37 @@ of_call failed s why fits (layout, desk, sound) =
     (fits layout desk.schema)
 
 module _ {S : Type 0} (g : Ghosts S) where
+  -- the statements that failed are those for the desk's rooms; where none were asked for, they are those for any
+  of_rooms : (layout : Layout) (rooms : List ℕ) (mid new : Held S) (e : Error)
+      → (IsKept (state g mid) → AreRoomsFor (version_of layout) rooms (state g mid).now.trees)
+      → FailsToWrite g (completes layout rooms) mid new e
+      → (all : List ℕ) × (IsKept (state g mid) → AreRoomsIn all (state g mid).now.trees)
+      × FailsToWrite g (completes layout all) mid new e
+  of_rooms Eight rooms mid new e rooms_are failed = (rooms, rooms_are, failed)
+  of_rooms (Nine count) rooms mid new e rooms_are failed =
+      (keys_of (bare_rooms_in (state g mid).now.trees), λ _. refl, failed)
+
   -- the making of what a desk lacks failed
   pub completion_fails : (layout : Layout) (old mid new : Held S) (rooms : List ℕ) (e : Error)
       → Lacks layout (state g old).now.schema → KeepsRows (state g old) (state g mid)
-      → (IsKept (state g mid) → AreRoomsIn rooms (state g mid).now.trees)
+      → (IsKept (state g mid) → AreRoomsFor (version_of layout) rooms (state g mid).now.trees)
       → FailsToWrite g (completes layout rooms) mid new e → (cause : LookFault) → fault_of e ≡ cause
       → CallFails g old new cause (version_of layout)
-  completion_fails layout old mid new rooms e lacks same rooms_are failed cause is = inr (record {
-    layout = layout;
-    lacks = lacks;
-    read = mid;
-    same = same;
-    rooms = rooms;
-    rooms_are = rooms_are;
-    error = e;
-    told = sym is;
-    failed = failed;
-  })
+  completion_fails layout old mid new rooms e lacks same rooms_are failed cause is =
+      let of = of_rooms layout rooms mid new e rooms_are failed in
+      inr (record {
+        layout = layout;
+        lacks = lacks;
+        read = mid;
+        same = same;
+        rooms = of.0;
+        rooms_are = of.1;
+        error = e;
+        told = sym is;
+        failed = of.2;
+      })
 
-  -- nothing was read: the tables are no desk's, or memory was wanting
+  -- nothing was read: the tables are no desk's, or memory ran out
   pub unread : (c : Held S) (why : OpenFault) → c.in_transaction ≡ false
       → (IsLaidOut (state g c).now.schema → why ≡ fault.Memory) → IsNoDesk why
       → Survives (state g c) (state g c) (λ _. ⊥) → LeavesDatabase g c c why

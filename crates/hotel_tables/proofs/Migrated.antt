@@ -10,11 +10,11 @@ use Rattle.hotel_statements.specs.Schema.{version_of}
 use Rattle.hotel_statements.specs.Statements.{MakesBy, completes}
 use Rattle.hotel_statements.specs.Tables.{rows_in, rows_of_version}
 use Rattle.hotel_statements.specs.Books.{IsKept, IsBooksOf}
-use Rattle.hotel_statements.specs.Upgrade.{AreRoomsIn, Completes, IsWholeOf}
+use Rattle.hotel_statements.specs.Upgrade.{AreRoomsFor, Completes, IsWholeOf}
 use Rattle.hotel_statements.proofs.Transaction.{Begins, Committed, Finishes}
 use Rattle.hotel_statements.proofs.Upgraded.{migrated, rows_made, whole_or_none}
 
-module _ {S : Type 0} (g : Ghosts S) {layout : Layout} {rooms : List ℕ} (old start mid new : Held S)
+module _ {S : Type 0} (g : Ghosts S) {layout : Layout} (rooms : List ℕ) (old start mid new : Held S)
     (r : Result (Unit {0}) Error) (books : IsBooksOf layout (state g old))
     (begun : start ≡ record old { in_transaction = true })
     (makes : MakesBy g (completes layout rooms) (Completes layout rooms) start mid (Ok tt))
@@ -27,14 +27,14 @@ module _ {S : Type 0} (g : Ghosts S) {layout : Layout} {rooms : List ℕ} (old s
       → (HasCleanDisk (state g new) → IfErr r (FailsToCommit (state g mid) (state g new)))
       → Finishes layout (state g old) (state g mid) (state g new) r
   ended autocommit ok err =
-      migrated begins makes.made makes.survives (state g new) r autocommit ok err survives
+      migrated rooms begins makes.made makes.survives (state g new) r autocommit ok err survives
 
   -- and where those are the desk's
-  module _ (rooms_are : IsKept (state g old) → AreRoomsIn rooms (state g old).now.trees) where
+  module _ (rooms_are : IsKept (state g old) → AreRoomsFor (version_of layout) rooms (state g old).now.trees) where
     pub made : Finishes layout (state g old) (state g mid) (state g new) r → IsKept (state g new)
         → OnOk r (rows_in (state g new).now.trees ≡ rows_of_version (version_of layout) (state g old).now.trees)
-    made = rows_made begins makes.made makes.survives rooms_are (state g new) r survives
+    made = rows_made rooms begins makes.made makes.survives rooms_are (state g new) r survives
 
     pub crash : Survives (state g old) (state g start) (λ _. ⊥)
         → Survives (state g old) (state g new) (IsWholeOf (version_of layout) (state g old).now.trees)
-    crash began = whole_or_none begins makes.made makes.survives rooms_are (state g new) began survives
+    crash began = whole_or_none rooms begins makes.made makes.survives rooms_are (state g new) began survives

@@ -70,9 +70,10 @@ use Rattle.hotel_statements.specs.PlainRows.{fit_shown, ArePlainRows}
 use Rattle.hotel_statements.specs.PlainRows.{may_be_natural, room_natural, stay_natural, code_natural, card_natural}
 use Rattle.hotel_statements.specs.PlainRows.{inside_natural, note_natural, fit_natural}
 use Rattle.hotel_statements.specs.WholeTables.{ReadsTo, AreFitRows, AreRead}
+use Rattle.hotel_statements.specs.Upgrade.{AreRoomsFor}
 use Rattle.hotel_tables.specs.Opening.{AreStoredAs, AreStored, AreApartInside, IsMetaRow, IsFound, LacksRow, HasMetaRow}
 use Rattle.hotel_tables.specs.Opening.{FaultFits, FailsToRead, Opens, all_rise, fits_natural, all_natural, id_inside}
-use Rattle.hotel_tables.specs.Opening.{plain_inside, fault_for}
+use Rattle.hotel_tables.specs.Opening.{plain_inside, fault_for, rooms_for}
 use Rattle.hotel_rows.specs.Counts.{IsCountedOf}
 use Rattle.hotel_rows.specs.Joined.{with_fit, under_fit, joined_with, initial_fits, FitEntries}
 use Rattle.hotel_rows.proofs.OfCounts.{counted_rooms, named_kind}
@@ -455,15 +456,20 @@ numbers_are : (rooms : List PlainRoom)
 numbers_are [] = refl
 numbers_are (r ∷ rooms) = ap (λ ns. number_of r.room ∷ ns) (numbers_are rooms)
 
--- what is found in stored rows that aren't damaged
-abbrev pub IsFoundOf : Stored → Found → Type 0
-IsFoundOf s found =
-    IsCountedOf s found.counts × (first_damaged_of s ≡ None) × (all_natural s ≡ true)
-    × (found.rooms.items ≡ map (λ (r : PlainRoom). number_of r.room) s.room.items)
+rooms_there : (version : Version) (rooms : List ℕ) (ls : List PlainRoom) (db : Trees)
+    → bare_rooms_in db ≡ map room_entry ls → rooms ≡ rooms_for version ls → AreRoomsFor version rooms db
+rooms_there First rooms ls db there are = are ∙ sym (numbers_are ls) ∙ ap keys_of (sym there)
+rooms_there Second rooms ls db there are = tt
 
-pub opened : {version : Version} (s : Stored) (db : Trees) (found : Found) → AreStored version s db × AreApartInside db
-    → IsFoundOf s found → IsFound version found db
-opened s db found a h =
+-- what is found in stored rows that aren't damaged
+abbrev pub IsFoundOf : Version → Stored → Found → Type 0
+IsFoundOf version s found =
+    IsCountedOf s found.counts × (first_damaged_of s ≡ None) × (all_natural s ≡ true)
+    × (found.rooms.items ≡ rooms_for version s.room.items)
+
+pub opened : (version : Version) (s : Stored) (db : Trees) (found : Found) → AreStored version s db × AreApartInside db
+    → IsFoundOf version s found → IsFound version found db
+opened version s db found a h =
     let sound = (undamaged_is_sound s).0 h.1 in
     let desk = are_desk s db a.0 a.1 sound.0.keys sound.1 h.2 in
     let here : IsCounted found.counts.kinds found.counts.nights (rows_of s) = record {
@@ -476,7 +482,7 @@ opened s db found a h =
     record {
       tables = desk.tables;
       counted = subst (IsCounted found.counts.kinds found.counts.nights) (sym desk.rows) here;
-      rooms = h.3 ∙ sym (numbers_are s.room.items) ∙ ap keys_of (sym desk.rooms);
+      rooms = rooms_there version found.rooms.items s.room.items db desk.rooms h.3;
     }
 
 -- ---- the whole

@@ -61,14 +61,14 @@ module _ {S : Type 0} (g : Ghosts S) where
   abbrev pub IsAsked : Held S → Held S → Type 0
   IsAsked old new = IsUnchanged (state g old) (state g new) × LeavesNoMore (state g old) (state g new)
 
-  -- What fails of a call, of a connection from old to new, that begins where it was asked in vain whether it answers, or
-  -- once it answered. It is asked where it did not answer when it was last asked.
+  -- What fails of a call, of a connection from old to new, that begins where it was asked in vain whether it answers,
+  -- or once it answered. It is asked where it did not answer when it was last asked.
   abbrev pub OnceReady : (Held S → Held S → Type 0) → Held S → Held S → Type 0
   OnceReady Fails old new =
       DayFails (state g old) (state g new)
       ⊎ ((begins : Held S) × ((begins ≡ old) ⊎ IsAsked old begins) × Fails begins new)
 
-  -- why a look-up or a walk fails, but for want of memory
+  -- why a look-up or a walk fails, but for lack of memory
   abbrev pub LookFails : Held S → Held S → Type 0
   LookFails = OnceReady (λ a b. LookUpFails (state g a) (state g b))
 
@@ -107,7 +107,7 @@ module _ {S : Type 0} (g : Ghosts S) where
     pub is_store : fault_of error ≡ why.Store
     pub failed : FailsToWrite (statements_of change known) begins new error
 
-  -- why the statements of a change aren't made, of a connection from old to new, but for want of memory
+  -- why the statements of a change aren't made, of a connection from old to new, but for lack of memory
   abbrev pub MakingFails : Change → Held S → Held S → Type 0
   MakingFails change old new = ToldFails change (state g old) (state g new) ⊎ WriteFails change old new
 
@@ -115,6 +115,6 @@ module _ {S : Type 0} (g : Ghosts S) where
   abbrev pub TablesFail : Change → Held S → Held S → Type 0
   TablesFail change old new = EndedFails change (state g old) (state g new) ⊎ MakingFails change old new
 
-  -- Why a change isn't made, of the books' connection from old to new, but for want of memory.
+  -- Why a change isn't made, of the books' connection from old to new, but for lack of memory.
   abbrev pub ChangeFails : Change → Held S → Held S → Type 0
   ChangeFails change = OnceReady (TablesFail change)

@@ -24,8 +24,8 @@ makes_desk = makes_first ++ (makes_last ++ adds_meta ∷ [])
 
 module _ {S : Type 0} (g : Ghosts S) where
   -- Why no desk was made of a database that has nothing, from the connection to it to the one that is given back,
-  -- outside any transaction: a call of the store answered an error, which is told by its name. No row is changed, and a
-  -- crash leaves what it could leave before, or the whole of a new desk.
+  -- outside any transaction: a call of the store answered an error, which is reported by its name. No row is changed,
+  -- and a crash leaves what it could leave before, or the whole of a new desk.
   pub record LeavesBare (old new : Held S) (why : OpenFault) : Type 0 where
     pub outside : new.in_transaction ≡ false
     pub same : KeepsRows (state g old) (state g new)
@@ -34,7 +34,7 @@ module _ {S : Type 0} (g : Ghosts S) where
     pub told : why ≡ fault_for (fault_of error)
     pub failed : FailsToWrite g makes_desk old new error
 
-  -- What a desk lacks wasn't made, of a connection from old to new, and this is told: its tables were read, and the
+  -- What a desk lacks wasn't made, of a connection from old to new, and this is reported: its tables were read, and the
   -- transaction of the statements for it and its rooms failed.
   pub record CompletionFails (old new : Held S) (why : LookFault) : Type 0 where
     pub layout : Layout
@@ -53,18 +53,18 @@ module _ {S : Type 0} (g : Ghosts S) where
       FailsToRead version (state g old) (state g new) why ⊎ CompletionFails old new why
 
   -- Why a database gave no books, from the connection to it to the one that is given back, outside any transaction. No
-  -- row is changed, and a crash leaves what it could leave before, or the whole desk that was to be made of one that lacks
-  -- something.
+  -- row is changed, and a crash leaves what it could leave before, or the whole desk that was to be made of one that
+  -- lacks something.
   pub record LeavesDatabase (old new : Held S) (why : OpenFault) : Type 0 where
     pub outside : new.in_transaction ≡ false
     pub same : KeepsRows (state g old) (state g new)
     pub crash : IsKept (state g old) → Survives (state g old) (state g new) (IsCompleted (state g old).now)
-    -- a database that isn't laid out as a desk's is called so, unless memory was wanting
+    -- a database that isn't laid out as a desk's is called so, unless memory ran out
     pub foreign : ¬ IsLaidOut (state g old).now.schema → IsNoDesk why
     -- over a desk's tables: a table is called damaged where it is the first that is, it is no desk's for want of meta's
-    -- one row, and Store is told of a call that failed or of rows that no query shows
+    -- one row, and Store is reported of a call that failed or of rows that no query shows
     pub fits : HasCleanDisk (state g new) → FaultFitsIn (CallFails old new look.Store) (state g old).now why
-    -- Memory is told of a call that failed for want of it, or where none failed: nothing was read, or all was
+    -- Memory is reported of a call that failed for want of it, or where none failed: nothing was read, or all was
     pub memory : (new ≡ old) ⊎ MemoryFitsIn (CallFails old new look.Memory) (state g old) (state g new) why
     -- tables that books kept are never refused
     pub kept : HasCleanDisk (state g new) → IsSoundDesk (state g old) → IsOfCall why

@@ -70,8 +70,9 @@ module _ {D : Type 0} {g : disk.Ghosts D} (is_part : Bool → D → Type 0) wher
   IsPlain files c = IsBlankAs false (image_of g files) → (view c.store).has_sums ≡ false
 
   -- What an opening promises of its answer. A connection is new, over a log and a database's file; where its disk is
-  -- clean it is open, with nothing uncommitted, and has what the files held, and of blank files without sums. An error comes before there are files, or
-  -- has its cause in what they hold or in a call of theirs that failed, and says what is left of them.
+  -- clean it is open, with nothing uncommitted, and has what the files held, and of blank files without sums. An error
+  -- comes before there are files, or has its cause in what they hold or in a call of theirs that failed, and says what
+  -- is left of them.
   abbrev pub IsAnswer : Result (Held (FileStore D g)) (Error × Option (Leftover D g)) → Type 0
   IsAnswer (Ok c) =
       (files : Files D) × AreParts is_part files × IsNew c

@@ -1,5 +1,5 @@
 -- What is tested of the tables that are read when books are opened, and what opening promises.
-use Rattle.std.specs.Prelude.{◌≡◌, ◌⊎◌, ◌&&◌, ℤ, pos, Bool, true, false, List, [], ◌∷◌, map, Option, Some, None, Vec}
+use Rattle.std.specs.Prelude.{◌≡◌, ◌⊎◌, ◌&&◌, ℕ, ℤ, pos, Bool, true, false, List, [], ◌∷◌, map, Option, Some, None, Vec}
 use Rattle.std.specs.Prelude.{Result, Ok, Err, IfOk, IfErr, OnOk, OnErr, IsTrue}
 use Rattle.std.specs.List.{list_all, AllByRecursion}
 use Rattle.std.specs.Ordering.{int_cmp}
@@ -34,8 +34,11 @@ use Rattle.hotel_tables.specs.declared.opening.Found.{Found}
 use Rattle.hotel_rows.specs.declared.counts.Counts.{Counts}
 use Rattle.hotel_rows.specs.declared.stored.PlainFit.{PlainFit}
 use Rattle.hotel_rows.specs.declared.stored.PlainInside.{PlainInside}
+use Rattle.hotel_rows.specs.declared.stored.PlainRoom.{PlainRoom}
+use Rattle.hotel_rows.specs.Keys.{room_key}
 use Rattle.hotel_rows.specs.Damage.{first_damaged_of}
 use Rattle.hotel_statements.specs.declared.version.Version.{Version}
+use Rattle.hotel_statements.specs.declared.version.Version.TheVariants.{First, Second}
 use Rattle.hotel_statements.specs.declared.version.Layout.{Layout}
 use Rattle.hotel_statements.specs.Schema.{desk_schema, schema_of, version_of, is_whole}
 use Rattle.hotel_statements.specs.Tables.{HasId, AreApart, AreApartIds, AreTablesOf, number_of_version, rows_in}
@@ -44,7 +47,7 @@ use Rattle.hotel_statements.specs.Books.{IsKept, IsBooks, IsDeskOf, KeepsRows}
 use Rattle.hotel_statements.specs.LookUps.{LeavesNoMore}
 use Rattle.hotel_statements.specs.WholeTables.{IsOurs, AreFitRows, AreRead, ReadsTo}
 use Rattle.hotel_statements.specs.declared.whole_tables.Tables.{Tables}
-use Rattle.hotel_statements.specs.Upgrade.{AreRoomsIn, IsWholeOf}
+use Rattle.hotel_statements.specs.Upgrade.{AreRoomsFor, IsWholeOf}
 use Rattle.hotel_tables.specs.Applied.{LeavesAll}
 use Rattle.hotel_tables.specs.TableBooks.{IsCounted}
 
@@ -126,7 +129,7 @@ IsUnshown version db =
     ⊎ (((s : Stored) × AreStoredAs false version s db)
     ⊎ ((s : Stored) × AreStored version s db × (first_damaged_of s ≡ None) × (all_natural s ≡ false)))
 
--- What a fault says of the tables of a version, where this is what it says of the calls: Store is told where a call
+-- What a fault says of the tables of a version, where this is what it says of the calls: Store is reported where a call
 -- failed, or of rows that no query shows; and never of tables that lack the row of meta.
 abbrev pub FaultFits : Type 0 → Version → Trees → OpenFault → Type 0
 FaultFits failed version db fault.Memory = Unit {0}
@@ -144,7 +147,7 @@ FaultFitsIn failed db why =
 abbrev pub FailsToRead : Version → State → State → LookFault → Type 0
 FailsToRead version old new why = ReadsTo version (AreRead version) old new (Err why)
 
--- Memory is told of the tables of a version where a call failed for want of it, as this says, or once they were all
+-- Memory is reported of the tables of a version where a call failed for want of it, as this says, or once they were all
 -- read.
 abbrev pub MemoryFitsIn : (Version → Type 0) → State → State → OpenFault → Type 0
 MemoryFitsIn failed old new why =
@@ -192,14 +195,14 @@ pub record IsOpened (old new : State) : Type 0 where
   pub whole : IfLacking old.now (IsKept new → LeavesAll new)
   pub vouched : HasCleanDisk new → IsKept new
 
--- memory was wanting, or a call of the store failed
+-- memory ran out, or a call of the store failed
 abbrev pub IsOfCall : OpenFault → Type 0
 IsOfCall fault.Memory = Unit {0}
 IsOfCall fault.Store = Unit {0}
 IsOfCall fault.NotADesk = ⊥
 IsOfCall (fault.Damaged t) = ⊥
 
--- it is no desk's, or memory was wanting
+-- it is no desk's, or memory ran out
 abbrev pub IsNoDesk : OpenFault → Type 0
 IsNoDesk fault.Memory = Unit {0}
 IsNoDesk fault.Store = ⊥
@@ -210,11 +213,17 @@ abbrev pub fault_for : LookFault → OpenFault
 fault_for look.Memory = fault.Memory
 fault_for look.Store = fault.Store
 
--- What is found in the trees of a version's tables, whose rows are sound: what books count of these, and the rooms.
+-- the rooms whose first fits an upgrade adds: those of a desk of the first version
+abbrev pub rooms_for : Version → List PlainRoom → List ℕ
+rooms_for First rooms = map room_key rooms
+rooms_for Second rooms = []
+
+-- What is found in the trees of a version's tables, whose rows are sound: what books count of these, and the rooms that
+-- an upgrade asks for.
 pub record IsFound (version : Version) (found : Found) (db : Trees) : Type 0 where
   pub tables : AreTablesOf version db
   pub counted : IsCounted found.counts.kinds found.counts.nights (rows_of_version version db)
-  pub rooms : AreRoomsIn found.rooms.items db
+  pub rooms : AreRoomsFor version found.rooms.items db
 
 -- What the reading of a version's tables promises, of a connection from old to new: what is found there, and what a
 -- fault says of the tables. Where it is answered over a disk that returned what was written, the connection is open.
@@ -224,7 +233,7 @@ pub record Opens (version : Version) (old new : State) (result : Result Found Op
   pub keeps : KeepsRows old new
   pub found : IsKept new → IfOk result (λ found. IsFound version found old.now.trees)
   pub fault : HasCleanDisk new → IfErr result (FaultFits (FailsToRead version old new look.Store) version old.now.trees)
-  -- a reading that failed is told by its cause
+  -- a reading that failed is reported by its cause
   pub reading : (r : Result Tables LookFault) × ReadsTo version (AreRead version) old new r
       × IfErr r (λ why. result ≡ Err (fault_for why))
   pub open_on : HasCleanDisk new → OnOk result (IsTrue new.is_open)

@@ -34,7 +34,7 @@ pub(crate) fn ended_by<S: Alter>(
     }
 }
 
-/// Counts what a change adds and memory may be wanting for: its kind, which has no rooms yet, or its stay.
+/// Counts what a change adds and memory may run out for: its kind, which has no rooms yet, or its stay.
 ///
 /// A refusal changes no count.
 pub(crate) fn count_added(

@@ -33,7 +33,7 @@ fn desk_in_memory(alloc: Global) -> Result<Connection<MemStore>, Memory>
     };
     match make_desk(&mut conn) {
         Ok(()) => Ok(conn),
-        // A store in memory fails for want of memory alone.
+        // A store in memory fails for lack of memory alone.
         Err(_) => Err(Memory),
     }
 }

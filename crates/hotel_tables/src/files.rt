@@ -15,8 +15,7 @@ use std::alloc::Global;
 use std::hash::{BuildHasher, RandomState};
 
 /// How many pages the log has before it is copied into the database's file: 16 MB. Each copying writes a page once,
-/// however
-/// often the log has it, so that a longer log copies fewer pages for each change.
+/// however often the log has it, so that a longer log copies fewer pages for each change.
 const CHECKPOINT_FRAMES: usize = 4_000;
 
 /// Why a file gave no books.
@@ -111,8 +110,7 @@ fn connect<D: PathDisk>(
 /// files at the path, as a file of the system carries no name, nor when the system opens a file: `CannotOpen` and
 /// `DatabaseBusy`, which are `FileFault::File`, have no cause. So a body that always answers a fault of openings is
 /// refused in `connect` and `books_of`, where the answers are given, and by no clause here. Nor does a clause say that
-/// the
-/// disk of an opened file is clean, which is the premise of what is said of its rows.
+/// the disk of an opened file is clean, which is the premise of what is said of its rows.
 pub fn open_file<D: PathDisk>(
     rt: &HostRuntime,
     path: &str,

@@ -6,7 +6,7 @@ ghost use Rattle.hotel_statements.specs.Schema.{version_of, is_whole};
 ghost use Rattle.hotel_statements.specs.Statements.{completes};
 ghost use Rattle.hotel_statements.specs.Tables.{rows_in, rows_of_version};
 ghost use Rattle.hotel_statements.specs.Books.{IsKept, IsBooks, IsBooksOf};
-ghost use Rattle.hotel_statements.specs.Upgrade.{AreRoomsIn, IsWholeOf};
+ghost use Rattle.hotel_statements.specs.Upgrade.{AreRoomsFor, IsWholeOf};
 ghost use Rattle.hotel_tables.specs.Applied.{LeavesAll};
 ghost use Rattle.hotel_tables.specs.Causes.{FailsToWrite};
 
@@ -15,7 +15,9 @@ use hotel_statements::upgrade::complete;
 use keycard_rules::RoomNo;
 use sqlite::{Alter, Connection, Error};
 
-/// Makes what a desk lacks that is laid out so, all of it or nothing; its rooms are given, and its rows stay.
+/// Makes what a desk lacks that is laid out so, all of it or nothing; its rows stay.
+///
+/// The rooms are given of a desk of the first version; of the second none are needed.
 pub(crate) fn migrate<S: Alter>(
     conn: &mut Connection<S>,
     layout: Layout,
@@ -23,7 +25,8 @@ pub(crate) fn migrate<S: Alter>(
 ) -> Result<(), Error>
     requires lacks { is_whole layout ≡ false }
     requires books { IsBooksOf layout (state S.Store conn.old) }
-    requires rooms { IsKept (state S.Store conn.old) → AreRoomsIn rooms.now (state S.Store conn.old).now.trees }
+    requires rooms { IsKept (state S.Store conn.old)
+        → AreRoomsFor (version_of layout) rooms.now (state S.Store conn.old).now.trees }
     ensures books { OnOk result (IsBooks (state S.Store conn.new)) }
     ensures left { OnErr result (IsBooksOf layout (state S.Store conn.new)) }
     ensures was { IsKept (state S.Store conn.new) → IsKept (state S.Store conn.old) }

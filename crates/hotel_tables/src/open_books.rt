@@ -18,9 +18,9 @@ use std::alloc::Global;
 impl<S: Alter + Drop> TableBooks<S> {
     /// Books over the tables of a desk, which are read whole and tested.
     ///
-    /// What a desk lacks whose rows are sound, as a desk of the first version, is made in one transaction; its rows stay.
-    /// A database with other tables is no desk's. A desk is made in memory to compare them with.
-    /// On a fault the connection is given back.
+    /// What a desk lacks whose rows are sound, as a desk of the first version, is made in one transaction; its rows
+    /// stay. A database with other tables is no desk's. A desk is made in memory to compare them with. On a fault the
+    /// connection is given back.
     pub fn open_or_return(
         alloc: Global,
         mut conn: Connection<S>,

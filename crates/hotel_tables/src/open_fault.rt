@@ -4,7 +4,7 @@ use hotel_rows::TableName;
 /// Why a connection gives no books.
 #[derive(Clone, Copy, Debug, PartialEq, Eq)]
 pub enum OpenFault {
-    /// Memory was wanting.
+    /// Memory ran out.
     Memory,
     /// A call of the store failed.
     Store,

@@ -1,22 +1,26 @@
 //! Books over tables that are there: the tables are read whole and tested, and what books keep in memory is counted.
 ghost use Rattle.std.specs.Prelude.{◌≡◌, ◌↔◌, pos, None, true, map, IfOk, IfErr};
+ghost use Rattle.std.specs.List.{list_all};
 ghost use Rattle.std.specs.Ordering.{int_cmp, is_lt};
 ghost use Rattle.sqlite.specs.Held.{state};
 ghost use Rattle.sqlite.specs.Tree.{Trees};
+ghost use Rattle.keycard_rules.specs.declared.issued.LookFault.TheVariants as look;
 ghost use Rattle.hotel_model.specs.SoundRooms.{are_in_order};
 ghost use Rattle.hotel_rows.specs.Counts.{IsCountedOf};
 ghost use Rattle.hotel_rows.specs.Damage.{first_damaged_of};
-ghost use Rattle.hotel_rows.specs.Keys.{room_key};
+ghost use Rattle.hotel_rows.specs.RowTests.{is_room_number};
 ghost use Rattle.hotel_statements.specs.declared.version.Version.{Version};
 ghost use Rattle.hotel_statements.specs.Tables.{AreApart, number_of_version};
 ghost use Rattle.hotel_statements.specs.WholeTables.{IsOurs, AreRead};
 ghost use Rattle.hotel_tables.specs.declared.open_fault.OpenFault.TheVariants.{NotADesk};
 ghost use Rattle.hotel_tables.specs.Opening.{AreStored, AreApartInside, IsMetaRow, IsFound, FaultFits, Opens, LacksRow};
 ghost use Rattle.hotel_tables.specs.Opening.{fits_rise, fits_natural, all_rise, all_natural, plain_inside, id_inside};
-ghost use Rattle.hotel_tables.specs.Opening.{fault_for};
+ghost use Rattle.hotel_tables.specs.Opening.{fault_for, rooms_for};
 
 use crate::open_fault::OpenFault;
-use hotel_rows::{Counts, PlainFit, PlainInside, Stored, counts_of, first_damaged, rooms_of};
+use hotel_rows::{
+    Counts, PlainFit, PlainInside, PlainRoom, Stored, counts_of, first_damaged, rooms_of,
+};
 use hotel_statements::Version;
 use hotel_statements::plain_rows::{self, NumberedInside, PlainMeta};
 use hotel_statements::whole_tables::{self, Tables, read_tables, rise};
@@ -217,36 +221,37 @@ fn sound_counts(alloc: Global, stored: &Stored) -> Result<Counts, OpenFault>
     }
 }
 
+/// The rooms whose first fits an upgrade adds: those of a desk of the first version, in order.
+fn rooms_for(alloc: Global, rooms: &[PlainRoom], version: Version) -> Result<Vec<RoomNo>, LookFault>
+    ensures ok { IfOk result (λ numbers. numbers.items ≡ rooms_for version rooms.now) }
+    ensures err { list_all is_room_number rooms.now ≡ true → IfErr result (λ why. why ≡ look.Memory) }
+{
+    match version {
+        Version::First => rooms_of(alloc, rooms),
+        Version::Second => Ok(Vec::new(alloc)),
+    }
+}
+
 /// What a desk is opened with.
 #[derive(Drop)]
 pub(crate) struct Found {
     /// What books count of the rows.
     pub counts: Counts,
-    /// The rooms, in order.
+    /// The rooms of a desk of the first version, in order; none of the second, whose rooms have their fits.
     pub rooms: Vec<RoomNo>,
 }
 
-/// What is found in the rows of tables, where none is damaged.
-fn sound_found(alloc: Global, stored: &Stored) -> Result<Found, OpenFault>
-    ensures ok { IfOk result (λ found. IsCountedOf stored.now found.counts × (first_damaged_of stored.now ≡ None)
-        × (all_natural stored.now ≡ true) × (found.rooms.items ≡ map room_key stored.now.room.items)) }
-    ensures err { (version : Version) (db : Trees) → AreStored version stored.now db
-        → IfErr result (FaultFits ⊥ version db) }
-{
-    let counts = sound_counts(alloc, stored)?;
-    match rooms_of(alloc, &stored.room) {
-        Ok(rooms) => Ok(Found { counts, rooms }),
-        Err(why) => Err(open_fault(why)),
-    }
-}
-
-/// What is found in tables that a desk of a version may have.
+/// What is found in tables that a desk of a version may have, where none is damaged.
 fn found_in(alloc: Global, tables: Tables, version: Version) -> Result<Found, OpenFault>
     ensures ok { (db : Trees) → AreRead version tables db → IfOk result (λ found. IsFound version found db) }
     ensures err { (db : Trees) → AreRead version tables db → IfErr result (FaultFits ⊥ version db) }
 {
     let stored = stored_of(alloc, tables, version)?;
-    sound_found(alloc, &stored)
+    let counts = sound_counts(alloc, &stored)?;
+    match rooms_for(alloc, &stored.room, version) {
+        Ok(rooms) => Ok(Found { counts, rooms }),
+        Err(why) => Err(open_fault(why)),
+    }
 }
 
 /// Reads the tables of a desk of a version and tests them.

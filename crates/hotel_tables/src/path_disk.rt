@@ -18,8 +18,7 @@ pub trait PathDisk: Disk + Drop {
     /// have them meanwhile.
     ///
     /// It refuses `:memory:` and names that begin with `file:`, which are no paths to SQLite. That the files are those
-    /// of
-    /// the path is in no clause: a file of the system carries no name.
+    /// of the path is in no clause: a file of the system carries no name.
     fn open(rt: &HostRuntime, path: &str) -> Result<Files<Self>, Error>
         ensures refused { IsTrue (is_no_path path.now) → result ≡ Err (Error.SqliteFailure ErrorCode.CannotOpen) }
         ensures kind { IfErr result IsPathError }

@@ -8,8 +8,8 @@ use sqlite_disk::{Disk, Tally};
 use std::io;
 
 /// A file of the system. It has no type parameters, so that `Disk` is met at it by one impl alone: of a type over
-/// `File` itself, which
-/// meets it by an impl with parameters, the prover makes no proof of an impl whose trait asks for a disk.
+/// `File` itself, which meets it by an impl with parameters, the prover makes no proof of an impl whose trait asks for
+/// a disk.
 #[derive(Drop)]
 pub struct SystemDisk {
     file: File,

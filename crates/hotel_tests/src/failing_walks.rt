@@ -167,8 +167,8 @@ fn is_whole(
     Ok(())
 }
 
-/// The call of this number fails for this cause, and writes go wrong so: that cause is told and counted. Then the list
-/// is whole.
+/// The call of this number fails for this cause, and writes go wrong so: that cause is reported and counted. Then the
+/// list is whole.
 fn fails_at(
     rt: &(impl Abort + AllocGlobal),
     asked: &Asked,
@@ -211,7 +211,8 @@ fn header_bytes(asked: &Asked) -> u32 {
     bytes
 }
 
-/// Behind a walk that failed nothing is written: a write that would fail there isn't told in place of the walk's fault.
+/// Behind a walk that failed nothing is written: a write that would fail there isn't reported in place of the walk's
+/// fault.
 #[test]
 fn a_failed_walk_is_told_before_a_failed_write(rt: HostRuntime) -> Result<(), Fail> {
     for asked in &ASKED {

@@ -98,7 +98,7 @@ fn stops_at_call(
     }
 }
 
-/// Each call of the books fails in turn, for want of memory or by the store; the answered lines stand. Then the file is
+/// Each call of the books fails in turn, for lack of memory or by the store; the answered lines stand. Then the file is
 /// sent again.
 fn stops_in_turn(rt: &(impl Abort + AllocGlobal), sent: &Sent) -> Result<(), Fail> {
     for call in 1..=MOST_CALLS {

@@ -20,7 +20,7 @@ counted_join (suc n) (suc m) a b c p q =
     let t : c ≡ min (b + suc m) (2 ^ 64 - 1) = q in
     rw e (grind (arith, r, t))
 
--- answered calls before one that told this
+-- answered calls before one that reported this
 pub counted_told : (told : Option LookFault) (why : LookFault) (a b c : ℕ)
     → b ≡ a → c ≡ counted_on (one_of why told) b → c ≡ counted_on (one_of why told) a
 counted_told told why a b c p q = q ∙ ap (counted_on (one_of why told)) p
@@ -35,7 +35,8 @@ began_by : {P Q : Type 0} (told : Option LookFault) (later : List (Option LookFa
 began_by None later first rest back e = first refl
 began_by (Some why) later first rest back e = back (rest e)
 
-ends_by : {P Q : Type 0} (told : Option LookFault) (later : List (Option LookFault)) → (told ≡ None → P) → (P → later ≡ [] → Q)
+ends_by : {P Q : Type 0} (told : Option LookFault) (later : List (Option LookFault)) → (told ≡ None → P) →
+    (P → later ≡ [] → Q)
     → (last_answers later ≡ true → Q) → last_answers (told ∷ later) ≡ true → Q
 ends_by None [] first none rest e = none (first refl) refl
 ends_by (Some why) [] first none rest e = cc
@@ -59,7 +60,8 @@ together K old new (told ∷ later) p =
     record {
       since = since_then first.since rest.since;
       counted = λ honest why.
-          counted_join (one_of why told) (times why later) (K.failures old why) (K.failures p.0 why) (K.failures new why)
+          counted_join (one_of why told) (times why later) (K.failures old why) (K.failures p.0 why)
+          (K.failures new why)
           (first.counted (rest.since.was_honest honest) why) (rest.counted honest why);
       began = λ honest.
           began_by told later

@@ -1,11 +1,13 @@
 -- What each call says of the state that it leaves, over no call and over two.
-use Rattle.std.proofs.Common.{ℕ, ◌≡◌, ◌+◌, ◌-◌, ◌^◌, min, arith, ◌≤◌, nat_le, Bool, true, false, refl, Option, Some, None}
+use Rattle.std.proofs.Common.{ℕ, ◌≡◌, ◌+◌, ◌-◌, ◌^◌, min, arith, ◌≤◌, nat_le, Bool, true, false, refl, Option, Some}
+use Rattle.std.proofs.Common.{None}
 use Rattle.std.proofs.Common.{◌⊎◌, inl, inr}
 use Rattle.std.specs.Prelude.{IfSome}
 use Rattle.std.proofs.lemmas.Bool.Decides.{nat_tests}
 use Rattle.keycard_rules.specs.{declared.issued.LookFault.LookFault, declared.kept.Kept.Ghosts as KeptOf, Since.Since}
 use Rattle.keycard_rules.specs.declared.issued.LookFault.TheVariants as look
-use Rattle.keycard_rules.specs.{Leaves.StaysClean, Rise.Counts, Rise.HasRisen, Rise.NoFewer, Rise.counted_on, Rise.one_of}
+use Rattle.keycard_rules.specs.{Leaves.StaysClean, Rise.Counts, Rise.HasRisen, Rise.NoFewer, Rise.counted_on}
+use Rattle.keycard_rules.specs.{Rise.one_of}
 
 -- nothing has happened
 pub since_refl : {S : Type 0} {K : KeptOf S} {a : S} → Since K a a
@@ -32,7 +34,7 @@ pub risen_later : (a b c : ℕ) → a ≤ b → HasRisen b c → HasRisen a c
 risen_later a b c h (inl r) = inl (omega (arith, h, r))
 risen_later a b c h (inr r) = inr r
 
--- what a call told was counted, where each failure was
+-- what a call reported was counted, where each failure was
 risen_once : (a b : ℕ) → b ≡ counted_on 1 a → HasRisen a b
 risen_once a b p = by (nat_le (a + 1) (2 ^ 64 - 1)) refl
   where

@@ -10,7 +10,7 @@ abbrev pub Passes : {S A : Type 0} → (S → A → S → Type 0) → S → List
 Passes after old [] new = new ≡ old
 Passes {S = S} after old (item ∷ later) new = (mid : S) × after old item mid × Passes after mid later new
 
--- what calls told, in turn: a failure, or none
+-- what calls reported, in turn: a failure, or none
 abbrev pub Told : Type 0
 Told = List (Option LookFault)
 
@@ -36,9 +36,9 @@ last_answers [] = false
 last_answers (told ∷ []) = is_none told
 last_answers (first ∷ told ∷ later) = last_answers (told ∷ later)
 
--- Calls, from the state old to new, told these failures, each one or none. They leave together what one does: where the
--- state is honest at their end, each failure was counted; any answer shows that it was clean as they began, and one that
--- is the last that it is as they end; and only a failure of the disk shuts it.
+-- Calls, from the state old to new, reported these failures, each one or none. They leave together what one does: where
+-- the state is honest at their end, each failure was counted; any answer shows that it was clean as they began, and one
+-- that is the last that it is as they end; and only a failure of the disk shuts it.
 pub record LeaveAll {S : Type 0} (K : KeptOf S) (old : S) (told : Told) (new : S) : Type 0 where
   pub since : Since K old new
   pub counted : K.is_honest new → Counts (λ why. times why told) (K.failures old) (K.failures new)
@@ -55,7 +55,7 @@ CallsLeave {S = S} K =
 abbrev pub BeganShut : {S : Type 0} → KeptOf S → S → S → Type 0
 BeganShut K old new = K.is_honest new × (K.is_clean old → ⊥)
 
--- such calls were answered nothing: each told a failure
+-- such calls were answered nothing: each reported a failure
 abbrev pub ShutCallsFail : {S : Type 0} → KeptOf S → Type 0
 ShutCallsFail {S = S} K = (old new : S) (told : Told)
     → Passes (Leaves K) old told new → BeganShut K old new → AllByRecursion (λ t. IsSome t) told

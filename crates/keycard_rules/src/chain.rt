@@ -11,7 +11,7 @@ use crate::code::Code;
 use std::alloc::Global;
 use std::marker::Model;
 
-/// Want of memory: the one fault of a call that only makes room.
+/// Lack of memory: the one fault of a call that only makes room.
 #[derive(Clone, Copy, PartialEq, Eq, Debug)]
 pub struct Memory;
 
@@ -101,8 +101,7 @@ impl Chain {
     /// Shows a card of the link to the lock: `None` where it stays shut.
     ///
     /// A link that the chain issued opens as the lock's rule says. A link from elsewhere that has the held code as its
-    /// old one stays
-    /// shut unless its new code is the first awaited one.
+    /// old one stays shut unless its new code is the first awaited one.
     pub fn enter(&mut self, link: &Link) -> Option<Turned>
         ensures answer { result ≡ turned self.old link.now }
         ensures moved { self.new ≡ entered self.old link.now }
@@ -149,7 +148,7 @@ impl Chain {
     }
 
     /// Fits a new lock, which holds a code that was never issued here (`holds` is the test): the earlier codes, awaited
-    /// ones among them, are passed. A refusal for want of memory changes nothing.
+    /// ones among them, are passed. A refusal for lack of memory changes nothing.
     pub fn refit(&mut self, code: Code) -> Result<(), Memory>
         requires fresh { is_one_of code (issued self.old) ≡ false }
         ensures ok { OnOk result (self.new ≡ refitted self.old code) }

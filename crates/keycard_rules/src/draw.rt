@@ -16,14 +16,13 @@ pub const MOST_WORDS: u32 = 64;
 pub enum DrawFault {
     /// The codes of all `MOST_WORDS` words were issued.
     NoFreshCode,
-    /// A look-up answered want of memory.
+    /// A look-up answered that memory ran out.
     Memory,
     /// A look-up answered that the store failed.
     Store,
 }
 
-/// Draws a code that wasn't issued: the first such one among the codes of the source's next `MOST_WORDS`
-/// words.
+/// Draws a code that wasn't issued: the first such one among the codes of the source's next `MOST_WORDS` words.
 ///
 /// A word's code is its upper 48 bits. The source moves by the words that were examined, and on a fault of a look-up by
 /// no more than without it. Takes no memory of its own.

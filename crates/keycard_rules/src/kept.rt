@@ -18,7 +18,7 @@ pub trait Kept {
     /// The second state has what the first one has: all that a look-up may leave.
     ghost is_kept: { Self → Self → Type 0 };
 
-    /// How often calls told that memory failed, and how often that the store did, each at most the greatest `u64`.
+    /// How often calls reported that memory failed, and how often that the store did, each at most the greatest `u64`.
     ghost failures: { Self → LookFault → ℕ };
 
     /// How often a call of the disk failed on which the state is kept, at most the greatest `u64`; 0 in memory.
@@ -30,7 +30,7 @@ pub trait Kept {
     /// A stop at the second state leaves nothing that a stop at the first one couldn't have left.
     ghost leaves_no_more: { Self → Self → Type 0 };
 
-    /// Why a look-up or a walk from the first state to the second has no answer, but for want of memory: a call of the
+    /// Why a look-up or a walk from the first state to the second has no answer, but for lack of memory: a call of the
     /// store failed, or what it showed can't be read.
     ghost look_up_fails: { Self → Self → Type 0 };
 

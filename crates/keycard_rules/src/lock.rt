@@ -8,8 +8,7 @@ use crate::code::Code;
 /// The code that a lock holds after a card of the link, or `None` where it stays shut and keeps its own.
 ///
 /// It is the rule of the two-key form in Nipkow's Verifying a Hotel Key Card System, and looks at codes alone: at no
-/// room and at no
-/// other card.
+/// room and at no other card.
 pub fn turn(held: Code, link: &Link) -> Option<Code>
     ensures { result ≡ turn held link.now }
 {

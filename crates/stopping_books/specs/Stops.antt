@@ -1,14 +1,18 @@
 -- Books in memory of which one call fails.
-use Rattle.std.specs.Prelude.{ℕ, ◌≡◌, ◌⊎◌, Bool, true, false, Result, Ok, Err, IsSome}
+use Rattle.std.specs.Prelude.{ℕ, ◌≡◌, ◌+◌, ◌-◌, ◌^◌, ◌<◌, ◌==◌, ◌⊎◌, Bool, true, false, Some, Result, Ok, Err}
 use Rattle.keycard_rules.specs.declared.issued.LookFault.{LookFault}
 use Rattle.keycard_rules.specs.declared.issued.LookFault.TheVariants as look
 use Rattle.hotel_core.specs.{declared.books.walks.WalkFault.WalkFault, Books.Walks.failure_of}
 use Rattle.hotel_core.specs.Rows.{Rows}
 use Rattle.hotel_core.specs.declared.books.walks.WalkFault.TheVariants as why
+use Rattle.stopping_books.specs.declared.calls.Calls.{Calls}
 
--- the rows, and how many calls were answered Memory and Store
+-- the rows, the calls that were made and the one that is to fail, why it fails, and how many calls were answered Memory
+-- and Store
 pub record Stopping : Type 0 where
   pub rows : Rows
+  pub calls : Calls
+  pub cause : LookFault
   pub memory : ℕ
   pub store : ℕ
 
@@ -17,15 +21,28 @@ abbrev pub counts : Stopping → LookFault → ℕ
 counts books look.Memory = books.memory
 counts books look.Store = books.store
 
+-- One more call was made, and it fails exactly where its number is that of the one that is to fail, which stays so.
+pub record MakesCall (old new : Calls) (fails : Bool) : Type 0 where
+  pub next : old.made < 2 ^ 64 - 1 → new.made ≡ old.made + 1
+  pub which : fails ≡ (new.made == old.failing)
+  pub same : new.failing ≡ old.failing
+
+-- No call was made, and the same one is still to fail, for the same cause; the rows are as they were.
+pub record IsLeft (old new : Stopping) : Type 0 where
+  pub rows : new.rows ≡ old.rows
+  pub calls : new.calls ≡ old.calls
+  pub cause : new.cause ≡ old.cause
+
 -- A sink before another one stops since a call failed, and hands nothing on; or since the other one stopped.
 abbrev pub StopsEither : Bool → Type 0 → Type 0 → Type 0
 StopsEither true untouched stopped = untouched
 StopsEither false untouched stopped = stopped
 
--- How a walk ends where the walk beneath it ended so: as that one, or by a failure.
-abbrev pub EndsAs : Result (Unit {0}) WalkFault → Bool → Result (Unit {0}) WalkFault → Type 0
-EndsAs (Ok done) failed end = (end ≡ Ok done) ⊎ IsSome (failure_of end)
-EndsAs (Err why.Stopped) true end = IsSome (failure_of end)
-EndsAs (Err why.Stopped) false end = end ≡ Err why.Stopped
-EndsAs (Err why.Memory) failed end = IsSome (failure_of end)
-EndsAs (Err why.Store) failed end = IsSome (failure_of end)
+-- How a walk ends, by the cause for which a call is to fail, how the walk beneath it ended, and whether a call failed
+-- in it: as that one; or by a call that failed, one before a row or the last one.
+abbrev pub EndsAs : LookFault → Result (Unit {0}) WalkFault → Bool → Result (Unit {0}) WalkFault → Type 0
+EndsAs cause (Ok done) failed end = (end ≡ Ok done) ⊎ (failure_of end ≡ Some cause)
+EndsAs cause (Err why.Stopped) true end = failure_of end ≡ Some cause
+EndsAs cause (Err why.Stopped) false end = end ≡ Err why.Stopped
+EndsAs cause (Err why.Memory) failed end = end ≡ Err why.Memory
+EndsAs cause (Err why.Store) failed end = end ≡ Err why.Store

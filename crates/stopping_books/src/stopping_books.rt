@@ -1,8 +1,8 @@
 //! Books in memory of which one call fails.
-ghost use Rattle.std.specs.Prelude.{◌≡◌, Some, IfErr, refl};
+ghost use Rattle.std.specs.Prelude.{◌≡◌, is_err, Some, IfErr, refl};
 ghost use Rattle.std.proofs.Common.{ap, ◌∙◌};
 ghost use Rattle.keycard_rules.specs.{Leaves.told_by, Rise.Counts, Rise.HasRisen, Rise.NoFewer, Rise.one_of};
-ghost use Rattle.stopping_books.specs.Stops.{counts};
+ghost use Rattle.stopping_books.specs.Stops.{counts, IsLeft, MakesCall};
 ghost use Rattle.hotel_core.specs.Refinement.Lookups.{codes_in};
 
 use crate::calls::Calls;
@@ -34,6 +34,8 @@ impl Model for StoppingBooks {
 
     ghost view = { λ b. record {
       rows = b.books.rows;
+      calls = b.calls;
+      cause = b.cause;
       memory = b.memory;
       store = b.store;
     } };
@@ -42,7 +44,13 @@ impl Model for StoppingBooks {
 impl StoppingBooks {
     /// Books whose call of this number, counted from 1, fails for this cause; none does where it is 0.
     pub fn new(books: ListBooks, failing: u64, cause: LookFault) -> StoppingBooks
-        ensures { result ≡ record { rows = books.rows; memory = 0; store = 0 } }
+        ensures { result ≡ record {
+          rows = books.rows;
+          calls = record { made = 0; failing = failing };
+          cause = cause;
+          memory = 0;
+          store = 0;
+        } }
     {
         StoppingBooks {
             books,
@@ -54,7 +62,9 @@ impl StoppingBooks {
     }
 
     /// How many calls were made.
-    pub fn calls(&self) -> u64 {
+    pub fn calls(&self) -> u64
+        ensures { result ≡ self.now.calls.made }
+    {
         self.calls.made()
     }
 
@@ -69,13 +79,15 @@ impl StoppingBooks {
     }
 
     /// Why the call fails.
-    pub(crate) fn cause(&self) -> LookFault {
+    pub(crate) fn cause(&self) -> LookFault
+        ensures { result ≡ self.now.cause }
+    {
         self.cause
     }
 
     /// Counts a failure; a count stays at its greatest value.
     pub(crate) fn count(&mut self, cause: LookFault)
-        ensures rows { self.new.rows ≡ self.old.rows }
+        ensures left { IsLeft self.old self.new }
         ensures no_fewer { NoFewer (counts self.old) (counts self.new) }
         ensures counted { Counts (λ why. one_of why (Some cause)) (counts self.old) (counts self.new) }
         ensures rose { HasRisen (counts self.old cause) (counts self.new cause) }
@@ -89,6 +101,9 @@ impl StoppingBooks {
     /// Makes a call, which fails where its number is the one that is to fail.
     pub(crate) fn begin(&mut self) -> Result<(), LookFault>
         ensures rows { self.new.rows ≡ self.old.rows }
+        ensures calls { MakesCall self.old.calls self.new.calls (is_err result) }
+        ensures cause { self.new.cause ≡ self.old.cause }
+        ensures why { IfErr result (λ why. why ≡ self.old.cause) }
         ensures no_fewer { NoFewer (counts self.old) (counts self.new) }
         ensures counted { Counts (λ why. one_of why (told_by result)) (counts self.old) (counts self.new) }
         ensures rose { IfErr result (λ why. HasRisen (counts self.old why) (counts self.new why)) }
@@ -104,7 +119,7 @@ impl StoppingBooks {
     /// What the books in memory found; where they found no memory, that is counted.
     fn found<T>(&mut self, found: Result<T, LookFault>) -> Result<T, LookFault>
         ensures same { result ≡ found }
-        ensures rows { self.new.rows ≡ self.old.rows }
+        ensures left { IsLeft self.old self.new }
         ensures no_fewer { NoFewer (counts self.old) (counts self.new) }
         ensures counted { Counts (λ why. one_of why (told_by result)) (counts self.old) (counts self.new) }
         ensures rose { IfErr result (λ why. HasRisen (counts self.old why) (counts self.new why)) }

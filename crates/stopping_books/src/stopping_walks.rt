@@ -1,8 +1,8 @@
 //! Walks over books in memory of which one call fails.
-ghost use Rattle.std.specs.Prelude.{◌≡◌, Err, IfSome, Some};
+ghost use Rattle.std.specs.Prelude.{◌≡◌, Err, IfSome, is_some, OnErr, OnOk, Some};
 ghost use Rattle.keycard_rules.specs.Rise.{Counts, HasRisen, NoFewer, one_of};
 ghost use Rattle.hotel_core.specs.Books.Walks.{failure_of};
-ghost use Rattle.stopping_books.specs.Stops.{counts, EndsAs};
+ghost use Rattle.stopping_books.specs.Stops.{counts, EndsAs, IsLeft, MakesCall};
 
 use crate::calls::Calls;
 use crate::stopping_books::StoppingBooks;
@@ -34,14 +34,15 @@ impl<'a, S> Passing<'a, S> {
 }
 
 impl<'a, R, S: Sink<R>> Sink<R> for Passing<'a, S> {
-    ghost use Rattle.std.specs.Prelude.{◌≡◌};
-    ghost use Rattle.stopping_books.specs.Stops.{StopsEither};
+    ghost use Rattle.std.specs.Prelude.{◌≡◌, false};
+    ghost use Rattle.stopping_books.specs.Stops.{MakesCall, StopsEither};
 
     ghost after = { λ old row new. (new.sink.ghost_name ≡ old.sink.ghost_name)
-        × S.after old.sink.now row new.sink.now };
+        × S.after old.sink.now row new.sink.now × MakesCall old.calls new.calls false };
 
     ghost after_stop = { λ old row new. (new.sink.ghost_name ≡ old.sink.ghost_name)
-        × StopsEither new.failed (new.sink.now ≡ old.sink.now) (S.after_stop old.sink.now row new.sink.now) };
+        × StopsEither new.failed (new.sink.now ≡ old.sink.now) (S.after_stop old.sink.now row new.sink.now)
+        × MakesCall old.calls new.calls new.failed };
 
     fn take(&mut self, row: &R) -> Result<(), Stop> {
         self.failed = self.calls.fails();
@@ -56,7 +57,7 @@ impl StoppingBooks {
     /// The fault of a walk that failed for this cause, which is counted.
     fn walk_failed(&mut self, cause: LookFault) -> WalkFault
         ensures same { failure_of (Err result) ≡ Some cause }
-        ensures rows { self.new.rows ≡ self.old.rows }
+        ensures left { IsLeft self.old self.new }
         ensures no_fewer { NoFewer (counts self.old) (counts self.new) }
         ensures counted { Counts (λ why. one_of why (failure_of (Err result))) (counts self.old) (counts self.new) }
         ensures rose { HasRisen (counts self.old cause) (counts self.new cause) }
@@ -75,8 +76,11 @@ impl StoppingBooks {
         calls: Calls,
         failed: bool,
     ) -> Result<(), WalkFault>
-        ensures ends { EndsAs end failed result }
+        ensures ends { EndsAs self.old.cause end failed result }
         ensures rows { self.new.rows ≡ self.old.rows }
+        ensures cause { self.new.cause ≡ self.old.cause }
+        ensures last_call { OnOk end (MakesCall calls self.new.calls (is_some (failure_of result))) }
+        ensures no_call { OnErr end (self.new.calls ≡ calls) }
         ensures no_fewer { NoFewer (counts self.old) (counts self.new) }
         ensures counted { Counts (λ why. one_of why (failure_of result)) (counts self.old) (counts self.new) }
         ensures rose { IfSome (failure_of result) (λ cause. HasRisen (counts self.old cause) (counts self.new cause)) }

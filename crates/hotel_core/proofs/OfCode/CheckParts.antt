@@ -11,7 +11,8 @@ use Rattle.hotel_core.proofs.OfCode.Counting.{unfailed, untold}
 use Rattle.keycard_rules.specs.{declared.kept.Kept.Ghosts as KeptOf, Leaves.Leaves}
 
 -- what a search leaves that found nothing, or failed
-leaves_unfound : {S A : Type 0} {K : KeptOf S} {B : BooksOf S} {why e : Refusal} {wanted : Rows → Option A} {old new : S}
+leaves_unfound : {S A : Type 0} {K : KeptOf S} {B : BooksOf S} {why e : Refusal} {wanted : Rows → Option A}
+    {old new : S}
     → Finds K B AnyRows why wanted old new (Err e) → Leaves K old (failure_in (Refused e)) new
 leaves_unfound f = record {
   since = f.since;

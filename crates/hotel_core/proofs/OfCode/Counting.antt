@@ -1,11 +1,12 @@
 -- Failures that replies tell, and their counts along the parts of a step.
 use Rattle.std.proofs.Common.{ℕ, ◌≡◌, true, false, Option, Some, None, refl, sym}
-use Rattle.hotel_core.proofs.Names.{false≢true, LookFault, Reply, Refused, Memory, Store, is_failed, failure_in, refusal_of}
+use Rattle.hotel_core.proofs.Names.{false≢true, LookFault, Reply, Refused, Memory, Store, is_failed, failure_in}
+use Rattle.hotel_core.proofs.Names.{refusal_of}
 use Rattle.keycard_rules.specs.Rise.{counted_on, one_of}
 use Rattle.keycard_rules.specs.declared.issued.LookFault.TheVariants as look
 use Rattle.keycard_rules.proofs.CallsTogether.{counted_none}
 
--- a reply that tells none is no failure
+-- a reply that reports none is no failure
 pub unfailed : (answer : Reply) → failure_in answer ≡ None → is_failed answer ≡ false
 unfailed (Refused Memory) e = cc
 unfailed (Refused Store) e = cc
@@ -21,12 +22,12 @@ pub faults : (fault : LookFault) → is_failed (Refused (refusal_of fault)) ≡ 
 faults look.Memory = refl
 faults look.Store = refl
 
--- and tells it
+-- and reports it
 pub tells : (fault : LookFault) → failure_in (Refused (refusal_of fault)) ≡ Some fault
 tells look.Memory = refl
 tells look.Store = refl
 
--- where none is told, no more are counted
+-- where none is reported, no more are counted
 pub none_more : (told : Option LookFault) (why : LookFault) (a b : ℕ)
     → told ≡ None → b ≡ a → b ≡ counted_on (one_of why told) a
 none_more None look.Memory a b e p = p

@@ -155,7 +155,8 @@ drawn_ends {K = K} {B = B} {start = start} {old = old} {mid = mid} {new = new} {
       vouched = t.vouched;
       stays = λ honest.
           let then = t.since.was_honest honest in
-          stays_then (stayed s d.leaves.since d.leaves.stays then) t.since (t.stays honest) (since_then s.since d.leaves.since);
+          stays_then (stayed s d.leaves.since d.leaves.stays then) t.since (t.stays honest)
+          (since_then s.since d.leaves.since);
       moved = λ honest k.
           let then = d.leaves.vouched (t.since.was_honest honest) refl in
           let before = d.leaves.since.was_clean then in

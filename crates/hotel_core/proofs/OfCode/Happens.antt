@@ -1,5 +1,6 @@
 -- What happened over books, made of its parts.
-use Rattle.std.proofs.Common.{◌≡◌, ◌∙◌, Bool, true, false, List, [], ◌∷◌, ◌++◌, length, map, zip, refl, sym, ap, arith, subst}
+use Rattle.std.proofs.Common.{◌≡◌, ◌∙◌, Bool, true, false, List, [], ◌∷◌, ◌++◌, length, map, zip, refl, sym, ap, arith}
+use Rattle.std.proofs.Common.{subst}
 use Rattle.hotel_core.proofs.Names.{Stream, Command, History, Reply, Rows, Runs, Passes, failure_in}
 use Rattle.hotel_core.proofs.Names.{StepsIf, false≢true, is_failed, rows_of, start}
 use Rattle.hotel_model.proofs.Starts.StartRows.{rows_of_start}
@@ -19,7 +20,8 @@ clean_leads K rows {new = new} happened clean = leads_of clean (happened (K.clea
 pub steps_lead : {S : Type 0} (K : KeptOf S) (rows : S → Rows) → StepsLead K rows
 steps_lead K rows old new asked step clean = clean_leads K rows step.happened clean
 
-pub kept_by : (failed : Bool) (h : History) (s : Stream) (command : Command) (reply : Reply) (h' : History) (s' : Stream)
+pub kept_by : (failed : Bool) (h : History) (s : Stream) (command : Command) (reply : Reply) (h' : History)
+    (s' : Stream)
     → failed ≡ true → StepsIf failed h s command reply h' s' → h' ≡ h
 kept_by true h s command reply h' s' e step = step.0
 kept_by false h s command reply h' s' e step = absurd (false≢true e)

@@ -56,7 +56,8 @@ module _ {S A : Type 0} {K : KeptOf S} {B : BooksOf S} {old new : S}
       → LooksUp K takes_memory (λ a. a) (wanted (B.rows old)) old new r → result ≡ there_or why r
       → Finds K B AnyRows why wanted old new result
   finds_there {why = why} wanted (Ok (Some a)) result k l e =
-      subst (λ x. Finds K B AnyRows why wanted old new x) (sym e) (answered l (λ clean. sym (l.answer (K.clean_honest new clean))))
+      subst (λ x. Finds K B AnyRows why wanted old new x) (sym e)
+      (answered l (λ clean. sym (l.answer (K.clean_honest new clean))))
   finds_there {why = why} wanted (Ok None) result k l e =
       subst (λ x. Finds K B AnyRows why wanted old new x) (sym e) (record {
         answer = λ clean _. (sym (l.answer (K.clean_honest new clean)), refl);

@@ -50,7 +50,7 @@ pub stayed : {S : Type 0} {K : KeptOf S} {B : BooksOf S} {v : Bool} {facts : Row
     → K.is_honest new → StaysClean K start new
 stayed s since stays honest = stays_then (s.stays (since.was_honest honest)) since (stays honest) s.since
 
--- something more is known, by a call that told no failure
+-- something more is known, by a call that reported no failure
 pub then_asked : {S : Type 0} {K : KeptOf S} {B : BooksOf S} {v : Bool} {facts more : Rows → Type 0} {start old new : S}
     → SoFar K B v facts start old → (K.is_clean new → B.rows new ≡ B.rows old) → Leaves K old None new
     → (K.is_clean old → K.is_clean new → more (B.rows start)) → SoFar K B true more start new

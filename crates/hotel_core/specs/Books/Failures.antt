@@ -6,12 +6,12 @@ use Rattle.hotel_model.specs.{declared.reply.Reply.Reply, declared.reply.Reply.T
 use Rattle.hotel_model.specs.{declared.reply.Refusal.Refusal}
 use Rattle.hotel_model.specs.declared.reply.Refusal.TheVariants.{Memory, Store}
 
--- the refusal that tells this cause
+-- the refusal that reports this cause
 abbrev pub refusal_of : LookFault → Refusal
 refusal_of look.Memory = Memory
 refusal_of look.Store = Store
 
--- the failure that a reply tells, if it tells one
+-- the failure that a reply reports, if it reports one
 abbrev pub failure_in : Reply → Option LookFault
 failure_in (Refused Memory) = Some look.Memory
 failure_in (Refused Store) = Some look.Store

@@ -47,7 +47,7 @@ abbrev pub Found : {A : Type 0} → Refusal → Option A → Result A Refusal �
 Found why wanted (Ok a) = wanted ≡ Some a
 Found why wanted (Err other) = is_failed (reply.Refused other) ≡ false → (wanted ≡ None) × (other ≡ why)
 
--- A search from the state old to new, which changes no row and leaves what a call does; a failure that it tells is
+-- A search from the state old to new, which changes no row and leaves what a call does; a failure that it reports is
 -- counted, for whole rows, and no other one.
 pub record Finds {S A : Type 0} (K : KeptOf S) (B : BooksOf S) (are_whole : Rows → Type 0) (why : Refusal)
     (wanted : Rows → Option A) (old new : S) (result : Result A Refusal) : Type 0 where

@@ -14,7 +14,7 @@ use Rattle.hotel_core.specs.declared.books.Books.{Ghosts as BooksOf}
 
 -- A part of a step from the state old to new, with the source moved to rest, where the outcome says what comes of it.
 -- Where the state is honest at its end, an answer that isn't failed says that it is clean, and a failed one left the
--- source, or moved it by no more than the outcome over a clean state. A failure that it tells is counted, for whole
+-- source, or moved it by no more than the outcome over a clean state. A failure that it reports is counted, for whole
 -- rows, and no other one.
 pub record StepsAs {S : Type 0} (K : KeptOf S) (B : BooksOf S) (outcome : Rows → Outcome Change) (old new : S)
     (source rest : Stream) (answer : Reply) : Type 0 where

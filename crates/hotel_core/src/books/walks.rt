@@ -59,9 +59,8 @@ pub trait Sink<Row> {
 /// Books whose lists can be walked.
 ///
 /// A walk hands the rows of a list to a sink in their order, and ends at the first row at which the sink stops. The
-/// rows
-/// that it handed over are a front of the list's rows, and all of them on `Ok`. It leaves of the books what a look-up
-/// does.
+/// rows that it handed over are a front of the list's rows, and all of them on `Ok`. It leaves of the books what a
+/// look-up does.
 pub trait Walks: Books {
     /// The booked stays that take the night of a day, by party.
     fn walk_arrivals<S: Sink<Stay>>(&mut self, day: Day, sink: &mut S) -> Result<(), WalkFault>

@@ -1,5 +1,6 @@
 //! What a note of a lock is compared with in the books.
-ghost use Rattle.std.specs.Prelude.{◌≡◌, ◌-◌, ◌==◌, ◌&&◌, nat_lt, Option, Some, None, IsSome, not, is_some, [], ◌∷◌, false};
+ghost use Rattle.std.specs.Prelude.{◌≡◌, ◌-◌, ◌==◌, ◌&&◌, nat_lt, Option, Some, None, IsSome, not, is_some, [], ◌∷◌};
+ghost use Rattle.std.specs.Prelude.{false};
 ghost use Rattle.hotel_core.specs.{Books.Reads.LooksUp, Refinement.Finds.Finds, Refinement.Finds.AnyRows};
 ghost use Rattle.hotel_core.specs.{Refinement.FindsChecked.FindsChecked};
 ghost use Rattle.hotel_model.specs.{Refinement.Lookups.room_at, Refinement.Lookups.code_place};

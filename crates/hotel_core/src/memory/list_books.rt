@@ -48,7 +48,7 @@ impl ListBooks {
         }
     }
 
-    /// Counts that memory was wanting; the count stays at its greatest value.
+    /// Counts that memory ran out; the count stays at its greatest value.
     fn wanting(&mut self) -> LookFault
         ensures fault { result ≡ Memory }
         ensures rows { self.new.rows ≡ self.old.rows }

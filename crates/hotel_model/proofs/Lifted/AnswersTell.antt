@@ -11,7 +11,7 @@ use Rattle.hotel_model.specs.declared.reply.Reply.TheVariants as reply
 use Rattle.hotel_model.specs.Event as event
 use Rattle.hotel_model.specs.Cases.{holds}
 
--- a check tells no failure
+-- a check reports no failure
 abbrev pub Tells : Option Refusal → Type 0
 Tells None = Unit {0}
 Tells (Some refusal) = is_failed (reply.Refused refusal) ≡ false

@@ -1,9 +1,8 @@
 -- Two refusals at once. Two reasons to be refused hold of each line: the first in the order of the command's checks is
--- the reply, and the other stands beside it.
--- Of two neighbours in that order these can't hold together: a kind is there only once a day is set (AddKind); today
--- isn't before a stay and after it (CheckIn: TooEarly, StayOver);
--- a party is in a room of its kind alone (Transfer: WrongKind, SameRoom); without a day today isn't the last one
--- (NextDay); a count isn't both taken and after the next one (Conflict, Gap).
+-- the reply, and the other stands beside it. Of two neighbours in that order these can't hold together: a kind is there
+-- only once a day is set (AddKind); today isn't before a stay and after it (CheckIn: TooEarly, StayOver); a party is in
+-- a room of its kind alone (Transfer: WrongKind, SameRoom); without a day today isn't the last one (NextDay); a count
+-- isn't both taken and after the next one (Conflict, Gap).
 use Rattle.std.specs.Prelude.{ℕ, ◌≡◌, List, [], ◌∷◌, Some, None, length}
 use Rattle.keycard_rules.specs.declared.card.Card.{Card}
 use Rattle.keycard_rules.specs.declared.note.TheConstants.{LAST_DAY}

@@ -49,7 +49,7 @@ refused_front listing old new fault.Store why told e t p =
     (p.0, inr (p.0, look.Store, p.1, ap (λ (w : Refusal). p.0 ++ refusal_text w) (sym same), t), p.2)
 refused_front listing old new fault.Write why told e t p = cc e
 
--- a text that a failure's line ends tells it
+-- a text that a failure's line ends reports it
 or_first : (a b : Bool) → a ≡ true → (a || b) ≡ true
 or_first true b k = refl
 or_first false b k = absurd (false≢true k)
@@ -79,15 +79,16 @@ told_failed front refusal.Store k =
     (by_its_end front (refusal_text refusal.Store) refl)
 told_failed front _ k = absurd (false≢true k)
 
--- a reply whose text tells no failure is none
+-- a reply whose text reports no failure is none
 pub reply_sure : (reply : Reply) → tells_failure (reply_text reply) ≡ false → is_failed reply ≡ false
 reply_sure (Refused refusal.Memory) k = absurd (false≢true (sym k ∙ told_failed [] refusal.Memory refl))
 reply_sure (Refused refusal.Store) k = absurd (false≢true (sym k ∙ told_failed [] refusal.Store refl))
 reply_sure _ k = refl
 
--- where the text of a refusal tells no failure, no call failed
+-- where the text of a refusal reports no failure, no call failed
 refusal_answered : (front : List ℕ) (why_not : ListFault) (why : Refusal) (told : Told)
-    → told_refusal why_not ≡ Some why → ListTold (Err why_not) told → tells_failure (front ++ refusal_text why) ≡ false → NoCallFailed told
+    → told_refusal why_not ≡ Some why → ListTold (Err why_not) told → tells_failure (front ++ refusal_text why) ≡ false
+    → NoCallFailed told
 refusal_answered front fault.NoRoom why told e t k = t
 refusal_answered front fault.Memory why told e t k =
     let same : refusal.Memory ≡ why = cc e in absurd (false≢true (sym k ∙ subst (λ (w : Refusal).
@@ -97,14 +98,14 @@ refusal_answered front fault.Store why told e t k =
     tells_failure (front ++ refusal_text w) ≡ true) same (told_failed front refusal.Store refl)))
 refusal_answered front fault.Write why told e t k = cc e
 
--- where a list's answer tells no failure, none of its calls did
+-- where a list's answer reports no failure, none of its calls did
 pub none_told : (listing : Option Listing) (text : List ℕ) (told : Told) → AnswersList listing text told
     → tells_failure text ≡ false → all_answer told ≡ true
 none_told listing text told (inl it) k = it.1
 none_told listing text told (inr (front, why, is, e, failed)) k =
     absurd (false≢true (sym k ∙ ap tells_failure e ∙ told_failed front (refusal_of why) (faults why)))
 
--- An answer to a list that was written whole: these bytes, and where it tells no failure none of the calls did.
+-- An answer to a list that was written whole: these bytes, and where it reports no failure none of the calls did.
 abbrev pub Whole : Option (List ℕ) → Option (List ℕ) → Told → List ℕ → Type 0
 Whole old new told text = Appends old new text × (tells_failure text ≡ false → NoCallFailed told)
 

@@ -34,8 +34,8 @@ import_fault (File why) = file_fault why
 import_fault (Memory answered taken) = fault.Stopped answered look.Memory
 import_fault (Store answered taken) = fault.Stopped answered look.Store
 
--- The exit status of an import with these answers or this fault, or the fault that is told: also where a write of its
--- answers failed.
+-- The exit status of an import with these answers or this fault, or the fault that is reported: also where a write of
+-- its answers failed.
 abbrev pub audit_end : Result (List LineAnswer) ImportFault → Bool → Result ℕ Fault
 audit_end (Ok answers) false = Ok (answers_status answers)
 audit_end (Ok answers) true = Err fault.Write

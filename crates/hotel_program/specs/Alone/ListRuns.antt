@@ -22,7 +22,7 @@ abbrev pub AnswerEndsFor : Rows → ListAsk → Option (List ℕ) → Option (Li
 AnswerEndsFor rows its_list old new end =
     (h : History) → StandsFor h rows → AnswerEnds (listing_over h its_list) old new end
 
--- The exit status of a list that ended so, or the fault that is told.
+-- The exit status of a list that ended so, or the fault that is reported.
 abbrev pub list_end : Result (Unit {0}) ListFault → Result ℕ Fault
 list_end (Ok done) = Ok 0
 list_end (Err fault.NoRoom) = Ok 3

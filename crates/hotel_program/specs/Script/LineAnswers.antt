@@ -28,15 +28,15 @@ abbrev pub answer_text : ScriptAnswer → List ℕ
 answer_text (Replied reply) = reply_text reply
 answer_text Unread = unread_text
 
--- What the calls of a command's line told, by its reply: as the command's; or none was made, where there was no memory
--- to copy a text of the line.
+-- What the calls of a command's line reported, by its reply: as the command's; or none was made, where there was no
+-- memory to copy a text of the line.
 abbrev pub CommandTold : Command → Reply → Told → Type 0
 CommandTold command reply told =
     (told ≡ failure_in reply ∷ []) ⊎ ((reply ≡ Refused Memory) × (copies command ≡ true) × (told ≡ []))
 
--- What is asked goes with this answer, by calls that told this: a command is a step that gives the reply of that text;
--- a list is answered, and is the history's where the condition holds of its text; and where nothing is asked the line is
--- unread. Of the last two nothing happens.
+-- What is asked goes with this answer, by calls that reported this: a command is a step that gives the reply of that
+-- text; a list is answered, and is the history's where the condition holds of its text; and where nothing is asked the
+-- line is unread. Of the last two nothing happens.
 abbrev pub AskGoes : (List ℕ → Type 0) → Option Ask → History → Stream → List ℕ → Told → History → Stream → Type 0
 AskGoes sure (Some (ask.Command command)) h s text told h' s' = (reply : Reply) × Steps h s command reply h' s'
     × (text ≡ reply_text reply) × CommandTold command reply told
@@ -49,7 +49,7 @@ AskGoes sure None h s text told h' s' = (text ≡ unread_text) × (told ≡ []) 
 abbrev pub ScriptLineGoes : (List ℕ → Type 0) → History → Stream → List ℕ → List ℕ → Told → History → Stream → Type 0
 ScriptLineGoes sure h s line text told h' s' = AskGoes sure (ask_in line) h s text told h' s'
 
--- a list whose answer tells no failure asked the books
+-- a list whose answer reports no failure asked the books
 abbrev pub ListAsked : Option Ask → List ℕ → Told → Type 0
 ListAsked (Some (ask.List its_list)) text told = tells_failure text ≡ false → 1 ≤ length told
 ListAsked _ text told = Unit {0}
@@ -60,7 +60,7 @@ abbrev pub AskAnswered : (List ℕ → Type 0) → (List ℕ → Type 0) → Opt
 AskAnswered sure written wanted s s' told h h' =
     (text : List ℕ) × AskGoes sure wanted h s text told h' s' × written text
 
--- what is surely answered: also over books that had failed for good what tells no failure, and the rest where this is
+-- what is surely answered: also over books that had failed for good what reports no failure, and the rest where this is
 -- so, as that they were kept where the line began
 abbrev pub Sure : Type 0 → List ℕ → Type 0
 Sure kept text = tells_failure text ≡ true → kept

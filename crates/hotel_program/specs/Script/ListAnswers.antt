@@ -16,7 +16,8 @@ abbrev pub IsCutShort : Option Listing → List ℕ → Told → Type 0
 IsCutShort listing text told = (front : List ℕ) × (why : LookFault) × IsListFront listing front
     × (text ≡ front ++ refusal_text (refusal_of why)) × ListFailed why told
 
--- The answer to a list, by what its calls told: it in full, or the line that its room isn't there; or it is cut short.
+-- The answer to a list, by what its calls reported: it in full, or the line that its room isn't there; or it is cut
+-- short.
 abbrev pub AnswersList : Option Listing → List ℕ → Told → Type 0
 AnswersList listing text told =
     ((text ≡ in_full (refusal_text refusal.NoRoom) listing) × (all_answer told ≡ true)) ⊎ IsCutShort listing text told

@@ -34,7 +34,7 @@ answer_texts (Some (ask.Command command) ∷ later) (reply ∷ replies) lists =
 answer_texts (Some (ask.List its_list) ∷ later) replies [] = []
 answer_texts (Some (ask.List its_list) ∷ later) replies (answer ∷ lists) = answer.0 ∷ answer_texts later replies lists
 
--- What the calls told where these are the replies and the lists' answers, in order.
+-- What the calls reported where these are the replies and the lists' answers, in order.
 abbrev pub ToldIn : List (Option Ask) → List Reply → List (List ℕ × Told) → Told → Type 0
 ToldIn [] replies lists told = told ≡ []
 ToldIn (None ∷ later) replies lists told = ToldIn later replies lists told
@@ -45,7 +45,7 @@ ToldIn (Some (ask.List its_list) ∷ later) replies [] told = told ≡ []
 ToldIn (Some (ask.List its_list) ∷ later) replies (answer ∷ lists) told =
     (more : Told) × ToldIn later replies lists more × (told ≡ answer.1 ++ more)
 
--- The commands of lines are a run, and the answers and what was told are those of its replies and of the lists'
+-- The commands of lines are a run, and the answers and what was reported are those of its replies and of the lists'
 -- answers.
 abbrev pub LinesRun : History → Stream → List (List ℕ) → List (List ℕ) → Told → History → Stream → Type 0
 LinesRun h s lines texts told h' s' =

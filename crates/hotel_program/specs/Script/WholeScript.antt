@@ -20,7 +20,7 @@ use Rattle.hotel_program.specs.declared.script.ScriptFault.TheVariants.{Read, To
 use Rattle.hotel_lists.specs.declared.bytes.WholeFault.{WholeFault}
 use Rattle.hotel_lists.specs.declared.bytes.WholeFault.TheVariants as whole
 
--- The lines go in their order, each with its answer; what their calls told is theirs, in order.
+-- The lines go in their order, each with its answer; what their calls reported is theirs, in order.
 unfoldable pub ScriptGoes : (List ℕ → Type 0) → History → Stream → List (List ℕ) → List (List ℕ) → Told
     → History → Stream → Type 0
 ScriptGoes sure h s [] [] told h' s' = (told ≡ []) × (h' ≡ h) × (s' ≡ s)

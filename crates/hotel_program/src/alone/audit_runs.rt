@@ -89,7 +89,7 @@ fn import_and_write<B: Books, W: Write>(
     }
 }
 
-/// Imports an audit file: writes the answers to its lines, and tells the fault that came instead. It
+/// Imports an audit file: writes the answers to its lines, and reports the fault that came instead. It
 /// answers the exit status. The interrupted writes of the call are counted together, on both writers.
 pub fn run_audit<B: Books, W: Write, F: FaultSink>(
     alloc: Global,

@@ -15,8 +15,7 @@ use hotel_lists::{IoCalls, WriteFailed, write_bytes};
 use rand_core::Rng;
 use std::io::Write;
 
-/// Carries out a command and writes its reply. It answers the exit status, or the fault that came
-/// instead.
+/// Carries out a command and writes its reply. It answers the exit status, or the fault that came instead.
 fn step_and_write<B: Books, R: Rng, W: Write>(
     command: &Command,
     books: &mut B,
@@ -38,7 +37,7 @@ fn step_and_write<B: Books, R: Rng, W: Write>(
     }
 }
 
-/// Carries out a command and writes its reply, and tells the fault that came instead. It answers the
+/// Carries out a command and writes its reply, and reports the fault that came instead. It answers the
 /// exit status: 0, 3 where the command was refused, 4 where memory or the store failed, 5 where the
 /// reply couldn't be written. A command that was accepted stands also then.
 pub fn run_one<B: Books, R: Rng, W: Write, F: FaultSink>(

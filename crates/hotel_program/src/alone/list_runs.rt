@@ -39,7 +39,7 @@ fn write_list_or_refusal<W: Write, B: Walks>(
     }
 }
 
-/// The exit status of a list that ended so, or the fault that is told.
+/// The exit status of a list that ended so, or the fault that is reported.
 fn end_of_list(end: Result<(), ListFault>) -> Result<u8, Fault>
     ensures end { result ≡ list_end end }
     ensures no_usage { end_status result ≢ 2 }
@@ -53,9 +53,8 @@ fn end_of_list(end: Result<(), ListFault>) -> Result<u8, Fault>
     }
 }
 
-/// Answers a list: writes its text, or the line that its room isn't there, and tells the fault that
-/// came instead. It answers the exit status. The interrupted writes of the call are counted together,
-/// on both writers.
+/// Answers a list: writes its text, or the line that its room isn't there, and reports the fault that came instead. It
+/// answers the exit status. The interrupted writes of the call are counted together, on both writers.
 pub fn run_list<B: Walks, W: Write, F: FaultSink>(
     alloc: Global,
     list: &ListAsk,

@@ -67,7 +67,7 @@ pub struct Plan {
 /// Why the words give no plan.
 #[derive(Drop)]
 pub enum UsageFault {
-    /// Help was asked for: its text.
+    /// Help or the version was asked for: its text.
     Shown(String),
     /// The words aren't those of the command line: what is said of them.
     Usage(String),

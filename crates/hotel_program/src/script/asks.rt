@@ -19,8 +19,7 @@ use std::alloc::Global;
 /// Why a line asks for nothing.
 #[derive(Clone, Copy, Debug, PartialEq, Eq)]
 pub enum LineFault {
-    /// It is too long, not UTF-8, has another first word, too few or too many words, or a word that
-    /// its reader refuses.
+    /// It is too long, not UTF-8, has another first word, too few or too many words, or a word that its reader refuses.
     Unread,
     /// A growth of memory was refused.
     Memory,
@@ -43,8 +42,7 @@ fn split_words(text: &[u8]) -> Option<LineValues<'_>>
     Some(values)
 }
 
-/// The first three words of a text, and the rest of it without the spaces at both ends. None where
-/// it has fewer words.
+/// The first three words of a text, and the rest of it without the spaces at both ends. None where it has fewer words.
 fn split_reservation(text: &[u8]) -> Option<LineValues<'_>>
     ensures { MatchOption result (length (words_and_rest 3 text.now) < 4)
         (λ values. values ≡ words_and_rest 3 text.now) }

@@ -22,8 +22,7 @@ fn line_end(text: &[u8]) -> usize
     text.len()
 }
 
-/// The first line of a text, without its line feed, and the text after it. None where the text is
-/// empty.
+/// The first line of a text, without its line feed, and the text after it. None where the text is empty.
 pub fn first_line(text: &[u8]) -> Option<(&[u8], &[u8])>
     ensures none { result ≡ None → lines text.now ≡ [] }
     ensures some { IfSome result (λ p. lines text.now ≡ p.0.now ∷ lines p.1.now) }

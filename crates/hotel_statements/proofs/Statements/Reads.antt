@@ -64,7 +64,8 @@ unfolding understood everything
 read_note First indexes = record { query = (_, refl); plain = (refl, refl); listing = refl }
 read_note Second indexes = record { query = (_, refl); plain = (refl, refl); listing = refl }
 
-pub read_fit : (indexes : List Index) → AsksOf (schema_with Second indexes) text.read_fit (single fit_tree [] (columns (1 ∷ 2 ∷ 3 ∷ 4 ∷ []))
+pub read_fit : (indexes : List Index) → AsksOf (schema_with Second indexes) text.read_fit
+    (single fit_tree [] (columns (1 ∷ 2 ∷ 3 ∷ 4 ∷ []))
     ((col 1 1, ascending Binary) ∷ (col 1 2, ascending Binary) ∷ []))
 unfolding understood everything
 read_fit indexes = record { query = (_, refl); plain = (refl, refl); listing = refl }

@@ -5,7 +5,7 @@ use Rattle.hotel_audit.specs.declared.audit_file.AuditFault.TheVariants.{TooLarg
 use Rattle.hotel_audit.proofs.ImportEnds.{none_begun}
 use Rattle.hotel_audit.proofs.imports.import.Goals as goal
 
--- Memory was wanting, or the fault is known
+-- Memory ran out, or the fault is known
 by_fault : (why : AuditFault) (P : AuditFault → Type 0) → (why ≢ Memory → P why) → (why ≡ Memory) ⊎ P why
 by_fault TooLarge P known = inr (known (λ e. cc e))
 by_fault NoHeader P known = inr (known (λ e. cc e))

@@ -20,7 +20,8 @@ loop-line-init g c = record {
 }
 
 pub returns-in_default : goal.returns-in_default
-returns-in_default g c = none_begun g.B.Kept g.B.Books.rows c.args.books.now (Ok c.args.lines.now) fault.Memory (inl refl)
+returns-in_default g c = none_begun g.B.Kept g.B.Books.rows c.args.books.now (Ok c.args.lines.now) fault.Memory
+    (inl refl)
 
 pub returns-in-Err : goal.returns-in-Err
 returns-in-Err g c =

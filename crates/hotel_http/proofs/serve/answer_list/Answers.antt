@@ -21,5 +21,6 @@ pub returns-in-Err-clause-went : goal.returns-in-Err-clause-went
 returns-in-Err-clause-went g c =
     list_came c.args.list.now (Err c.in-Err.fault) _ _ _ g.met.B.Books.kept_rows c.in-Err.ensures.books
     c.in-Err.ensures.text (subst (λ (why : Refusal). EndsAs (replied (Refused why)) []
-    (g.W.Write.contents c.args.writer.now) (g.W.Write.contents c.answer_reply.new.writer) c.answer_reply.result) c.list_refusal.ensures
+    (g.W.Write.contents c.args.writer.now) (g.W.Write.contents c.answer_reply.new.writer) c.answer_reply.result)
+    c.list_refusal.ensures
     c.answer_reply.ensures.ends)

@@ -53,4 +53,5 @@ returns-in_err-served-in-Err-clause-serves g c =
     (is_cut c.from_residual-in_err-served-in-Err.result _
     c.from_residual-in_err-served-in-Err.ensures.1))
     (inl (rejection_served g.B.Kept g.B.Books.rows c.args.books.now s known old mid new c.in_ok-asks.field-0
-    c.in-Err.why (Err c.in_err-served-in-Err.field-0.0) c.in-Err.is c.in_ok-asks.ensures.ends c.in_err-served-in-Err.ensures.ends))
+    c.in-Err.why (Err c.in_err-served-in-Err.field-0.0) c.in-Err.is c.in_ok-asks.ensures.ends
+    c.in_err-served-in-Err.ensures.ends))

@@ -1,4 +1,5 @@
--- the connections so far were served, each in the state that the one before it left, and the faults of each were told
+-- the connections so far were served, each in the state that the one before it left, and the faults of each were
+-- reported
 use Rattle.std.proofs.Common.{◌≡◌, List, length}
 use Rattle.keycard_rules.specs.Calls.{Passes}
 use Rattle.hotel_program.specs.Faults.{ReportsAll}

@@ -11,4 +11,4 @@ returns-in-Nine-clause-makes g c =
     let rooms = c.args.rooms.now in
     subst (λ (layout : Layout). MakesBy g.S.Store (completes layout rooms) (Completes layout rooms)
     c.args.tx.now.conn.now c.add_indexes.new.tx.conn.now c.add_indexes.result)
-    (sym c.in-Nine.is) (made_as (indexes_made c.in-Nine.count) c.add_indexes.ensures.makes)
+    (sym c.in-Nine.is) (made_as (indexes_made rooms c.in-Nine.count) c.add_indexes.ensures.makes)

@@ -1,8 +1,9 @@
 use Rattle.std.proofs.Common.{List, ℕ, inl, sym, subst, Ok, Err, ◌∙◌}
 use Rattle.sqlite.specs.Held.{state}
 use Rattle.hotel_statements.specs.declared.version.Version.{Version}
+use Rattle.hotel_statements.specs.Schema.{version_of}
 use Rattle.hotel_statements.specs.Books.{IsKept}
-use Rattle.hotel_statements.specs.Upgrade.{AreRoomsIn}
+use Rattle.hotel_statements.specs.Upgrade.{AreRoomsFor}
 use Rattle.hotel_tables.specs.Opening.{Enters, Opens, Lacks}
 use Rattle.hotel_tables.specs.Exits.{CallFails}
 use Rattle.hotel_tables.proofs.Entered.{books_read, rooms_read, entered_whole, entered_made, entered_not, not_made}
@@ -36,7 +37,7 @@ migrate-requires-clause-rooms g c = λ kept.
     let mid = state g.S.Store c.find_counts.new.conn in
     let opens = subst (λ (v : Version). Opens v old mid (Ok c.in-Ok.found)) c.version.ensures c.in-Ok.ensures in
     let lacks : Lacks c.args.layout old.now.schema = (sym c.is_whole.ensures ∙ c.if-is_whole.false, c.requires.has) in
-    subst (λ (rooms : List ℕ). AreRoomsIn rooms mid.now.trees) (sym c.deref.ensures.value)
+    subst (λ (rooms : List ℕ). AreRoomsFor (version_of c.args.layout) rooms mid.now.trees) (sym c.deref.ensures.value)
     (rooms_read c.args.layout lacks opens kept)
 
 pub returns-in-Ok-migrate : goal.returns-in-Ok-migrate
@@ -63,5 +64,6 @@ returns-in-Err-migrate g c =
     (not_made layout lacks opens did.left.autocommit did.was did.crash c.fault_of.result did.same
     (λ cause is. completion_fails g.S.Store layout c.args.conn.now c.find_counts.new.conn c.migrate.new.conn _
     c.in-Err-migrate.error lacks opens.keeps
-    (subst (λ (rooms : List ℕ). IsKept mid → AreRoomsIn rooms mid.now.trees) (sym c.deref.ensures.value)
+    (subst (λ (rooms : List ℕ). IsKept mid → AreRoomsFor (version_of layout) rooms mid.now.trees)
+    (sym c.deref.ensures.value)
     (rooms_read layout lacks opens)) did.failed cause (sym c.fault_of.ensures ∙ is)))

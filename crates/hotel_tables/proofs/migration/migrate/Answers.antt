@@ -15,7 +15,7 @@ use Rattle.hotel_tables.proofs.migration.migrate.Goals as goal
 
 pub returns-clause-books : goal.returns-clause-books
 returns-clause-books g c =
-    let it = ended g.S.Store c.args.conn.now c.transaction-tx.result.conn.now c.complete.new.tx.conn.now
+    let it = ended g.S.Store _ c.args.conn.now c.transaction-tx.result.conn.now c.complete.new.tx.conn.now
     c.commit.new.self.0 c.commit.result c.requires.books c.transaction-tx.ensures.begun
     c.in_ok-complete.ensures.makes c.commit.ensures.survives
     c.commit.ensures.ended c.commit.ensures.ok c.commit.ensures.err in
@@ -23,7 +23,7 @@ returns-clause-books g c =
 
 pub returns-clause-left : goal.returns-clause-left
 returns-clause-left g c =
-    let it = ended g.S.Store c.args.conn.now c.transaction-tx.result.conn.now c.complete.new.tx.conn.now
+    let it = ended g.S.Store _ c.args.conn.now c.transaction-tx.result.conn.now c.complete.new.tx.conn.now
     c.commit.new.self.0 c.commit.result c.requires.books c.transaction-tx.ensures.begun
     c.in_ok-complete.ensures.makes c.commit.ensures.survives
     c.commit.ensures.ended c.commit.ensures.ok c.commit.ensures.err in
@@ -31,7 +31,7 @@ returns-clause-left g c =
 
 pub returns-clause-was : goal.returns-clause-was
 returns-clause-was g c =
-    let it = ended g.S.Store c.args.conn.now c.transaction-tx.result.conn.now c.complete.new.tx.conn.now
+    let it = ended g.S.Store _ c.args.conn.now c.transaction-tx.result.conn.now c.complete.new.tx.conn.now
     c.commit.new.self.0 c.commit.result c.requires.books c.transaction-tx.ensures.begun
     c.in_ok-complete.ensures.makes c.commit.ensures.survives
     c.commit.ensures.ended c.commit.ensures.ok c.commit.ensures.err in
@@ -39,7 +39,7 @@ returns-clause-was g c =
 
 pub returns-clause-same : goal.returns-clause-same
 returns-clause-same g c =
-    let it = ended g.S.Store c.args.conn.now c.transaction-tx.result.conn.now c.complete.new.tx.conn.now
+    let it = ended g.S.Store _ c.args.conn.now c.transaction-tx.result.conn.now c.complete.new.tx.conn.now
     c.commit.new.self.0 c.commit.result c.requires.books c.transaction-tx.ensures.begun
     c.in_ok-complete.ensures.makes c.commit.ensures.survives
     c.commit.ensures.ended c.commit.ensures.ok c.commit.ensures.err in
@@ -47,7 +47,7 @@ returns-clause-same g c =
 
 pub returns-clause-whole : goal.returns-clause-whole
 returns-clause-whole g c =
-    let it = ended g.S.Store c.args.conn.now c.transaction-tx.result.conn.now c.complete.new.tx.conn.now
+    let it = ended g.S.Store _ c.args.conn.now c.transaction-tx.result.conn.now c.complete.new.tx.conn.now
     c.commit.new.self.0 c.commit.result c.requires.books c.transaction-tx.ensures.begun
     c.in_ok-complete.ensures.makes c.commit.ensures.survives
     c.commit.ensures.ended c.commit.ensures.ok c.commit.ensures.err in
@@ -68,11 +68,11 @@ returns-clause-open_on g c =
 
 pub returns-clause-made : goal.returns-clause-made
 returns-clause-made g c =
-    let it = ended g.S.Store c.args.conn.now c.transaction-tx.result.conn.now c.complete.new.tx.conn.now
+    let it = ended g.S.Store _ c.args.conn.now c.transaction-tx.result.conn.now c.complete.new.tx.conn.now
     c.commit.new.self.0 c.commit.result c.requires.books c.transaction-tx.ensures.begun
     c.in_ok-complete.ensures.makes c.commit.ensures.survives
     c.commit.ensures.ended c.commit.ensures.ok c.commit.ensures.err in
-    let rows_are = made g.S.Store c.args.conn.now c.transaction-tx.result.conn.now c.complete.new.tx.conn.now
+    let rows_are = made g.S.Store _ c.args.conn.now c.transaction-tx.result.conn.now c.complete.new.tx.conn.now
     c.commit.new.self.0 c.commit.result c.requires.books c.transaction-tx.ensures.begun
     c.in_ok-complete.ensures.makes c.commit.ensures.survives
     c.requires.rooms it in
@@ -82,7 +82,7 @@ pub returns-clause-crash : goal.returns-clause-crash
 returns-clause-crash g c =
     let zero : Survives (state g.S.Store c.args.conn.now) (state g.S.Store c.transaction-tx.result.conn.now) (λ _. ⊥) =
     search rules in
-    let whole = crash g.S.Store c.args.conn.now c.transaction-tx.result.conn.now c.complete.new.tx.conn.now
+    let whole = crash g.S.Store _ c.args.conn.now c.transaction-tx.result.conn.now c.complete.new.tx.conn.now
     c.commit.new.self.0 c.commit.result c.requires.books c.transaction-tx.ensures.begun
     c.in_ok-complete.ensures.makes c.commit.ensures.survives
     c.requires.rooms zero in

@@ -1,12 +1,20 @@
-use Rattle.std.proofs.lemmas.Result.{IfOk-weaker}
-use Rattle.hotel_tables.proofs.Opened.{opened}
+use Rattle.std.proofs.Common.{ap, ◌∙◌}
+use Rattle.std.specs.List.{list_all}
+use Rattle.hotel_rows.specs.RowTests.{is_room_number}
+use Rattle.hotel_rows.proofs.OfCounts.Countable.{rooms_numbered}
+use Rattle.hotel_tables.specs.Opening.{rooms_for}
+use Rattle.hotel_tables.proofs.Opened.{opened, fits_memory}
 use Rattle.hotel_tables.proofs.opening.found_in.Goals as goal
 
-pub returns-clause-ok : goal.returns-clause-ok
-returns-clause-ok c = λ db read.
-    IfOk-weaker c.sound_found.result _ _
-    (λ found h. opened c.in_ok-stored.stored db found (c.in_ok-stored.ensures.ok db read) h)
-    c.sound_found.ensures.ok
+pub returns-in-Ok-clause-ok : goal.returns-in-Ok-clause-ok
+returns-in-Ok-clause-ok c = λ db read.
+    let version = c.args.version in
+    let counted = c.in_ok-counts.ensures.ok in
+    opened version c.in_ok-stored.stored db _ (c.in_ok-stored.ensures.ok db read)
+    (counted.0, counted.1, counted.2, c.in-Ok.ensures.ok ∙ ap (rooms_for version) c.deref.ensures.value)
 
 pub returns-clause-err : goal.returns-clause-err
-returns-clause-err c = λ db read. c.sound_found.ensures.err c.args.version db (c.in_ok-stored.ensures.ok db read).0
+returns-clause-err c = λ db read.
+    let numbers = ap (list_all is_room_number) c.deref.ensures.value
+    ∙ rooms_numbered c.in_ok-stored.stored c.in_ok-counts.ensures.ok.1 in
+    rw c.open_fault.ensures (fits_memory ⊥ c.args.version db c.in-Err.why (c.in-Err.ensures.err numbers))

@@ -103,13 +103,15 @@ returns-clause-leaves g c =
 pub returns-clause-cause : goal.returns-clause-cause
 returns-clause-cause g c =
     let asked = c.in-Err.ensures in
-    vain_fails g.S.Store c.args.self.now c.ask.new.self c.in-Err.why asked.ready asked.no_fewer asked.counted (TablesFail g.S.Store c.args.change)
+    vain_fails g.S.Store c.args.self.now c.ask.new.self c.in-Err.why asked.ready asked.no_fewer asked.counted
+    (TablesFail g.S.Store c.args.change)
 
 pub returns-clause-stop : goal.returns-clause-stop
 returns-clause-stop g c =
     let asked = c.in-Err.ensures in
     record {
-      crash = vain_change g.S.Store c.args.self.now c.ask.new.self c.in-Err.why asked.ready asked.no_fewer asked.counted c.args.change;
+      crash = vain_change g.S.Store c.args.self.now c.ask.new.self c.in-Err.why asked.ready asked.no_fewer asked.counted
+          c.args.change;
       left = λ kept db left. g.met.S.Store.settled c.ask.new.self.conn.store db kept.1 left
           ∙ sym (ap (λ (d : Database). d.trees) (asked.ready.books.desk kept).settled);
     }

@@ -9,7 +9,8 @@ returns g c =
     asked_then_looked g.S.Store c.args.self.now c.ask.new.self c.counting.new.self _ asked.ready asked.no_fewer
     asked.counted (λ rows. code_at rows c.args.room c.args.place)
     (look_up_counted g.S.Store _ _ c.self.view_is _ _ c.counting.ensures.conn c.counting.ensures.no_fewer
-    (λ clean. (asked.ready.unchanged clean).0.is_open) (λ _ _. of_code_at c.args.room c.args.place) c.code_at-code.ensures
+    (λ clean. (asked.ready.unchanged clean).0.is_open) (λ _ _. of_code_at c.args.room c.args.place)
+    c.code_at-code.ensures
     c.counting.ensures.same c.counting.ensures.counted)
 
 pub returns-in_err-ask : goal.returns-in_err-ask

@@ -9,7 +9,8 @@ returns-in-Ok g c =
     asked_then_walked g.S.Store c.args.self.now c.ask.new.self c.counting_walk.new.self _ asked.ready asked.no_fewer
     asked.counted (λ rows. arrivals_on rows c.args.day)
     (walk_counted g.S.Store _ _ c.self.view_is _ _ c.counting_walk.ensures.conn c.counting_walk.ensures.no_fewer
-    (λ rows. arrivals_on rows c.args.day) (λ clean. (asked.ready.unchanged clean).0.is_open) (λ _ _. of_arrivals c.args.day)
+    (λ rows. arrivals_on rows c.args.day) (λ clean. (asked.ready.unchanged clean).0.is_open)
+    (λ _ _. of_arrivals c.args.day)
     c.arrivals-end.ensures c.counting_walk.ensures.same c.counting_walk.ensures.counted)
 
 pub returns-in-Err : goal.returns-in-Err

@@ -9,7 +9,8 @@ returns-in-Ok g c =
     asked_then_walked g.S.Store c.args.self.now c.ask.new.self c.counting_walk.new.self _ asked.ready asked.no_fewer
     asked.counted (λ rows. notes_at rows.notes c.args.room)
     (walk_counted g.S.Store _ _ c.self.view_is _ _ c.counting_walk.ensures.conn c.counting_walk.ensures.no_fewer
-    (λ rows. notes_at rows.notes c.args.room) (λ clean. (asked.ready.unchanged clean).0.is_open) (λ _ _. of_audit c.args.room)
+    (λ rows. notes_at rows.notes c.args.room) (λ clean. (asked.ready.unchanged clean).0.is_open)
+    (λ _ _. of_audit c.args.room)
     c.audit-end.ensures c.counting_walk.ensures.same c.counting_walk.ensures.counted)
 
 pub returns-in-Err : goal.returns-in-Err
