@@ -17,3 +17,7 @@ mod CountsOfFits
 mod FilesCounted
 mod NotesTaken
 pub mod AnswersWritten
+mod NumbersRead
+mod ListRead
+mod NotesSound
+mod ListSeen

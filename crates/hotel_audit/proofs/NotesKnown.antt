@@ -145,7 +145,7 @@ same_act_itself (act.Entered n l) = rw (eq-eqb n n refl, same_link_itself l) ref
 same_act_itself (act.Left n l) = rw (eq-eqb n n refl, same_link_itself l) refl
 same_act_itself (act.Recoded from to) = rw (eq-eqb from from refl, eq-eqb to to refl) refl
 
-same_note_itself : (n : Note) → same_note n n ≡ true
+pub same_note_itself : (n : Note) → same_note n n ≡ true
 same_note_itself n =
     rw (
       eq-eqb n.room n.room refl,

@@ -13,7 +13,7 @@ use Rattle.hotel_audit.specs.SentAgain.{IsTakenOrSeen, SeenAgain}
 use Rattle.hotel_audit.proofs.NotesKnown.{Knows, known_seen, knows_along, knows_step}
 
 -- each line is a note that was taken
-abbrev KnowsLines : History → List Line → Type 0
+abbrev pub KnowsLines : History → List Line → Type 0
 KnowsLines h [] = Unit {0}
 KnowsLines h (line.Note note ∷ lines) = Knows h note × KnowsLines h lines
 KnowsLines h (line.Unread cause ∷ lines) = ⊥
@@ -48,7 +48,7 @@ seen_step h s note given h' s' k d =
     let seen = known_seen h (words 64 s) note k in
     (d.0 ∙ ap (λ (o : Outcome Event). o.reply) seen, d.1 ∙ ap (λ (o : Outcome Event). grown h o.happens) seen)
 
-seen_lines : (h end : History) (s s' : Stream) (lines : List Line) (again : List LineAnswer)
+pub seen_lines : (h end : History) (s s' : Stream) (lines : List Line) (again : List LineAnswer)
     → KnowsLines h lines → AreAnswered lines again
     → Runs h s (commands_of lines) (replies_in again) end s' → (again ≡ map (λ l. Seen) lines) × (end ≡ h)
 seen_lines h end s s' [] [] k each r = (refl, r.0)
@@ -67,7 +67,7 @@ seen_lines h end s s' (line.Unread cause ∷ lines) again k each r = absurd k
 seen_lines h end s s' [] (a ∷ again) k each r = absurd each
 seen_lines h end s s' (line.Note note ∷ lines) [] k each r = absurd each
 
-knows_lines_along : (h h' : History) (s s' : Stream) (commands : List Command) (replies : List Reply)
+pub knows_lines_along : (h h' : History) (s s' : Stream) (commands : List Command) (replies : List Reply)
     (lines : List Line) → Runs h s commands replies h' s' → KnowsLines h lines → KnowsLines h' lines
 knows_lines_along h h' s s' commands replies [] r k = tt
 knows_lines_along h h' s s' commands replies (line.Note note ∷ lines) r k =

@@ -1,5 +1,6 @@
 //! Laws of audit files, which make no call.
 ghost use Rattle.hotel_audit.specs.{FilesCounted.FilesCounted, FilesCounted.NotesCounted, FilesCounted.RunsTake};
+ghost use Rattle.hotel_audit.specs.{ListSent.ListIsSeen, ListSent.ListReadsBack, ListSent.NotesReadBack};
 ghost use Rattle.hotel_audit.specs.{Readings.GivesFileRecords, Readings.HasOneReading};
 ghost use Rattle.hotel_audit.specs.{SentAgain.SeenAgain, SentAtOnce.SentAtOnce, SentAtOnce.StoppedAndSent};
 ghost use Rattle.hotel_audit.specs.{Import.ImportsLead, Shut.ImportsNothing};
@@ -39,6 +40,14 @@ pub fn files_counted()
     ensures of_files { FilesCounted }
     ensures of_histories { NotesCounted }
     ensures of_runs { RunsTake }
+{}
+
+/// The list of a room's notes is an audit file of them, unless it is longer than `AUDIT_BYTES`. Sent at the same desk,
+/// at any later time, each of its lines is seen, and changes nothing.
+pub fn list_comes_back()
+    ensures notes { NotesReadBack }
+    ensures list { ListReadsBack }
+    ensures seen { ListIsSeen }
 {}
 
 /// Of an import (`imported`): from the first state on that was not clean, each line that was answered is unread, where

@@ -1,9 +1,7 @@
 //! Audit files that are imported, and what their lines are answered.
-use crate::commands::{check_in, desk_behind, opening};
+use crate::commands::checked_in;
 use hotel_audit::{Cause, LineAnswer, import};
 use hotel_core::{Books, ListBooks, Refusal};
-use hotel_scenarios::desks::Desk;
-use std::alloc::Global;
 use std::process::Abort;
 use std::test::Fail;
 
@@ -31,13 +29,6 @@ const CONFLICT: &[u8] = b"room,count,kind,card,old,new,at\n\
 /// Scenario `audit-bytes`.
 const BYTES: &[u8] = b"\xEF\xBB\xBFroom,count,kind,card,old,new,at\r\n\
     \"101\",1,in,1,\"A0\",0000000000A1,2031-05-01T15:00:00\r\n101,2,out";
-
-/// A desk over these empty books where a guest is checked in.
-fn checked_in<B: Books + Drop>(alloc: Global, books: B) -> Result<Desk<B>, Fail> {
-    let mut commands = opening(alloc, "Ann Lee")?;
-    commands.push(check_in(1)?)?;
-    desk_behind(alloc, books, commands.as_slice())
-}
 
 /// The file's lines are answered so.
 fn is_answered<B: Books>(

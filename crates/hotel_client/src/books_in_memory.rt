@@ -1,9 +1,9 @@
 //! Books in memory: commands by `run`, by `step` and by `report`, and the values of their replies.
 use crate::commands::{CODES, desk_behind, told, two_entries, two_entries_answered};
+use crate::desks::Desk;
 use crate::look_ups::rows_are_found;
 use crate::values::{card_number, code, entered, fit, link, note, party, room};
 use hotel_core::{Command, ListBooks, Refusal, Reply, report, run};
-use hotel_scenarios::desks::Desk;
 use keycard_rules::Act;
 use std::alloc::Global;
 use std::test::Fail;

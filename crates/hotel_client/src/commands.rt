@@ -1,7 +1,7 @@
 //! The commands of scenario `two-entries`, and their replies.
+use crate::desks::Desk;
 use crate::values::{code, day, entered, first_card, guest, kind, nights, party, room};
 use hotel_core::{Books, Command, Reply, step};
-use hotel_scenarios::desks::Desk;
 use std::alloc::Global;
 use std::test::Fail;
 
@@ -91,4 +91,11 @@ pub(crate) fn desk_behind<B: Books + Drop>(
         told(&mut desk, command);
     }
     Ok(desk)
+}
+
+/// A desk over these empty books where the first party is checked in.
+pub(crate) fn checked_in<B: Books + Drop>(alloc: Global, books: B) -> Result<Desk<B>, Fail> {
+    let mut commands = opening(alloc, "Ann Lee")?;
+    commands.push(check_in(1)?)?;
+    desk_behind(alloc, books, commands.as_slice())
 }

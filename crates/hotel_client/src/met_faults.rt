@@ -1,6 +1,7 @@
 //! Faults that a client meets with ample memory, each by the call that answers it.
 use crate::books_in_memory::two_entries_in_memory;
 use crate::commands::{opening, told};
+use crate::desks::Desk;
 use crate::faults::{
     Name, of_audit_file, of_draw, of_guest, of_import, of_list, of_opening, of_recoding,
     of_request, of_script, of_words,
@@ -10,34 +11,21 @@ use crate::tables::{fault_of, two_entries_in_tables};
 use crate::values::{code, room};
 use hotel_audit::{import, read_notes};
 use hotel_core::ListBooks;
-use hotel_lists::{IoCalls, chain_of};
+use hotel_lists::{FailingReader, FailingWriter, chain_of};
 use hotel_nights::Guest;
 use hotel_program::{ScriptFault, parse_words, run_script};
-use hotel_scenarios::desks::Desk;
 use keycard_rules::{Chain, draw_fresh};
 use sqlite::Connection;
 use std::alloc::Global;
-use std::io::{self, ErrorKind, Read, Write};
+use std::io::Read;
 use std::process::Abort;
 use std::test::Fail;
 
-/// A stream of which each call fails.
-#[derive(Drop)]
-struct Shut;
-
-impl Read for Shut {
-    fn read(&mut self, _buf: &mut [u8]) -> io::Result<usize> {
-        Err(io::Error::from(ErrorKind::Other))
-    }
-}
-
-impl Write for Shut {
-    fn write(&mut self, _buf: &[u8]) -> io::Result<usize> {
-        Err(io::Error::from(ErrorKind::Other))
-    }
-
-    fn flush(&mut self) -> io::Result<()> {
-        Ok(())
+/// A writer whose first write fails.
+fn shut(alloc: Global) -> FailingWriter<Vec<u8>> {
+    FailingWriter {
+        writer: Vec::new(alloc),
+        good: 0,
     }
 }
 
@@ -76,9 +64,9 @@ fn guests(rt: HostRuntime) {
 fn lists(rt: HostRuntime) -> Result<(), Fail> {
     let alloc = rt.alloc();
     let mut books = two_entries_in_memory(alloc)?.books;
-    let absent = chain_of(alloc, &mut books, room(102)?, &mut Shut).err();
+    let absent = chain_of(alloc, &mut books, room(102)?, &mut shut(alloc)).err();
     assert!(rt; absent.map(of_list) == Some("no room"));
-    let unwritten = chain_of(alloc, &mut books, room(101)?, &mut Shut).err();
+    let unwritten = chain_of(alloc, &mut books, room(101)?, &mut shut(alloc)).err();
     assert!(rt; unwritten.map(of_list) == Some("write"));
     Ok(())
 }
@@ -105,9 +93,9 @@ fn audit_files(rt: HostRuntime) -> Result<(), Fail> {
 #[test]
 fn requests(rt: HostRuntime) -> Result<(), Fail> {
     let mut desk = booked(rt.alloc())?;
-    let closed = serve(&mut desk, b"", &mut Shut).err();
+    let closed = serve(&mut desk, b"", &mut shut(rt.alloc())).err();
     assert!(rt; closed.map(of_request) == Some(("closed", false)));
-    let unwritten = serve(&mut desk, CHECK_IN, &mut Shut).err();
+    let unwritten = serve(&mut desk, CHECK_IN, &mut shut(rt.alloc())).err();
     assert!(rt; unwritten.map(of_request) == Some(("write", true)));
     Ok(())
 }
@@ -117,10 +105,9 @@ fn script_fault<I: Read>(desk: &mut Desk, reader: &mut I) -> Option<ScriptFault>
     run_script(
         desk.alloc,
         reader,
-        &mut Shut,
+        &mut shut(desk.alloc),
         &mut desk.books,
         &mut desk.source,
-        &mut IoCalls::none(),
     )
     .err()
 }
@@ -129,9 +116,13 @@ fn script_fault<I: Read>(desk: &mut Desk, reader: &mut I) -> Option<ScriptFault>
 #[test]
 fn scripts(rt: HostRuntime) -> Result<(), Fail> {
     let mut desk = Desk::over(rt.alloc(), ListBooks::empty(rt.alloc()), &[0xa0])?;
-    let unread = script_fault(&mut desk, &mut Shut);
-    assert!(rt; unread.map(of_script) == Some(("read", 0)));
     let mut script = b"begin 2031-05-01\nadd-kind DBL\n".as_slice();
+    let mut reader = FailingReader {
+        reader: script,
+        good: 1,
+    };
+    let unread = script_fault(&mut desk, &mut reader);
+    assert!(rt; unread.map(of_script) == Some(("read", 0)));
     let unwritten = script_fault(&mut desk, &mut script);
     assert!(rt; unwritten.map(of_script) == Some(("write", 1)));
     Ok(())

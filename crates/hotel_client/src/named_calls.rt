@@ -3,15 +3,17 @@
 ghost use Rattle.std.specs.Prelude.{◌≡◌, OnOk};
 ghost use Rattle.std.specs.Duration.{as_nanos};
 
-use hotel_asks::Ask;
+use crate::commands::checked_in;
+use crate::desks::Desk;
+use crate::values::{count, kind, party};
 use hotel_audit::{AuditFault, Line, read_notes};
-use hotel_core::{Command, Refusal, Reply, reply_text, report};
+use hotel_core::{Command, ListBooks, Refusal, Reply, reply_text, report};
+use hotel_nights::Moment;
 use hotel_program::{
-    DeskAct, Link, Listener, NoClock, UsageFault, ValueName, parse_words, run_one,
+    DeskAct, Link, ListAsk, Listener, NoClock, UsageFault, ValueName, parse_words, run_one,
     serve_connections, status_of,
 };
-use hotel_scenarios::desks::Desk;
-use hotel_scenarios::line_asks::ask_of;
+use keycard_rules::LockNote;
 use std::alloc::Global;
 use std::io::{self, ErrorKind, Read};
 use std::test::Fail;
@@ -22,14 +24,26 @@ const FILE: &[u8] = b"room,fit,count,kind,card,old,new,at\n\
     101,1,1,in,1,0000000000a0,0000000000a1,2031-05-01T15:00:00\n\
     101,1,x,in,1,0000000000a0,0000000000a1,2031-05-01T15:00:00\n";
 
+/// A desk over books in memory, where the first party is checked in.
+fn one_guest(alloc: Global) -> Result<Desk, Fail> {
+    checked_in(alloc, ListBooks::empty(alloc))
+}
+
+/// The note's moment is this one.
+fn is_noted_at(note: &LockNote, at: &Moment) -> bool {
+    note.day == at.day.number() && note.second == at.second
+}
+
 #[test]
 fn notes_reported(rt: HostRuntime) -> Result<(), Fail> {
-    let mut desk = Desk::of_one_guest(rt.alloc())?;
+    let mut desk = one_guest(rt.alloc())?;
     let lines = read_notes(rt.alloc(), FILE)?;
+    let at = Moment::read(b"2031-05-01T15:00:00").ok_or("a moment")?;
     let mut told = Vec::new(rt.alloc());
     for line in lines.as_slice() {
         match line {
             Line::Note(note) => {
+                assert!(rt; note.count == count(1)? && is_noted_at(note, &at));
                 told.extend_from_slice(reply_text(&report(&mut desk.books, note)).as_bytes())?;
                 told.extend_from_slice(reply_text(&report(&mut desk.books, note)).as_bytes())?;
             }
@@ -61,6 +75,14 @@ fn fault_of(alloc: Global, line: &str) -> Result<Option<UsageFault>, Fail> {
     Ok(parse_words(alloc, words_of(alloc, line)?.as_slice()).err())
 }
 
+/// The words ask for the list of who is in house.
+fn is_list_in_house(alloc: Global, line: &str) -> Result<bool, Fail> {
+    match parse_words(alloc, words_of(alloc, line)?.as_slice()) {
+        Ok(plan) => Ok(matches!(plan.act, DeskAct::List(ListAsk::InHouse))),
+        Err(_) => Ok(false),
+    }
+}
+
 #[test]
 fn words_parsed(rt: HostRuntime) -> Result<(), Fail> {
     let alloc = rt.alloc();
@@ -70,6 +92,7 @@ fn words_parsed(rt: HostRuntime) -> Result<(), Fail> {
     };
     assert!(rt; plan.db.is_some() && plan.seed_file.is_none());
     assert!(rt; matches!(plan.act, DeskAct::One(Command::CheckIn { .. })));
+    assert!(rt; is_list_in_house(alloc, "in-house")?);
     assert!(rt;
         matches!(
             fault_of(alloc, "check-in x 101")?,
@@ -91,43 +114,27 @@ fn words_parsed(rt: HostRuntime) -> Result<(), Fail> {
     Ok(())
 }
 
-/// The line's command alone is answered so, with this status, and no fault is reported.
-fn is_answered(
-    alloc: Global,
-    desk: &mut Desk,
-    line: &[u8],
-    answer: &[u8],
-    status: u8,
-) -> Result<bool, Fail> {
-    let Ask::Command(command) = ask_of(alloc, line)? else {
-        return Ok(false);
-    };
-    let mut writer = Vec::new(alloc);
-    let mut faults: Vec<u8> = Vec::new(alloc);
+/// The command alone is answered so, with this status, and no fault is reported.
+fn is_answered(desk: &mut Desk, command: &Command, answer: &[u8], status: u8) -> bool {
+    let mut writer = Vec::new(desk.alloc);
+    let mut faults: Vec<u8> = Vec::new(desk.alloc);
     let got = run_one(
-        &command,
+        command,
         &mut desk.books,
         &mut desk.source,
         &mut writer,
         &mut faults,
     );
-    Ok(got == status && writer.as_slice() == answer && faults.is_empty())
+    got == status && writer.as_slice() == answer && faults.is_empty()
 }
 
 #[test]
 fn commands_alone(rt: HostRuntime) -> Result<(), Fail> {
-    let mut desk = Desk::of_one_guest(rt.alloc())?;
+    let mut desk = one_guest(rt.alloc())?;
     let spare = b"card 2 party 1 old 0000000000a0 new 0000000000a1\n";
-    assert!(rt; is_answered(rt.alloc(), &mut desk, b"spare 1", spare, 0)?);
-    assert!(rt;
-        is_answered(
-            rt.alloc(),
-            &mut desk,
-            b"add-kind DBL",
-            b"refused 3 KindExists\n",
-            3
-        )?
-    );
+    assert!(rt; is_answered(&mut desk, &Command::Spare(party(1)?), spare, 0));
+    let add_kind = Command::AddKind(kind(b"DBL")?);
+    assert!(rt; is_answered(&mut desk, &add_kind, b"refused 3 KindExists\n", 3));
     assert!(rt; status_of(&Reply::Refused(Refusal::Store)) == 4);
     Ok(())
 }
@@ -212,6 +219,10 @@ impl Listener for Peers {
 
     ghost taken = { λ _ _ _. Unit {0} };
 
+    ghost linked = { λ _ _ _. Unit {0} };
+
+    ghost closed = { λ _ _ _ _ _. Unit {0} };
+
     ghost waited = { λ _ _ _. Unit {0} };
 
     fn accept(&mut self) -> io::Result<Peer> {
@@ -223,11 +234,13 @@ impl Listener for Peers {
         }
     }
 
-    fn wait(&mut self, _time: Duration) {}
-
-    fn link(&self) -> ReadSoFar {
+    fn link(&mut self) -> ReadSoFar {
         ReadSoFar { count: 0 }
     }
+
+    fn close(&mut self, _stream: Peer, _reads: ReadSoFar, _writes: ReadSoFar) {}
+
+    fn wait(&mut self, _time: Duration) {}
 }
 
 /// A check-out, none that can be taken, one that sends nothing, one that isn't there with a body, and a check-in.
@@ -241,7 +254,7 @@ static PEERS: [Option<&[u8]>; 5] = [
 
 #[test]
 fn connections_served(rt: HostRuntime) -> Result<(), Fail> {
-    let mut desk = Desk::of_one_guest(rt.alloc())?;
+    let mut desk = one_guest(rt.alloc())?;
     let mut faults = Vec::new(rt.alloc());
     let peers = Peers {
         peers: &PEERS,
@@ -257,16 +270,9 @@ fn connections_served(rt: HostRuntime) -> Result<(), Fail> {
     );
     assert!(rt; status == 0);
     assert!(rt; faults.as_slice() == b"closed\nclosed\n".as_slice());
-    let gone = b"refused 9 NotInHouse\n";
-    assert!(rt; is_answered(rt.alloc(), &mut desk, b"check-out 1", gone, 3)?);
-    assert!(rt;
-        is_answered(
-            rt.alloc(),
-            &mut desk,
-            b"add-kind SGL",
-            b"refused 3 KindExists\n",
-            3
-        )?
-    );
+    let check_out = Command::CheckOut(party(1)?);
+    assert!(rt; is_answered(&mut desk, &check_out, b"refused 9 NotInHouse\n", 3));
+    let add_kind = Command::AddKind(kind(b"SGL")?);
+    assert!(rt; is_answered(&mut desk, &add_kind, b"refused 3 KindExists\n", 3));
     Ok(())
 }

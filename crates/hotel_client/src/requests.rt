@@ -1,8 +1,8 @@
 //! Requests that are served over bytes in memory.
 use crate::commands::{desk_behind, opening};
+use crate::desks::Desk;
 use hotel_core::{ListBooks, Walks};
 use hotel_http::{ServeFault, Served, serve_one};
-use hotel_scenarios::desks::Desk;
 use std::alloc::Global;
 use std::io::Write;
 use std::test::Fail;
@@ -12,12 +12,12 @@ pub(crate) const CHECK_IN: &[u8] =
     b"POST /reservations/1/check-in HTTP/1.1\r\nHost: localhost\r\nContent-Length: 8\r\n\r\nroom=101";
 
 /// The answer to the first one.
-const CHECKED_IN: &[u8] =
+pub(crate) const CHECKED_IN: &[u8] =
     b"HTTP/1.1 200 OK\r\nContent-Type: text/plain; charset=utf-8\r\nContent-Length: 49\r\n\
         Connection: close\r\n\r\ncard 1 party 1 old 0000000000a0 new 0000000000a1\n";
 
 /// The answer to a second one.
-const NOT_BOOKED: &[u8] =
+pub(crate) const NOT_BOOKED: &[u8] =
     b"HTTP/1.1 409 Conflict\r\nContent-Type: text/plain; charset=utf-8\r\nContent-Length: 20\r\n\
         Connection: close\r\n\r\nrefused 8 NotBooked\n";
 

@@ -2,13 +2,13 @@
 //! out.
 use crate::audit_files::TWO_NOTES;
 use crate::commands::{check_in, told};
+use crate::desks::Desk;
 use crate::faults::{Name, of_import, of_list, of_look_up};
 use crate::requests::booked;
 use crate::values::first_card;
 use hotel_audit::{LineAnswer, import};
 use hotel_core::{Books, Refusal, Reply};
 use hotel_lists::in_house;
-use hotel_scenarios::desks::Desk;
 use keycard_rules::LookFault;
 use std::alloc::Global;
 use std::test::Fail;

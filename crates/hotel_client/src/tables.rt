@@ -1,9 +1,9 @@
 //! Tables in memory, and in files that are in memory: made, closed, opened, damaged, and no desk's.
 use crate::audit_files::files_are_imported;
 use crate::commands::{desk_behind, two_entries};
+use crate::desks::Desk;
 use crate::lists::lists_are_written;
 use crate::look_ups::rows_are_found;
-use hotel_scenarios::desks::Desk;
 use hotel_tables::{OpenFault, TableBooks, TableName};
 use sqlite::{Alter, Connection, FileStore, Files, MemStore, Options};
 use sqlite_disk::Memory;

@@ -1,4 +1,5 @@
 pub mod LaterNotes
+pub mod NoteFields
 pub mod NoteParts
 pub mod FitParts
 pub mod NoteReplies

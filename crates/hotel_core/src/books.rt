@@ -1,10 +1,10 @@
 //! The books of the desk, however they are kept.
-ghost use Rattle.std.specs.Prelude.{◌≡◌, ◌-◌, Option, Some, true, false, IsOk, length, not, option_map};
+ghost use Rattle.std.specs.Prelude.{◌≡◌, ◌-◌, Option, Some, true, false, IsOk, is_some, length, not, option_map};
 ghost use Rattle.keycard_rules.specs.Leaves.{Leaves, Rose, told_by};
 ghost use Rattle.keycard_rules.specs.{declared.issued.LookFault.TheVariants.Store};
 ghost use Rattle.hotel_model.specs.{Words.is_one_of, Rows.Rows, Rows.has_kind, Rows.fit_at, Rows.rooms_of_kind};
 ghost use Rattle.hotel_model.specs.Guests.{are_none};
-ghost use Rattle.hotel_core.specs.Books.{Reads.LooksUp, Reads.placed_row, Changes.rows_after};
+ghost use Rattle.hotel_core.specs.Books.{Reads.LooksUp, Reads.is_any, Reads.placed_row, Changes.rows_after};
 ghost use Rattle.hotel_model.specs.Refinement.Lookups.{room_at, codes_in, code_place, code_at, stay_at, stays_of_kind};
 ghost use Rattle.hotel_model.specs.Refinement.Lookups.{card_at, inside_at, note_at, first_full_on};
 ghost use Rattle.hotel_model.specs.Refinement.Lookups.{number_after};
@@ -56,11 +56,12 @@ pub trait Books: Issued {
 
     /// A party's stay; its guest's name is copied.
     fn stay(&mut self, party: PartyNo) -> Result<Option<Stay>, LookFault>
-        ensures { LooksUp Self.Kept true (λ a. a) (stay_at (rows self.old) party) self.old self.new result };
+        ensures { LooksUp Self.Kept (is_some (stay_at (rows self.old) party)) (λ a. a) (stay_at (rows self.old) party)
+            self.old self.new result };
 
     /// The stays of a kind, by the party's number.
     fn stays_of_kind(&mut self, kind: &KindCode) -> Result<Vec<Stay>, LookFault>
-        ensures { LooksUp Self.Kept true (λ v. v.items)
+        ensures { LooksUp Self.Kept (is_any (stays_of_kind (rows self.old) kind.now)) (λ v. v.items)
             (stays_of_kind (rows self.old) kind.now) self.old self.new result };
 
     /// The first night from `arrive` on and before `depart` on which the kind's booked and in-house stays take all its
@@ -84,17 +85,26 @@ pub trait Books: Issued {
 
     /// The numbers of the cards inside a room, in order.
     fn inside(&mut self, room: RoomNo) -> Result<Vec<CardNo>, LookFault>
-        ensures { LooksUp Self.Kept true (λ v. v.items) (inside_at (rows self.old) room) self.old self.new result };
+        ensures { LooksUp Self.Kept (is_any (inside_at (rows self.old) room)) (λ v. v.items)
+            (inside_at (rows self.old) room) self.old self.new result };
 
-    /// Whether a card is inside a room.
+    /// Whether a card is inside a room: by `inside`, unless books know it without a copy.
     fn is_inside(&mut self, room: RoomNo, number: CardNo) -> Result<bool, LookFault>
-        ensures { LooksUp Self.Kept false (λ a. a) (is_one_of number (inside_at (rows self.old) room))
-            self.old self.new result };
+        ensures { LooksUp Self.Kept (is_any (inside_at (rows self.old) room)) (λ a. a)
+            (is_one_of number (inside_at (rows self.old) room)) self.old self.new result }
+    {
+        let numbers = self.inside(room)?;
+        Ok(numbers.contains(&number))
+    }
 
-    /// Whether any card is inside a room.
+    /// Whether any card is inside a room: by `inside`, unless books know it without a copy.
     fn has_inside(&mut self, room: RoomNo) -> Result<bool, LookFault>
-        ensures { LooksUp Self.Kept false (λ a. a) (not (are_none (inside_at (rows self.old) room)))
-            self.old self.new result };
+        ensures { LooksUp Self.Kept (is_any (inside_at (rows self.old) room)) (λ a. a)
+            (not (are_none (inside_at (rows self.old) room))) self.old self.new result }
+    {
+        let numbers = self.inside(room)?;
+        Ok(!numbers.is_empty())
+    }
 
     /// A note that was taken, by its room, lock and count.
     fn note(

@@ -1,5 +1,5 @@
 //! The kinds, each with how many rooms it has.
-ghost use Rattle.std.specs.Prelude.{◌≡◌, ℕ, ◌+◌, ◌-◌, ◌^◌, ◌<◌, List, [], true, false, OnOk, OnErr, bytes_eq};
+ghost use Rattle.std.specs.Prelude.{◌≡◌, ℕ, ◌+◌, ◌-◌, ◌^◌, ◌<◌, List, [], true, false, IsOk, OnOk, OnErr, bytes_eq};
 ghost use Rattle.std.specs.Ordering.{nat_cmp};
 ghost use Rattle.std.specs.Cmp.Lexicographic.{slice_cmp};
 ghost use Rattle.std.specs.BTreeSet.{insert_key};
@@ -75,6 +75,7 @@ impl KindRooms {
         ensures others { (k : List ℕ) → is_there self.old k ≡ true → is_there self.new k ≡ true }
         ensures rooms { (k : List ℕ) → rooms_in self.new k ≡ rooms_in self.old k }
         ensures err { OnErr result (self.new ≡ self.old) }
+        ensures sure { is_there self.old kind ≡ true → IsOk result }
     {
         if self.has(&kind) {
             return Ok(());

@@ -1,6 +1,8 @@
 //! How many stays take each night, found by kind and night.
-ghost use Rattle.std.specs.Prelude.{◌≡◌, ℕ, ◌+◌, ◌-◌, ◌*◌, ◌/◌, ◌^◌, ◌<◌, ◌≤◌, List, [], nat_le, OnOk, OnErr};
-ghost use Rattle.hotel_nights.specs.{Block.one_if, FullNight.first_day, FullNight.is_full, FullNight.takes};
+ghost use Rattle.std.specs.Prelude.{◌≡◌, ℕ, ◌+◌, ◌-◌, ◌*◌, ◌/◌, ◌^◌, ◌<◌, ◌≤◌, List, [], false, nat_le, IsOk};
+ghost use Rattle.std.specs.Prelude.{OnOk, OnErr};
+ghost use Rattle.hotel_nights.specs.Block.{one_if};
+ghost use Rattle.hotel_nights.specs.FullNight.{first_day, is_full, is_standing, takes};
 ghost use Rattle.hotel_nights.specs.{declared.stay.Stay.Stay};
 ghost use Rattle.hotel_core.specs.NightIndex.{counted, spans, CountsNights};
 
@@ -134,6 +136,7 @@ impl NightIndex {
             → counted self.new kind d ≡ counted self.old kind d + one_if (takes kind d stay.now)) }
         ensures err { OnErr result ((kind : List ℕ) (d : ℕ) → counted self.old kind d < 2 ^ 63
             → counted self.new kind d ≡ counted self.old kind d) }
+        ensures sure { is_standing stay.now.state ≡ false → IsOk result }
     {
         if !stay.state.is_standing() {
             return Ok(());

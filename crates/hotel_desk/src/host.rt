@@ -6,14 +6,15 @@ ghost use Rattle.hotel_program.specs.declared.faults.Fault.TheVariants as fault;
 
 use crate::database::open_file;
 use hotel_lists::IoCalls;
-use hotel_program::{Databases, Fault, FileName, SEED_BYTES, Surroundings, audit_file_in, seed_in};
+use hotel_program::{
+    ClockedListener, Databases, Fault, FileName, SEED_BYTES, Surroundings, audit_file_in, seed_in,
+};
 use hotel_tables::{PathDisk, TableBooks, close_file};
 use sqlite::FileStore;
 use std::alloc::Global;
 use std::fs::{self, File};
 use std::marker::PhantomData;
 use std::net::{Ipv4Addr, TcpListener};
-use std::time::{Clock, Duration};
 use std::{env, io};
 
 /// The file of random bytes, from which codes are drawn where no seed file is named.
@@ -53,21 +54,9 @@ impl<D: PathDisk> Host<D> {
     }
 }
 
-impl<D: PathDisk> Clock for Host<D> {
-    fn monotonic(&self) -> io::Result<Duration> {
-        self.rt.monotonic()
-    }
-
-    fn since_1970(&self) -> io::Result<Duration> {
-        self.rt.since_1970()
-    }
-
-    fn sleep(&self, duration: Duration) {
-        self.rt.sleep(duration);
-    }
-}
-
 impl<D: PathDisk> Surroundings for Host<D> {
+    type Port = ClockedListener<HostRuntime>;
+
     ghost seed_read = { λ _ _ _ _. Unit {0} };
 
     ghost file_read = { λ _ _ _ _. Unit {0} };
@@ -94,9 +83,9 @@ impl<D: PathDisk> Surroundings for Host<D> {
         audit_file_in(alloc, &mut file, &mut IoCalls::none())
     }
 
-    fn listen(&mut self, port: u16) -> Result<TcpListener, Fault> {
+    fn listen(&mut self, port: u16) -> Result<ClockedListener<HostRuntime>, Fault> {
         match TcpListener::bind(&self.rt, (Ipv4Addr::LOCALHOST, port)) {
-            Ok(listener) => Ok(listener),
+            Ok(listener) => Ok(ClockedListener::new(listener, self.rt)),
             Err(_) => Err(Fault::Port),
         }
     }
@@ -110,6 +99,8 @@ impl<D: PathDisk> Databases<TableBooks<FileStore<D>>> for Host<D> {
     ghost books_opened = { λ _ _ opened _. IfOk opened (λ b. AreOfOpening D.PathDisk.is_part b.conn)
         × IfErr opened (IsOfFile D.Disk D.PathDisk.is_part) };
 
+    ghost books_closed = { λ _ _ _. Unit {0} };
+
     fn open_books(
         &mut self,
         _alloc: Global,
@@ -118,7 +109,7 @@ impl<D: PathDisk> Databases<TableBooks<FileStore<D>>> for Host<D> {
         open_file(&self.rt, name.as_str())
     }
 
-    fn close_books(&self, books: TableBooks<FileStore<D>>) {
+    fn close_books(&mut self, books: TableBooks<FileStore<D>>) {
         // A close that failed loses nothing: the log keeps what it did not copy, and the next opening finds it there.
         let _ = close_file(books);
     }

@@ -1,7 +1,7 @@
 -- A request that is read in pieces is what the whole input asks for.
 use Rattle.std.proofs.Common.{◌≡◌, ℕ, ◌≤◌, ◌<◌, List, [], ◌++◌, append_assoc, arith, length, take, drop, refl, sym, ap}
 use Rattle.std.proofs.Common.{◌∙◌, subst, inl, inr, Bool, Option, Some, None, IfSome, IfOk, Result, Ok, Err}
-use Rattle.std.specs.Io.KnownBytes.{Consumes, Appends}
+use Rattle.std.specs.Io.KnownBytes.{Consumes, Appends, Keeps}
 use Rattle.std.proofs.KnownBytes.{Appends-nil, Consumes-kept, Consumes-nil, Consumes-trans}
 use Rattle.std.proofs.lemmas.List.{drop-append-le}
 use Rattle.httparse.specs.{Grammar.RequestHead, Spans.IsRequestAt, Spans.IsRequestOf, Spans.IsRequestWithin}
@@ -135,6 +135,12 @@ follows_whole known (Err why) is same lies found says = tt
 -- nothing was read
 pub none_read : (known : Option (List ℕ)) → ReadsWhile WantsMore known known
 none_read known = ([], [], omega arith, Consumes-nil known, inl (inl refl))
+
+-- a head was read, and nothing more
+pub head_kept : (known mid new : Option (List ℕ)) → ReadsWhile WantsHead known mid → Keeps mid new
+    → ReadsWhile WantsHead known new
+head_kept known mid new (before, last, most, taken, wanted) kept =
+    (before, last, most, Consumes-kept known mid new (before ++ last) taken kept, wanted)
 
 -- a head alone was read
 pub head_read : (known mid : Option (List ℕ)) → ReadsWhile WantsHead known mid → ReadsWhile WantsMore known mid

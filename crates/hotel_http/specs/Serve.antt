@@ -12,6 +12,7 @@ use Rattle.hotel_model.specs.declared.reply.Reply.TheVariants as reply
 use Rattle.hotel_model.specs.declared.reply.Refusal.TheVariants as refusal
 use Rattle.hotel_model.specs.Run.{Steps, Runs}
 use Rattle.hotel_lists.specs.{Bytes.AppendsFront, declared.calls.WriteFailed.WriteFailed}
+use Rattle.hotel_lists.specs.Reads.{ReadsWhile}
 use Rattle.hotel_lists.specs.{Faults.told_refusal, Lines.ListFailed, declared.fault.ListFault.ListFault}
 use Rattle.hotel_lists.specs.declared.fault.ListFault.TheVariants as fault
 use Rattle.hotel_lists.specs.Listings.{Listing, in_full}
@@ -34,7 +35,7 @@ use Rattle.hotel_http.specs.declared.requests.RequestFault.TheVariants as unread
 use Rattle.hotel_http.specs.declared.tasks.Task.TheVariants as task
 use Rattle.hotel_http.specs.Answer.{rejection_answer, rejection_status, reply_answer, reply_status, list_answer}
 use Rattle.hotel_http.specs.{AuditAnswer.lines_answer, AuditAnswer.fault_answer, AuditAnswer.import_status}
-use Rattle.hotel_http.specs.{Body.interim_text, Body.interim_where}
+use Rattle.hotel_http.specs.{Body.interim_text, Body.interim_where, Head.WantsHead}
 use Rattle.hotel_http.specs.{Request.Wanted, Request.Requests, Request.IsAwaited, Request.AtMostInterim}
 use Rattle.hotel_http.specs.{Status.number_of}
 
@@ -154,24 +155,29 @@ abbrev pub WasAnswered : Option (List ℕ) → (Wanted → Bool → AnswerEnd �
 WasAnswered known went end = (wanted : Wanted) × (awaited : Bool)
     × IfSome known (λ input. Requests input awaited wanted) × went wanted awaited end
 
+-- The interim answer was cut short: the client awaits it, and nothing was read but for the head.
+abbrev pub InterimCut : Option (List ℕ) → Option (List ℕ) → Option (List ℕ) → Option (List ℕ) → Type 0
+InterimCut known left old new =
+    AppendsFront old new interim_text × IfSome known IsAwaited × ReadsWhile WantsHead known left
+
 -- How a request was served: it was answered; or its answer or the interim one was cut short; or no request was read.
--- Where it wasn't begun, this is the same as before.
-abbrev pub Serves : Option (List ℕ) → Option (List ℕ) → Option (List ℕ) → Type 0 → (Wanted → Bool → AnswerEnd → Type 0)
-    → Result Served ServeFault → Type 0
-Serves known old new same went (Ok served) = WasAnswered known went (Ok served)
-Serves known old new same went (Err (Write acted)) =
+-- Where it wasn't begun, this is the same as before. The reader had what is known, and has what is left of it.
+abbrev pub Serves : Option (List ℕ) → Option (List ℕ) → Option (List ℕ) → Option (List ℕ) → Type 0
+    → (Wanted → Bool → AnswerEnd → Type 0) → Result Served ServeFault → Type 0
+Serves known left old new same went (Ok served) = WasAnswered known went (Ok served)
+Serves known left old new same went (Err (Write acted)) =
     WasAnswered known went (Err (record { acted = acted }))
-    ⊎ (same × (acted ≡ false) × AppendsFront old new interim_text × IfSome known IsAwaited)
-Serves known old new same went (Err Closed) = same × Appends old new [] × IfSome known (λ input. input ≡ [])
-Serves known old new same went (Err Read) = same × AtMostInterim known old new
-Serves known old new same went (Err Memory) = same × AtMostInterim known old new
+    ⊎ (same × (acted ≡ false) × InterimCut known left old new)
+Serves known left old new same went (Err Closed) = same × Appends old new [] × IfSome known (λ input. input ≡ [])
+Serves known left old new same went (Err Read) = same × AtMostInterim known old new
+Serves known left old new same went (Err Memory) = same × AtMostInterim known old new
 
 -- A request was served over these books, with codes from this source. The answer's bytes are those that the writer's
 -- contents grew by.
 abbrev pub ServesOver : {B R : Type 0} → KeptOf B → (B → Rows) → (R → Stream) → Option (List ℕ) → Option (List ℕ)
-    → Option (List ℕ) → B × R → B × R → Result Served ServeFault → Type 0
-ServesOver K rows stream known old new before after =
-    Serves known old new ((after.0 ≡ before.0) × (after.1 ≡ before.1))
+    → Option (List ℕ) → Option (List ℕ) → B × R → B × R → Result Served ServeFault → Type 0
+ServesOver K rows stream known left old new before after =
+    Serves known left old new ((after.0 ≡ before.0) × (after.1 ≡ before.1))
     (λ wanted awaited end. HappensBy K rows before.0 (Answered (Comes wanted) (stream before.1) (stream after.1)
     (interim_where awaited) old new end) after.0)
 

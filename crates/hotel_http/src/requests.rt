@@ -1,13 +1,14 @@
 //! What a request asks for: its head, then its body, each checked in turn.
 
 ghost use Rattle.std.specs.Prelude.{◌≡◌, ◌++◌, ◌≤◌, true, length, map, take, drop, IfOk, IfSome, Err, IsUtf8};
+ghost use Rattle.std.specs.Io.KnownBytes.{Keeps};
 ghost use Rattle.httparse.specs.{Grammar.RequestHead, Spans.IsRequestWithin, Spans.IsRequestAt, Spans.name_and_value};
 ghost use Rattle.httparse.specs.Spans.{span_bytes};
 ghost use Rattle.hotel_lists.specs.Calls.{CountsCalls, OnErrOf};
 ghost use Rattle.hotel_lists.specs.Reads.{ReadsWhile};
 ghost use Rattle.hotel_http.specs.{Body.ReadsBody, Plan.plan_in, Request.request_fault_of, Request.IsMeant};
 ghost use Rattle.hotel_http.specs.{Request.EndsBody, Request.wanted_of, Request.EndsHead, Request.EndsRequest};
-ghost use Rattle.hotel_http.specs.{Fields.framing, Request.is_some_body};
+ghost use Rattle.hotel_http.specs.{Fields.framing, Head.WantsHead, Request.is_some_body};
 ghost use Rattle.hotel_http.specs.Request.{MayFollow, ReadsBehind, WantsMore, may_follow};
 ghost use Rattle.hotel_http.specs.declared.head.TheConstants.{HEAD_BYTES};
 ghost use Rattle.hotel_http.specs.declared.requests.RequestFault.TheVariants.{Write, Read};
@@ -155,6 +156,7 @@ fn read_planned<R: Read, W: Write>(
         (W.contents writer.new) result }
     ensures follows { IfOk result (λ got. got.follows ≡ plan.ignored) }
     ensures wanted { ReadsBody begun.now plan.size (R.remaining reader.old) (R.remaining reader.new) }
+    ensures before { OnErrOf result Write (Keeps (R.remaining reader.old) (R.remaining reader.new)) }
     ensures calls { CountsCalls calls.old calls.new (OnErrOf result Read) (OnErrOf result Write) }
 {
     write_interim(writer, plan.awaited, calls)?;
@@ -192,6 +194,7 @@ fn read_behind_head<R: Read, W: Write>(
         → IfOk result (λ got. got.follows ≡ may_follow head) }
     ensures wanted { (head : RequestHead) → IsRequestAt (take HEAD_BYTES bytes.now) headers.now spans.now head
         → ReadsBehind head spans.now.len bytes.now (R.remaining reader.old) (R.remaining reader.new) }
+    ensures before { OnErrOf result Write (Keeps (R.remaining reader.old) (R.remaining reader.new)) }
     ensures calls { CountsCalls calls.old calls.new (OnErrOf result Read) (OnErrOf result Write) }
 {
     let front = head_part(bytes);
@@ -217,6 +220,7 @@ pub fn read_request<R: Read, W: Write>(
     ensures ends { EndsRequest (R.remaining reader.old) (W.contents writer.old) (W.contents writer.new) result }
     ensures follows { IfOk result (λ got. IfSome (R.remaining reader.old) (λ input. MayFollow input got.follows)) }
     ensures wanted { ReadsWhile WantsMore (R.remaining reader.old) (R.remaining reader.new) }
+    ensures before { OnErrOf result Write (ReadsWhile WantsHead (R.remaining reader.old) (R.remaining reader.new)) }
     ensures calls { CountsCalls calls.old calls.new (OnErrOf result Read) (OnErrOf result Write) }
 {
     let mut bytes = Vec::new(alloc);

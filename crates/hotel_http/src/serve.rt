@@ -276,8 +276,9 @@ pub fn serve_by<I: Read, W: Write, B: Walks, R: Rng>(
     source: &mut R,
     calls: &mut IoCalls,
 ) -> Result<Exchange, ServeFault>
-    ensures serves { ServesOver B.Kept B.rows R.stream (I.remaining reader.old) (W.contents writer.old)
-        (W.contents writer.new) (books.old, source.old) (books.new, source.new) (served_in result) }
+    ensures serves { ServesOver B.Kept B.rows R.stream (I.remaining reader.old) (I.remaining reader.new)
+        (W.contents writer.old) (W.contents writer.new)
+        (books.old, source.old) (books.new, source.new) (served_in result) }
     ensures follows { IfOk result (λ done. IfSome (I.remaining reader.old) (λ input. MayFollow input done.follows)) }
     ensures wanted { ReadsWhile WantsMore (I.remaining reader.old) (I.remaining reader.new) }
     ensures calls { CountsCalls calls.old calls.new (OnErrOf result Read) (IfUnwritten (served_in result)) }
@@ -309,8 +310,8 @@ pub fn serve_one<I: Read, W: Write, B: Walks, R: Rng>(
     books: &mut B,
     source: &mut R,
 ) -> Result<Served, ServeFault>
-    ensures serves { ServesOver B.Kept B.rows R.stream (I.remaining reader.old) (W.contents writer.old)
-        (W.contents writer.new) (books.old, source.old) (books.new, source.new) result }
+    ensures serves { ServesOver B.Kept B.rows R.stream (I.remaining reader.old) (I.remaining reader.new)
+        (W.contents writer.old) (W.contents writer.new) (books.old, source.old) (books.new, source.new) result }
     ensures wanted { ReadsWhile WantsMore (I.remaining reader.old) (I.remaining reader.new) }
 {
     let Ok(routes) = make_routes(alloc) else {

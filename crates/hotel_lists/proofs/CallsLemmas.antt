@@ -1,6 +1,9 @@
 -- Calls that are made one after the other.
 use Rattle.std.proofs.Common.{◌≡◌, ◌+◌, ◌&&◌, ◌++◌, ◌∙◌, true, [], ◌∷◌, Option, Some, None, Result, Ok, Err}
-use Rattle.std.proofs.Common.{is_some, length, inl, inr, append_assoc, refl, ap, sym, arith}
+use Rattle.std.proofs.Common.{ℕ, ◌-◌, ◌<◌, ◌≤◌, List, is_some, length, inl, inr, append_assoc, refl, ap, sym, arith}
+use Rattle.std.specs.IoError.{error_kind}
+use Rattle.std.specs.declared.io.Error.{Error}
+use Rattle.std.specs.declared.io.ErrorKind.TheVariants.{Interrupted}
 use Rattle.std.specs.Prelude.{is_none}
 use Rattle.std.specs.List.{list_all}
 use Rattle.std.proofs.lemmas.List.{length-append}
@@ -9,11 +12,13 @@ use Rattle.keycard_rules.specs.declared.issued.LookFault.{LookFault}
 use Rattle.keycard_rules.specs.declared.issued.LookFault.TheVariants as look
 use Rattle.keycard_rules.specs.{declared.kept.Kept.Ghosts as KeptOf, Calls.LastCallFailed, Calls.NoCallFailed}
 use Rattle.keycard_rules.specs.{Calls.Told, Calls.all_answer, Calls.last_answers}
-use Rattle.keycard_rules.proofs.CallsTogether.{together}
+use Rattle.keycard_rules.specs.Calls.{Passes}
+use Rattle.keycard_rules.proofs.CallsTogether.{passes_push, together}
 use Rattle.hotel_core.proofs.Names.{RoomRow, false≢true}
 use Rattle.hotel_lists.specs.{Lines.FindsRoom, Lines.ListTold, Lines.LooksAt, declared.fault.ListFault.ListFault}
 use Rattle.hotel_lists.specs.declared.fault.ListFault.TheVariants as fault
-use Rattle.hotel_lists.specs.Calls.{Calls, NoneForgotten}
+use Rattle.hotel_lists.specs.{Asked.Interrupts, Calls.Calls, Calls.NoneForgotten}
+use Rattle.hotel_lists.specs.declared.calls.TheConstants.{LAST_INTERRUPTION}
 
 pub none_forgotten : (c : Calls) → NoneForgotten c c
 none_forgotten c = record { interrupted = omega arith; read_failed = λ e. e; write_failed = λ e. e }
@@ -24,6 +29,20 @@ then_none_forgotten a b c h k = record {
   read_failed = λ e. k.read_failed (h.read_failed e);
   write_failed = λ e. k.write_failed (h.write_failed e);
 }
+
+-- a call that is made again was interrupted, and is counted
+pub asked_again : {S : Type 0} (called : S → Result ℕ Error → S → Type 0) (old mid new : S) (whys : List Error)
+    (why : Error) (before now then : ℕ) → Passes (Interrupts called) old whys mid → called mid (Err why) new
+    → error_kind why ≡ Interrupted → now ≡ before + length whys → then ≡ now + 1 → then < LAST_INTERRUPTION
+    → (more : List Error) × Passes (Interrupts called) old more new × (then ≡ before + length more)
+    × (length more ≤ (LAST_INTERRUPTION - 1) - before)
+asked_again called old mid new whys why before now then again asked is counted next few =
+    let long : length (whys ++ why ∷ []) ≡ length whys + 1 = length-append whys (why ∷ []) in (
+      whys ++ why ∷ [],
+      passes_push (Interrupts called) old whys again (asked, is),
+      omega (arith, long),
+      omega (arith, long),
+    )
 
 -- answered calls, and others behind them
 all_both : (told later : Told) → all_answer told ≡ true → all_answer later ≡ true → all_answer (told ++ later) ≡ true

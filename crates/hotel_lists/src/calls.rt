@@ -2,10 +2,14 @@
 
 ghost use Rattle.std.specs.Prelude.{◌≡◌, ◌+◌, ◌↔◌, ◌<◌, ◌≤◌, true, false, IsTrue, length, take, IfOk, OnErr};
 ghost use Rattle.std.specs.Io.KnownBytes.{Appends, Consumes, IsAtEnd, Keeps};
+ghost use Rattle.std.specs.Io.{ReadsAtMost, WritesAtMost};
+ghost use Rattle.std.specs.Io.KnownBytes.{ReadConsumes, WriteAppends};
+ghost use Rattle.std.specs.IoError.{error_kind};
 ghost use Rattle.hotel_lists.specs.Calls.{NoneForgotten, CountsReads, CountsWrites};
+ghost use Rattle.hotel_lists.specs.Asked.{Asks, ReadAnswers, WriteAnswers};
 ghost use Rattle.hotel_lists.specs.declared.calls.TheConstants.{LAST_INTERRUPTION};
 
-use std::io::{ErrorKind, Read, Write};
+use std::io::{self, ErrorKind, Read, Write};
 use std::marker::Model;
 
 /// The interrupted reads and writes of one public call together: the one of this number is a fault.
@@ -51,7 +55,9 @@ impl IoCalls {
     /// Counts an interrupted call, and says whether it is the last one.
     fn is_last(&mut self) -> bool
         ensures last { IsTrue result ↔ (LAST_INTERRUPTION ≤ self.old.interrupted + 1) }
-        ensures counted { result ≡ false → self.new.interrupted ≡ self.old.interrupted + 1 }
+        ensures counted { result ≡ false → (self.new.interrupted ≡ self.old.interrupted + 1)
+            × (self.new.interrupted < LAST_INTERRUPTION) }
+        ensures given_up { result ≡ true → self.new.interrupted ≡ LAST_INTERRUPTION }
         ensures calls { NoneForgotten self.old self.new }
     {
         if self.interrupted >= LAST_INTERRUPTION - 1 {
@@ -64,6 +70,7 @@ impl IoCalls {
 
     fn fail_read(&mut self)
         ensures failed { self.new.read_failed ≡ true }
+        ensures same { self.new.interrupted ≡ self.old.interrupted }
         ensures calls { NoneForgotten self.old self.new }
     {
         self.read_failed = true;
@@ -71,9 +78,88 @@ impl IoCalls {
 
     fn fail_write(&mut self)
         ensures failed { self.new.write_failed ≡ true }
+        ensures same { self.new.interrupted ≡ self.old.interrupted }
         ensures calls { NoneForgotten self.old self.new }
     {
         self.write_failed = true;
+    }
+}
+
+/// What is read, and what shows of each read. Of a reader a clause knows its bytes alone, and so not how often it was
+/// asked, or what of: this trait says it of any that shows it.
+pub(crate) trait ReadOnce {
+    ghost use Rattle.std.specs.Prelude.{ℕ, List, Option, Result};
+    ghost use Rattle.std.specs.declared.io.Error.{Error};
+
+    /// The bytes that reads will give, where they are known.
+    ghost remaining: { Self → Option (List ℕ) };
+
+    /// The states that may follow one after a read that ended so.
+    ghost was_read: { Self → Result ℕ Error → Self → Type 0 };
+
+    fn read_once(&mut self, room: &mut [u8]) -> io::Result<usize>
+        ensures bound { ReadsAtMost result room.new }
+        ensures bytes { ReadConsumes (remaining self.old) (remaining self.new) result room.new }
+        ensures read { was_read self.old result self.new };
+}
+
+impl<R: Read> ReadOnce for R {
+    ghost remaining = { λ reader. R.remaining reader };
+
+    ghost was_read = { λ _ _ _. Unit {0} };
+
+    fn read_once(&mut self, room: &mut [u8]) -> io::Result<usize> {
+        self.read(room)
+    }
+}
+
+/// The same of what is written to.
+pub(crate) trait WriteOnce {
+    ghost use Rattle.std.specs.Prelude.{ℕ, List, Option, Result};
+    ghost use Rattle.std.specs.declared.io.Error.{Error};
+
+    /// The bytes that were written, where they are known.
+    ghost contents: { Self → Option (List ℕ) };
+
+    /// The states that may follow one after a write of these bytes that ended so.
+    ghost was_written: { Self → List ℕ → Result ℕ Error → Self → Type 0 };
+
+    /// The states that may follow one after a flush that ended so.
+    ghost was_flushed: { Self → Result (Unit {0}) Error → Self → Type 0 };
+
+    fn write_once(&mut self, bytes: &[u8]) -> io::Result<usize>
+        ensures bound { WritesAtMost result bytes.now }
+        ensures bytes { WriteAppends (contents self.old) (contents self.new) result bytes.now }
+        ensures written { was_written self.old bytes.now result self.new };
+
+    fn flush_once(&mut self) -> io::Result<()>
+        ensures bytes { Keeps (contents self.old) (contents self.new) }
+        ensures flushed { was_flushed self.old result self.new };
+}
+
+impl<W: Write> WriteOnce for W {
+    ghost contents = { λ writer. W.contents writer };
+
+    ghost was_written = { λ _ _ _ _. Unit {0} };
+
+    ghost was_flushed = { λ _ _ _. Unit {0} };
+
+    fn write_once(&mut self, bytes: &[u8]) -> io::Result<usize> {
+        self.write(bytes)
+    }
+
+    fn flush_once(&mut self) -> io::Result<()> {
+        self.flush()
+    }
+}
+
+/// Whether a call was interrupted.
+fn is_interrupted(why: &io::Error) -> bool
+    ensures { IsTrue result ↔ (error_kind why.now ≡ ErrorKind.Interrupted) }
+{
+    match why.kind() {
+        ErrorKind::Interrupted => true,
+        _ => false,
     }
 }
 
@@ -86,7 +172,7 @@ pub struct ReadFailed;
 pub struct WriteFailed;
 
 /// One read, made again while it is interrupted.
-pub(crate) fn read_some<R: Read>(
+pub(crate) fn read_some<R: ReadOnce>(
     reader: &mut R,
     room: &mut [u8],
     calls: &mut IoCalls,
@@ -95,13 +181,15 @@ pub(crate) fn read_some<R: Read>(
     ensures ok { IfOk result (λ n. Consumes (R.remaining reader.old) (R.remaining reader.new) (take n room.new)) }
     ensures end { IfOk result (λ n. n ≡ 0 → 0 < length room.new → IsAtEnd (R.remaining reader.new)) }
     ensures err { OnErr result (Keeps (R.remaining reader.old) (R.remaining reader.new)) }
+    ensures asks { Asks R.was_read reader.old calls.old.interrupted (ReadAnswers result) reader.new
+        calls.new.interrupted }
     ensures calls { CountsReads calls.old calls.new (OnErr result) }
 {
     loop {
-        match reader.read(room) {
+        match reader.read_once(room) {
             Ok(n) => return Ok(n),
-            Err(e) => {
-                if e.kind() != ErrorKind::Interrupted || calls.is_last() {
+            Err(why) => {
+                if !is_interrupted(&why) || calls.is_last() {
                     calls.fail_read();
                     return Err(ReadFailed);
                 }
@@ -111,7 +199,7 @@ pub(crate) fn read_some<R: Read>(
 }
 
 /// One write of some of the bytes, made again while it is interrupted. It fails where it takes no byte.
-pub(crate) fn write_some<W: Write>(
+pub(crate) fn write_some<W: WriteOnce>(
     writer: &mut W,
     bytes: &[u8],
     calls: &mut IoCalls,
@@ -120,17 +208,19 @@ pub(crate) fn write_some<W: Write>(
     ensures bound { IfOk result (λ n. n ≤ length bytes.now) }
     ensures ok { IfOk result (λ n. Appends (W.contents writer.old) (W.contents writer.new) (take n bytes.now)) }
     ensures err { OnErr result (Keeps (W.contents writer.old) (W.contents writer.new)) }
+    ensures asks { Asks (λ old got new. W.was_written old bytes.now got new) writer.old calls.old.interrupted
+        (WriteAnswers result) writer.new calls.new.interrupted }
     ensures calls { CountsWrites calls.old calls.new (OnErr result) }
 {
     loop {
-        match writer.write(bytes) {
+        match writer.write_once(bytes) {
             Ok(0) => {
                 calls.fail_write();
                 return Err(WriteFailed);
             }
             Ok(n) => return Ok(n),
-            Err(e) => {
-                if e.kind() != ErrorKind::Interrupted || calls.is_last() {
+            Err(why) => {
+                if !is_interrupted(&why) || calls.is_last() {
                     calls.fail_write();
                     return Err(WriteFailed);
                 }

@@ -6,6 +6,7 @@
 //! - src: line, lines, gathered, listing, lists, write_lists; Lines, Gathered, LineSink, Listings: the line of each
 //!   row, by `csv`'s row text; what a list wrote, and which faults its calls reported, by how it ended.
 //! - src: fault; Faults: the refusal that a list's fault is answered by.
+//! - src: test_streams; TestStreams: readers and writers for tests, of which a call goes wrong.
 #![tactic(auto)]
 
 mod bytes;
@@ -16,6 +17,7 @@ mod line;
 mod lines;
 mod listing;
 mod lists;
+mod test_streams;
 mod write_lists;
 
 pub use bytes::{
@@ -24,6 +26,9 @@ pub use bytes::{
 pub use calls::{IoCalls, LAST_INTERRUPTION, ReadFailed, WriteFailed};
 pub use fault::ListFault;
 pub use lists::{arrivals, audit_of, chain_of, in_house, left_behind};
+pub use test_streams::{
+    FailingReader, FailingWriter, FullWriter, InterruptedReader, InterruptedWriter,
+};
 pub use write_lists::{
     write_arrivals, write_audit_of, write_chain_of, write_in_house, write_left_behind,
 };

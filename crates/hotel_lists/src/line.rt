@@ -124,9 +124,9 @@ fn note_fields(
     let new = new.print();
     let at = Moment::of(note).print();
     lines.push(&[
-        room.format(note.room().value()).as_bytes(),
-        fit.format(note.fit().value()).as_bytes(),
-        count.format(note.count().value()).as_bytes(),
+        room.format(note.room.value()).as_bytes(),
+        fit.format(note.fit.value()).as_bytes(),
+        count.format(note.count.value()).as_bytes(),
         kind,
         card,
         old.as_slice(),
@@ -140,7 +140,7 @@ impl Line for LockNote {
 
     fn line(&self, lines: &mut Gathered) -> Result<(), Memory> {
         let mut buffer = itoa::Buffer::new();
-        match self.act() {
+        match self.act {
             Act::Entered { card, link } => {
                 let card = buffer.format(card.value()).as_bytes();
                 note_fields(lines, self, b"in", card, link.old_code, link.new_code)

@@ -1,7 +1,7 @@
 //! The five lists: which rows each has, and the walk that hands them over.
-ghost use Rattle.std.specs.Prelude.{List, Bool, true, false};
+ghost use Rattle.std.specs.Prelude.{List, Bool, false};
 ghost use Rattle.hotel_model.specs.Rows.{Rows};
-ghost use Rattle.hotel_core.specs.Books.Walks.{WalksOver};
+ghost use Rattle.hotel_core.specs.{Books.Reads.is_any, Books.Walks.WalksOver};
 ghost use Rattle.hotel_model.specs.Refinement.ListsOnRows.{arrivals_on, in_house_on, chain_on, left_behind_on};
 ghost use Rattle.hotel_model.specs.Rows.{notes_at};
 
@@ -17,12 +17,12 @@ pub(crate) trait Listing<B: Walks> {
     /// Its rows, where these are the rows of the books.
     ghost rows: { Self → Rows → List Self.Row };
 
-    /// Whether its walk takes memory.
-    ghost takes_memory: { Bool };
+    /// Whether its walk takes memory, where these are the rows of the books.
+    ghost takes_memory: { Rows → Bool };
 
     /// Walks over its rows.
     fn walk<S: Sink<Self::Row>>(&self, books: &mut B, sink: &mut S) -> Result<(), WalkFault>
-        ensures { WalksOver B.Kept takes_memory S.after S.after_stop
+        ensures { WalksOver B.Kept (takes_memory (B.rows books.old)) S.after S.after_stop
             (rows self.now (B.rows books.old)) books.old books.new sink.old sink.new result };
 }
 
@@ -35,7 +35,7 @@ impl<B: Walks> Listing<B> for Arrivals {
 
     ghost rows = { λ list rows. arrivals_on rows list.0 };
 
-    ghost takes_memory = { false };
+    ghost takes_memory = { λ _. false };
 
     fn walk<S: Sink<Stay>>(&self, books: &mut B, sink: &mut S) -> Result<(), WalkFault> {
         books.walk_arrivals(self.0, sink)
@@ -51,7 +51,7 @@ impl<B: Walks> Listing<B> for InHouse {
 
     ghost rows = { λ _ rows. in_house_on rows };
 
-    ghost takes_memory = { true };
+    ghost takes_memory = { λ rows. is_any (in_house_on rows) };
 
     fn walk<S: Sink<HouseRow>>(&self, books: &mut B, sink: &mut S) -> Result<(), WalkFault> {
         books.walk_in_house(sink)
@@ -67,7 +67,7 @@ impl<B: Walks> Listing<B> for ChainOf {
 
     ghost rows = { λ list rows. chain_on rows list.0 };
 
-    ghost takes_memory = { false };
+    ghost takes_memory = { λ _. false };
 
     fn walk<S: Sink<ChainRow>>(&self, books: &mut B, sink: &mut S) -> Result<(), WalkFault> {
         books.walk_chain(self.0, sink)
@@ -83,7 +83,7 @@ impl<B: Walks> Listing<B> for LeftBehind {
 
     ghost rows = { λ _ rows. left_behind_on rows };
 
-    ghost takes_memory = { false };
+    ghost takes_memory = { λ _. false };
 
     fn walk<S: Sink<BehindRow>>(&self, books: &mut B, sink: &mut S) -> Result<(), WalkFault> {
         books.walk_left_behind(sink)
@@ -99,7 +99,7 @@ impl<B: Walks> Listing<B> for AuditOf {
 
     ghost rows = { λ list rows. notes_at rows.notes list.0 };
 
-    ghost takes_memory = { false };
+    ghost takes_memory = { λ _. false };
 
     fn walk<S: Sink<LockNote>>(&self, books: &mut B, sink: &mut S) -> Result<(), WalkFault> {
         books.walk_audit(self.0, sink)

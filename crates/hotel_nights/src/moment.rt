@@ -12,11 +12,12 @@ use std::marker::Model;
 /// A second of a day, in no time zone: each day has 86,400.
 ///
 /// Contracts see a moment as the pair of its day's number and its second, 0 to `LAST_SECOND`.
-/// Moments are ordered by the day, and on one day by the second.
+/// Moments are ordered by the day, and on one day by the second. Whoever sets the second keeps it in this range.
 #[derive(Clone, Copy, PartialEq, Eq, PartialOrd, Ord, Hash, Debug)]
 pub struct Moment {
-    day: Day,
-    second: u32,
+    pub day: Day,
+    /// The second of the day, 0 to `LAST_SECOND`.
+    pub second: u32,
 }
 
 impl Model for Moment {
@@ -71,38 +72,25 @@ impl Moment {
     pub fn of(note: &LockNote) -> Moment
         ensures { result ≡ moment_of note.now }
     {
-        let Some(day) = Day::new(note.day()) else {
+        let Some(day) = Day::new(note.day) else {
             unreachable!()
         };
-        Moment {
-            day,
-            second: note.second(),
-        }
+        let second = note.second;
+        Moment { day, second }
     }
 
     /// What a room's lock notes at this moment.
     pub fn note(self, room: RoomNo, fit: FitNo, count: Count, act: Act) -> LockNote
         ensures { result ≡ note_from room fit count act self }
     {
-        match LockNote::new(room, fit, count, act, self.day.number(), self.second) {
-            Some(note) => note,
-            None => unreachable!(),
+        LockNote {
+            room,
+            fit,
+            count,
+            act,
+            day: self.day.number(),
+            second: self.second,
         }
-    }
-
-    /// The day.
-    pub fn day(&self) -> Day
-        ensures { result ≡ self.now.0 }
-    {
-        self.day
-    }
-
-    /// The second of the day, 0 to `LAST_SECOND`.
-    pub fn second(&self) -> u32
-        ensures same { result ≡ self.now.1 }
-        ensures known { result ≤ LAST_SECOND }
-    {
-        self.second
     }
 
     /// Reads `YYYY-MM-DDTHH:MM:SS`, 19 bytes, where one space may stand for the `T`: a date as `Day::read` takes it,

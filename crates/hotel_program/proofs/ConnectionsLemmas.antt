@@ -1,6 +1,7 @@
 -- Connections, one more at a time.
 use Rattle.std.proofs.Common.{◌≡◌, ℕ, Bool, List, [], ◌∷◌, ◌++◌, refl, sym, ap, subst}
-use Rattle.std.proofs.Common.{Option, Some, Result, Ok, Err, inl, inr}
+use Rattle.std.proofs.Common.{Option, Some, None, Result, Ok, Err, true, false, inl, inr}
+use Rattle.std.specs.declared.io.Error.{Error}
 use Rattle.std.proofs.lemmas.Grind.{flat_map-append}
 use Rattle.rand_core.specs.Stream.{Stream}
 use Rattle.keycard_rules.specs.{declared.kept.Kept.Ghosts as KeptOf, Leaves.Leaves, Calls.Passes}
@@ -14,9 +15,12 @@ use Rattle.hotel_http.specs.Serve.{Answered, Comes, Serves}
 use Rattle.hotel_http.specs.declared.serve.Served.{Served}
 use Rattle.hotel_http.specs.declared.serve.ServeFault.{ServeFault}
 use Rattle.hotel_http.specs.declared.serve.ServeFault.TheVariants.{Closed, Read, Memory, Write}
-use Rattle.hotel_http.specs.{Body.interim_where, Serve.ServesOver}
+use Rattle.hotel_http.specs.{Body.interim_where, Serve.ServesOver, Serve.served_in}
 use Rattle.hotel_program.specs.Faults.{ReportsAll}
-use Rattle.hotel_program.specs.Connections.{AllCame, ConnectionCame, ConnectionEnd, ConnectionHappens, ServersFollow}
+use Rattle.hotel_program.specs.Connections.{AllCame, AskedEnds, ConnectionCame, ConnectionEnd, ConnectionHappens}
+use Rattle.hotel_program.specs.Connections.{Connects, LimitedEnds, ReadsBehind, ServersFollow, Sockets}
+use Rattle.hotel_program.specs.declared.listener.Link.{Ghosts as LinkOf}
+use Rattle.hotel_program.specs.Timed.{Reads}
 use Rattle.hotel_program.specs.Connections.{connection_end, faults_at, faults_of}
 use Rattle.hotel_program.specs.declared.faults.Fault.{Fault}
 
@@ -40,35 +44,45 @@ module _ {S R : Type 0} (K : KeptOf S) (rows : S → Rows) (stream : R → Strea
   }
 
   -- A request was served: where it wasn't begun, books and source are as they were.
-  pub request_served : (old new : S × R) (before : Bool → List ℕ) (known text text' : Option (List ℕ))
+  pub request_served : (old new : S × R) (before : Bool → List ℕ) (known left text text' : Option (List ℕ))
       (result : Result Served ServeFault)
-      → Serves known text text' ((new.0 ≡ old.0) × (new.1 ≡ old.1))
+      → Serves known left text text' ((new.0 ≡ old.0) × (new.1 ≡ old.1))
       (λ wanted awaited end. HappensBy K rows old.0
       (Answered (Comes wanted) (stream old.1) (stream new.1) (before awaited) text text' end) new.0) result
       → ConnectionHappens K rows stream old (Some result) new
-  request_served old new before known text text' (Ok served) went = record {
+  request_served old new before known left text text' (Ok served) went = record {
     told = went.3.told;
     happened = λ honest. leads_as (λ h h' a. (went.0, a.0, a.1, (a.2.0, a.2.1))) (went.3.happened honest);
     calls = went.3.calls;
   }
-  request_served old new before known text text' (Err (Write acted)) (inl went) = record {
+  request_served old new before known left text text' (Err (Write acted)) (inl went) = record {
     told = went.3.told;
     happened = λ honest. leads_as (λ h h' a. inl (went.0, a.0, a.1, a.2.0)) (went.3.happened honest);
     calls = went.3.calls;
   }
-  request_served old new before known text text' (Err (Write acted)) (inr went) =
+  request_served old new before known left text text' (Err (Write acted)) (inr went) =
       idle_served (Some (Err (Write acted))) old new (λ h s. inr (went.1, (refl, refl, refl))) went.0.0 went.0.1
-  request_served old new before known text text' (Err Closed) went =
+  request_served old new before known left text text' (Err Closed) went =
       idle_served (Some (Err Closed)) old new (λ h s. (refl, refl, refl)) went.0.0 went.0.1
-  request_served old new before known text text' (Err Read) went =
+  request_served old new before known left text text' (Err Read) went =
       idle_served (Some (Err Read)) old new (λ h s. (refl, refl, refl)) went.0.0 went.0.1
-  request_served old new before known text text' (Err Memory) went =
+  request_served old new before known left text text' (Err Memory) went =
       idle_served (Some (Err Memory)) old new (λ h s. (refl, refl, refl)) went.0.0 went.0.1
 
-  pub stream_served : (old new : S × R) (known text text' : Option (List ℕ)) (end : Result Served ServeFault)
-      → ServesOver K rows stream known text text' old new end → ConnectionHappens K rows stream old (Some end) new
-  stream_served old new known text text' end served =
-      request_served old new interim_where known text text' end served
+  pub stream_served : (old new : S × R) (known left text text' : Option (List ℕ)) (end : Result Served ServeFault)
+      → ServesOver K rows stream known left text text' old new end → ConnectionHappens K rows stream old (Some end) new
+  stream_served old new known left text text' end served =
+      request_served old new interim_where known left text text' end served
+
+  -- the same bytes
+  pub same_served : {a a' b b' c c' d d' : Option (List ℕ)} (old new : S × R) (end : Result Served ServeFault)
+      → a ≡ a' → b ≡ b' → c ≡ c' → d ≡ d' → ServesOver K rows stream a b c d old new end
+      → ServesOver K rows stream a' b' c' d' old new end
+  same_served {a = a} {b = b} {b' = b'} {c = c} {c' = c'} {d' = d'} old new end e f g h served =
+      subst (λ (o : Option (List ℕ)). ServesOver K rows stream o b' c' d' old new end) e
+      (subst (λ (o : Option (List ℕ)). ServesOver K rows stream a o c' d' old new end) f
+      (subst (λ (o : Option (List ℕ)). ServesOver K rows stream a b o d' old new end) g
+      (subst (λ (o : Option (List ℕ)). ServesOver K rows stream a b c o old new end) h served)))
 
   -- connections that were served one after the other
   all_went : (old new : S × R) (ends : List ConnectionEnd) → Passes (ConnectionHappens K rows stream) old ends new
@@ -96,6 +110,50 @@ module _ {S R : Type 0} (K : KeptOf S) (rows : S → Rows) (stream : R → Strea
   servers_follow old new ends p =
       let went = all_went old new ends p in
       record { went = went; leaves = together K old.0 new.0 went.told went.calls }
+
+module _ {S R : Type 0} (v : Sockets) (K : KeptOf S) (rows : S → Rows) (words : R → Stream) where
+  -- nothing was asked of the books
+  none_happened : (end : ConnectionEnd) (old new : S × R) → end ≡ None → new.0 ≡ old.0 → new.1 ≡ old.1
+      → ConnectionHappens K rows words old end new
+  none_happened end old new none e f = subst (λ (o : ConnectionEnd). ConnectionHappens K rows words old o new) (sym none)
+      (idle_served K rows words None old new (λ h s. (refl, refl, refl)) e f)
+
+  limited_happened : (stream : v.Stream) (both : Bool) (links links' : v.Link × v.Link) (old new : S × R)
+      (end : ConnectionEnd) → LimitedEnds v.calls K rows words stream both links old end links' new
+      → ConnectionHappens K rows words old end new
+  limited_happened stream true links links' old new end (exchange, is, served) =
+      subst (λ (o : ConnectionEnd). ConnectionHappens K rows words old o new) (sym is)
+      (stream_served K rows words old new _ _ _ _ (served_in exchange) served.serves)
+  limited_happened stream false links links' old new end (none, same, same', e, f) = none_happened end old new none e f
+
+  asked_happened : (got : Result v.Stream Error) (mid listener : v.Listener) (old new : S × R) (end : ConnectionEnd)
+      → AskedEnds v K rows words got mid old end listener new → ConnectionHappens K rows words old end new
+  asked_happened (Ok stream) mid listener old new end ends =
+      limited_happened stream ends.6 ends.7 ends.8 old new end ends.10
+  asked_happened (Err why) mid listener old new end ends = none_happened end old new ends.1 ends.2 ends.3
+
+  -- what came of connections, apart from their listener
+  pub all_happened : (old new : v.Listener × (S × R)) (ends : List ConnectionEnd)
+      → Passes (Connects v K rows words) old ends new → Passes (ConnectionHappens K rows words) old.1 ends new.1
+  all_happened old new [] p = ap (λ (x : v.Listener × (S × R)). x.1) p
+  all_happened old new (end ∷ ends) p = (
+    p.0.1,
+    asked_happened p.1.0 p.1.1 p.0.0 old.1 p.0.1 end p.1.3,
+    all_happened p.0 new ends p.2,
+  )
+
+module _ {S L : Type 0} (calls : LinkOf L S) where
+  -- what was read behind an answer
+  pub lingered_behind : (stream its : S) (follows : Bool) (read : Reads L) (new : L) → its ≡ stream → follows ≡ true
+      → ReadsBehind calls its true read new → ReadsBehind calls stream follows read new
+  lingered_behind stream its follows read new same e lingers =
+      subst (λ (s : S). ReadsBehind calls s follows read new) same
+      (subst (λ (b : Bool). ReadsBehind calls its b read new) (sym e) lingers)
+
+  pub none_behind : (stream : S) (follows : Bool) (read : Reads L) (new : L) → follows ≡ false → new ≡ read.link
+      → ReadsBehind calls stream follows read new
+  none_behind stream follows read new e same =
+      subst (λ (b : Bool). ReadsBehind calls stream b read new) (sym e) same
 
 -- faults and then others
 told_both : {F : Type 0} (told : F → Fault → F → Type 0) (first more : List Fault) (old mid new : F)

@@ -1,9 +1,9 @@
 -- What the program's acts come to over books.
-use Rattle.std.specs.Prelude.{◌≡◌, ℕ, Bool, true, false, List, ◌++◌, codes, length, Option, Result, Ok, Err}
+use Rattle.std.specs.Prelude.{◌≡◌, ℕ, Bool, true, false, List, ◌++◌, codes, Option, Result, Ok, Err}
 use Rattle.std.specs.Fmt.{decimal}
 use Rattle.std.specs.Io.KnownBytes.{Appends}
 use Rattle.rand_core.specs.Stream.{Stream}
-use Rattle.keycard_rules.specs.{declared.kept.Kept.Ghosts as KeptOf, Calls.Passes}
+use Rattle.keycard_rules.specs.declared.kept.Kept.{Ghosts as KeptOf}
 use Rattle.hotel_core.specs.Books.Stepped.{Stepped}
 use Rattle.hotel_model.specs.Rows.{Rows}
 use Rattle.hotel_model.specs.declared.command.Command.{Command}
@@ -17,11 +17,11 @@ use Rattle.hotel_audit.specs.declared.imports.ImportFault.{ImportFault}
 use Rattle.hotel_audit.specs.{AuditFile.audit_lines, Import.Imports}
 use Rattle.hotel_program.specs.Alone.AuditRuns.{audit_end, WritesAnswers}
 use Rattle.hotel_program.specs.Alone.CommandRuns.{command_end, WritesReply}
-use Rattle.hotel_program.specs.Faults.{end_status, Reports, ReportsAll}
+use Rattle.hotel_program.specs.Faults.{end_status, Reports}
 use Rattle.hotel_program.specs.Alone.ListRuns.{AnswerEndsFor, list_end}
 use Rattle.hotel_program.specs.Program.{script_end}
 use Rattle.hotel_program.specs.Script.WholeScript.{ScriptRan}
-use Rattle.hotel_program.specs.Connections.{ConnectionEnd, ConnectionHappens, faults_of}
+use Rattle.hotel_program.specs.Connections.{ServesEach, Sockets}
 use Rattle.hotel_program.specs.declared.command_line.plan.DeskAct.{DeskAct}
 use Rattle.hotel_program.specs.declared.command_line.plan.DeskAct.TheVariants.{One, List as AList, Audit, Script, Serve}
 use Rattle.hotel_program.specs.declared.faults.Fault.{Fault}
@@ -44,20 +44,23 @@ pub record Views (S R W F E : Type 0) : Type 1 where
   pub stream : R → Stream
   pub contents : W → Option (List ℕ)
   pub told : F → Fault → F → Type 0
-  pub bound : E → ℕ → Result (Unit {0}) Fault → E → Type 0
+  pub port : Sockets
+  pub bound : E → ℕ → Result port.Listener Fault → E → Type 0
 
 abbrev pub desk : {S R W F E : Type 0} → S → R → W → F → E → Desk S R W F E
 desk books source writer faults around =
     record { books = books; source = source; writer = writer; faults = faults; around = around }
 
 abbrev pub views : {S R W F E : Type 0} → KeptOf S → (S → Rows) → (R → Stream) → (W → Option (List ℕ))
-    → (F → Fault → F → Type 0) → (E → ℕ → Result (Unit {0}) Fault → E → Type 0) → Views S R W F E
-views kept rows stream contents told bound = record {
+    → (F → Fault → F → Type 0) → (port : Sockets) → (E → ℕ → Result port.Listener Fault → E → Type 0)
+    → Views S R W F E
+views kept rows stream contents told port bound = record {
   kept = kept;
   rows = rows;
   stream = stream;
   contents = contents;
   told = told;
+  port = port;
   bound = bound;
 }
 
@@ -101,36 +104,37 @@ ScriptEnds v known status old new = (end : Result ScriptEnd ScriptFault) × Ends
 abbrev pub listening_text : ℕ → List ℕ
 listening_text port = codes "listening on 127.0.0.1:" ++ decimal port ++ codes "\n"
 
--- Connections were served: this many, each to its end, and the faults of these ends were reported.
-abbrev pub ServesConnections : {S R W F E : Type 0} → Views S R W F E → ℕ → Desk S R W F E → Desk S R W F E → Type 0
-ServesConnections v count old new =
-    (ends : List ConnectionEnd) × (length ends ≡ count) × ReportsAll v.told old.faults (faults_of ends) new.faults
-    × Passes (ConnectionHappens v.kept v.rows v.stream) (old.books, old.source) ends (new.books, new.source)
+-- So many connections of a listener were served, each to its end, and the faults of these ends were reported.
+abbrev pub ServesConnections : {S R W F E : Type 0} → (v : Views S R W F E) → ℕ → v.port.Listener → Desk S R W F E
+    → Desk S R W F E → Type 0
+ServesConnections v count listener old new = ServesEach v.port v.kept v.rows v.stream v.told count listener
+    (old.books, old.source) old.faults (new.books, new.source) new.faults
 
 -- Books and source are as they were.
 abbrev pub Untouched : {S R W F E : Type 0} → Desk S R W F E → Desk S R W F E → Type 0
 Untouched old new = (new.books ≡ old.books) × (new.source ≡ old.source)
 
 -- The line was written and connections were served; or a write of it failed, and none was.
-abbrev pub ListensTo : {S R W F E : Type 0} → Views S R W F E → ℕ → ℕ → Bool → ℕ → Desk S R W F E → Desk S R W F E
-    → Type 0
-ListensTo v port count false status old new = (status ≡ 0)
-    × Appends (v.contents old.writer) (v.contents new.writer) (listening_text port) × ServesConnections v count old new
-ListensTo v port count true status old new = EndsBy v (Err fault.Write) status old new
+abbrev pub ListensTo : {S R W F E : Type 0} → (v : Views S R W F E) → ℕ → ℕ → v.port.Listener → Bool → ℕ
+    → Desk S R W F E → Desk S R W F E → Type 0
+ListensTo v port count listener false status old new = (status ≡ 0)
+    × Appends (v.contents old.writer) (v.contents new.writer) (listening_text port)
+    × ServesConnections v count listener old new
+ListensTo v port count listener true status old new = EndsBy v (Err fault.Write) status old new
     × AppendsFront (v.contents old.writer) (v.contents new.writer) (listening_text port) × Untouched old new
 
--- What comes of a port that was asked for.
-abbrev pub PortEnds : {S R W F E : Type 0} → Views S R W F E → ℕ → ℕ → Result (Unit {0}) Fault → ℕ → Desk S R W F E
-    → Desk S R W F E → Type 0
-PortEnds v port count (Ok done) status old new =
-    (write_failed : Bool) × ListensTo v port count write_failed status old new
+-- What comes of a port that was asked for: a listener, or why there is none.
+abbrev pub PortEnds : {S R W F E : Type 0} → (v : Views S R W F E) → ℕ → ℕ → Result v.port.Listener Fault → ℕ
+    → Desk S R W F E → Desk S R W F E → Type 0
+PortEnds v port count (Ok listener) status old new =
+    (write_failed : Bool) × ListensTo v port count listener write_failed status old new
 PortEnds v port count (Err why) status old new =
     EndsBy v (Err why) status old new × Untouched old new × (new.writer ≡ old.writer)
 
 -- Connections on a port.
 abbrev pub ServeEnds : {S R W F E : Type 0} → Views S R W F E → ℕ → ℕ → ℕ → Desk S R W F E → Desk S R W F E → Type 0
-ServeEnds v port count status old new = (port_is : Result (Unit {0}) Fault) × v.bound old.around port port_is new.around
-    × PortEnds v port count port_is status old new
+ServeEnds v port count status old new = (got : Result v.port.Listener Fault) × v.bound old.around port got new.around
+    × PortEnds v port count got status old new
 
 -- An act, with the bytes of its audit file, and what is known of the script.
 abbrev pub ActEnds : {S R W F E : Type 0} → Views S R W F E → Option (List ℕ) → List ℕ → DeskAct → ℕ → Desk S R W F E

@@ -1,5 +1,6 @@
 -- Connections that are answered one after the other.
-use Rattle.std.specs.Prelude.{◌≡◌, ◌⊎◌, ℕ, false, List, [], ◌∷◌, ◌++◌, Option, Some, None, Result, Ok, Err}
+use Rattle.std.specs.Prelude.{◌≡◌, ◌⊎◌, ℕ, Bool, true, false, List, [], ◌∷◌, ◌++◌, length, Option, Some, None, Result, Ok}
+use Rattle.std.specs.Prelude.{Err, IfOk, IfSome}
 use Rattle.std.specs.List.{flat_map}
 use Rattle.std.specs.declared.io.Error.{Error}
 use Rattle.rand_core.specs.Stream.{Stream}
@@ -12,12 +13,18 @@ use Rattle.hotel_http.specs.declared.serve.ServeFault.TheVariants as serve
 use Rattle.hotel_http.specs.Request.{Wanted}
 use Rattle.keycard_rules.specs.Calls.{Told}
 use Rattle.hotel_core.specs.Books.Happens.{HappensBy}
-use Rattle.hotel_http.specs.Serve.{Comes, FullAnswer}
-use Rattle.hotel_program.specs.Timed.{SecondSet}
+use Rattle.hotel_lists.specs.Reads.{ReadsWhile}
+use Rattle.hotel_http.specs.Request.{MayFollow, WantsMore}
+use Rattle.hotel_http.specs.Serve.{Comes, FullAnswer, ServesOver, served_in}
+use Rattle.hotel_http.specs.declared.serve.Exchange.{Exchange}
+use Rattle.hotel_program.specs.declared.listener.Link.{Ghosts as LinkOf}
+use Rattle.hotel_program.specs.declared.listener.Listener.{Ghosts as ListenerOf}
+use Rattle.hotel_program.specs.Timed.{AreRead, AreWritten, LingersOn, Reading, Reads, ReadsRest, SecondSet, Writing}
 use Rattle.hotel_program.specs.declared.connections.TheConstants.{PAUSE}
 use Rattle.hotel_program.specs.declared.timed.TheConstants.{PATIENCE}
 use Rattle.hotel_program.specs.declared.faults.Fault.{Fault}
 use Rattle.hotel_program.specs.declared.faults.Fault.TheVariants.{Closed, Read, Memory, Write}
+use Rattle.hotel_program.specs.Faults.{ReportsAll}
 
 -- How a connection ended: as its request was served; or it couldn't be taken, and nothing was read.
 abbrev pub ConnectionEnd : Type 0
@@ -61,26 +68,87 @@ abbrev pub ServersFollow : {S R : Type 0} → KeptOf S → (S → Rows) → (R �
 ServersFollow {S = S} {R = R} K rows stream = (old new : S × R) (ends : List ConnectionEnd)
     → Passes (ConnectionHappens K rows stream) old ends new → ServesAll K rows stream old ends new
 
--- Behind a connection that was taken nothing was waited for, and where it wasn't served, one of its limits wasn't set;
--- behind one that couldn't be taken `PAUSE` was waited for, and nothing was served.
-abbrev pub TakenOrWaited : {L : Type 0} → (L → ℕ → L → Type 0) → Type 0 → Result (Unit {0}) Error → L → ConnectionEnd
-    → L → Type 0
-TakenOrWaited waited unlimited (Ok taken) mid end new = (new ≡ mid) × (end ≡ None → unlimited)
-TakenOrWaited waited unlimited (Err why) mid end new = (end ≡ None) × waited mid PAUSE new
+-- What contracts see of a listener: the types of its connections and links, and what is asked of it and of these.
+pub record Sockets : Type 1 where
+  pub Listener : Type 0
+  pub Stream : Type 0
+  pub Link : Type 0
+  pub listens : ListenerOf Listener Stream Link
+  pub calls : LinkOf Link Stream
 
--- A connection that ended so was asked for.
-abbrev pub Takes : {L : Type 0} → (L → Result (Unit {0}) Error → L → Type 0) → (L → ℕ → L → Type 0) → Type 0
-    → L → ConnectionEnd → L → Type 0
-Takes taken waited unlimited old end new =
-    (got : Result (Unit {0}) Error) × (mid : _) × taken old got mid × TakenOrWaited waited unlimited got mid end new
+abbrev pub sockets : {L S K : Type 0} → ListenerOf L S K → LinkOf K S → Sockets
+sockets {L} {S} {K} listens calls =
+    record { Listener = L; Stream = S; Link = K; listens = listens; calls = calls }
 
--- The limits of some connection were asked for, and not both were set.
-abbrev pub LacksLimits : {S L : Type 0} → (S → L → ℕ → Result (Unit {0}) Error → L → Type 0)
-    → (S → L → ℕ → Result (Unit {0}) Error → L → Type 0) → Type 0
-LacksLimits {S} {L} reads_limited writes_limited =
-    (stream : S) × (old mid new : L) × (first : Result (Unit {0}) Error)
-    × reads_limited stream old PATIENCE first mid
-    × SecondSet (λ l set l'. writes_limited stream l PATIENCE set l') first mid new false
+-- Whether more of a request may follow what was read.
+abbrev pub follows_in : Result Exchange ServeFault → Bool
+follows_in (Ok done) = done.follows
+follows_in (Err why) = false
+
+-- What is read behind an answer: where more may follow, the writing side is shut, and what comes is thrown away.
+abbrev pub ReadsBehind : {S L : Type 0} → LinkOf L S → S → Bool → Reads L → L → Type 0
+ReadsBehind {L = L} calls stream true old new = (shut : Result (Unit {0}) Error) × (mid : L) × (left : ℕ)
+    × calls.writes_shut stream old.link shut mid
+    × LingersOn (ReadsRest (calls.reads_limited stream) calls.clock_read (calls.was_read stream)) shut (mid, old.left)
+    (new, left)
+ReadsBehind calls stream false old new = new ≡ old.link
+
+-- The request of a connection was served, by a link that read it and one that wrote to it: the bytes of the request are
+-- those that the connection had, and those of the answer it was given; each read and write was made in the time that
+-- was left for it, and no more was read than is wanted.
+pub record Serves {S L B R : Type 0} (calls : LinkOf L S) (K : KeptOf B) (rows : B → Rows) (words : R → Stream)
+    (stream : S) (reads writes : L) (old : B × R) (end : Result Exchange ServeFault) (reads' writes' : L)
+    (new : B × R) : Type 0 where
+  pub read : Reads L
+  pub left : ℕ
+  pub reads_in_time : ∥ ((readings : List Reading) × AreRead calls stream reads readings read) ∥₁
+  pub writes_in_time : ∥ ((writings : List Writing) × AreWritten calls stream writes writings (writes', left)) ∥₁
+  pub serves : ServesOver K rows words (calls.remaining stream reads) (calls.remaining stream read.link)
+      (calls.contents stream writes) (calls.contents stream writes') old new (served_in end)
+  pub wanted : ReadsWhile WantsMore (calls.remaining stream reads) (calls.remaining stream read.link)
+  pub follows : IfOk end (λ done. IfSome (calls.remaining stream reads) (λ input. MayFollow input done.follows))
+  pub behind : ReadsBehind calls stream (follows_in end) read reads'
+
+-- The limits of a connection were asked for, of both links, and this is whether both were set.
+abbrev pub Limits : {S L : Type 0} → LinkOf L S → S → L × L → Bool → L × L → Type 0
+Limits calls stream old both new = (first : Result (Unit {0}) Error) × calls.reads_limited stream old.0 PATIENCE first new.0
+    × SecondSet (λ l set l'. calls.writes_limited stream l PATIENCE set l') first old.1 new.1 both
+    × (calls.remaining stream new.0 ≡ calls.remaining stream old.0)
+    × (calls.contents stream new.1 ≡ calls.contents stream old.1)
+
+-- How a connection ended that was taken, by whether its limits were set: its request was served; or it wasn't, and
+-- nothing was asked of it or of the books.
+abbrev pub LimitedEnds : {S L B R : Type 0} → LinkOf L S → KeptOf B → (B → Rows) → (R → Stream) → S → Bool → L × L
+    → B × R → ConnectionEnd → L × L → B × R → Type 0
+LimitedEnds calls K rows words stream true links old end links' new = (exchange : Result Exchange ServeFault)
+    × (end ≡ Some (served_in exchange))
+    × Serves calls K rows words stream links.0 links.1 old exchange links'.0 links'.1 new
+LimitedEnds calls K rows words stream false links old end links' new =
+    (end ≡ None) × (links'.0 ≡ links.0) × (links'.1 ≡ links.1) × (new.0 ≡ old.0) × (new.1 ≡ old.1)
+
+-- A connection that was taken ended so: two links were made, its limits were asked for, and at last it was closed.
+abbrev pub TakenEnds : {B R : Type 0} → (v : Sockets) → KeptOf B → (B → Rows) → (R → Stream) → v.Stream
+    → v.Listener → B × R → ConnectionEnd → v.Listener → B × R → Type 0
+TakenEnds v K rows words stream listener old end listener' new =
+    (reads writes : v.Link) × (mid ready : v.Listener) × v.listens.linked listener reads mid
+    × v.listens.linked mid writes ready
+    × (both : Bool) × (links links' : v.Link × v.Link) × Limits v.calls stream (reads, writes) both links
+    × LimitedEnds v.calls K rows words stream both links old end links' new
+    × v.listens.closed ready stream links'.0 links'.1 listener'
+
+-- What comes of a connection that was asked for: where it couldn't be taken, `PAUSE` was waited for, and nothing was
+-- served.
+abbrev pub AskedEnds : {B R : Type 0} → (v : Sockets) → KeptOf B → (B → Rows) → (R → Stream)
+    → Result v.Stream Error → v.Listener → B × R → ConnectionEnd → v.Listener → B × R → Type 0
+AskedEnds v K rows words (Ok stream) mid old end listener new = TakenEnds v K rows words stream mid old end listener new
+AskedEnds v K rows words (Err why) mid old end listener new =
+    v.listens.waited mid PAUSE listener × (end ≡ None) × (new.0 ≡ old.0) × (new.1 ≡ old.1)
+
+-- A connection was asked for, and ended so, over books and a source.
+abbrev pub Connects : {B R : Type 0} → (v : Sockets) → KeptOf B → (B → Rows) → (R → Stream)
+    → v.Listener × (B × R) → ConnectionEnd → v.Listener × (B × R) → Type 0
+Connects v K rows words old end new = (got : Result v.Stream Error) × (mid : v.Listener)
+    × v.listens.taken old.0 got mid × AskedEnds v K rows words got mid old.1 end new.0 new.1
 
 -- The fault of a request that wasn't served.
 abbrev pub connection_fault : ServeFault → Fault
@@ -103,3 +171,15 @@ faults_at (Err fault) = fault ∷ []
 -- The faults that are reported of connections that ended so.
 abbrev pub faults_of : List ConnectionEnd → List Fault
 faults_of ends = flat_map (λ end. faults_at (connection_end end)) ends
+
+-- So many connections were asked for, one after the other, and the faults of their ends were reported. What came of
+-- their requests came over the books as over their histories.
+pub record ServesEach {B R F : Type 0} (v : Sockets) (K : KeptOf B) (rows : B → Rows) (words : R → Stream)
+    (tells : F → Fault → F → Type 0) (count : ℕ) (listener : v.Listener) (old : B × R) (faults : F) (new : B × R)
+    (faults' : F) : Type 0 where
+  pub ends : List ConnectionEnd
+  pub last : v.Listener
+  pub all : length ends ≡ count
+  pub told : ReportsAll tells faults (faults_of ends) faults'
+  pub connects : Passes (Connects v K rows words) (listener, old) ends (last, new)
+  pub happened : Passes (ConnectionHappens K rows words) old ends new

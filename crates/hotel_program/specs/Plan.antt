@@ -11,6 +11,7 @@ use Rattle.hotel_model.specs.Rows.{Rows, no_rows}
 use Rattle.hotel_lists.specs.Bytes.{AppendsFront}
 use Rattle.hotel_program.specs.Acts.{ActEnds, Desk, Views}
 use Rattle.hotel_program.specs.CommandLine.{desk}
+use Rattle.hotel_program.specs.Connections.{Sockets}
 use Rattle.hotel_program.specs.Faults.{fault_status}
 use Rattle.hotel_program.specs.Plans.{HasOne, IsRefusalOf, IsShown, IsToldBy, IsWrong, act_in}
 use Rattle.hotel_asks.specs.declared.values.ValueFault.TheVariants as value
@@ -37,7 +38,9 @@ pub record OuterViews (D W F E : Type 0) : Type 1 where
   pub seed_read : E → Option (List ℕ) → Result (List ℕ) Fault → E → Type 0
   pub file_read : E → List ℕ → Result (List ℕ) Fault → E → Type 0
   pub books_opened : E → List ℕ → Result D Fault → E → Type 0
-  pub bound : E → ℕ → Result (Unit {0}) Fault → E → Type 0
+  pub books_closed : E → D → E → Type 0
+  pub port : Sockets
+  pub bound : E → ℕ → Result port.Listener Fault → E → Type 0
   pub in_memory : KeptOf Listed
   pub of_database : KeptOf D
   pub rows : D → Rows
@@ -45,15 +48,17 @@ pub record OuterViews (D W F E : Type 0) : Type 1 where
 abbrev pub outer_views : {D W F E : Type 0} → (W → Option (List ℕ)) → (F → Fault → F → Type 0)
     → (F → List ℕ → F → Type 0) → (E → Option (List ℕ) → Result (List ℕ) Fault → E → Type 0)
     → (E → List ℕ → Result (List ℕ) Fault → E → Type 0) → (E → List ℕ → Result D Fault → E → Type 0)
-    → (E → ℕ → Result (Unit {0}) Fault → E → Type 0) → KeptOf Listed → KeptOf D → (D → Rows)
+    → (E → D → E → Type 0) → (port : Sockets) → (E → ℕ → Result port.Listener Fault → E → Type 0) → KeptOf Listed → KeptOf D → (D → Rows)
     → OuterViews D W F E
-outer_views contents told shown seed_read file_read books_opened bound in_memory of_database rows = record {
+outer_views contents told shown seed_read file_read books_opened books_closed port bound in_memory of_database rows = record {
   contents = contents;
   told = told;
   shown = shown;
   seed_read = seed_read;
   file_read = file_read;
   books_opened = books_opened;
+  books_closed = books_closed;
+  port = port;
   bound = bound;
   in_memory = in_memory;
   of_database = of_database;
@@ -68,6 +73,7 @@ memory_views v = record {
       (steps_u32 (next_word 10));
   contents = v.contents;
   told = v.told;
+  port = v.port;
   bound = v.bound;
 }
 
@@ -79,6 +85,7 @@ database_views v = record {
       (steps_u32 (next_word 10));
   contents = v.contents;
   told = v.told;
+  port = v.port;
   bound = v.bound;
 }
 
@@ -99,12 +106,13 @@ InMemory v known act bytes source at status old new = (books : Listed) × (later
     × ActEnds (memory_views v) known bytes act status (desk_with
     (record { rows = no_rows; failures = 0 }) source old at) (desk_with books later new new.around)
 
--- What comes of a database that was asked for.
+-- What comes of a database that was asked for: after the act its books were given back.
 abbrev pub AfterOpen : {D W F E : Type 0} → OuterViews D W F E → Option (List ℕ) → DeskAct → List ℕ → ChaCha
     → Result D Fault → E → ℕ → Outer W F E → Outer W F E → Type 0
-AfterOpen {D} v known act bytes source (Ok books) at status old new = (books' : D) × (later : ChaCha)
+AfterOpen {D} {W} {F} {E} v known act bytes source (Ok books) at status old new =
+    (books' : D) × (later : ChaCha) × (done : E)
     × ActEnds (database_views v) known bytes act status (desk_with books source old at)
-    (desk_with books' later new new.around)
+    (desk_with books' later new done) × v.books_closed done books' new.around
 AfterOpen v known act bytes source (Err why) at status old new = EndsEarly v why at status old new
 
 -- An act over books in memory, or over those of the database that is named.

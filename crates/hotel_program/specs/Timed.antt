@@ -1,30 +1,30 @@
 -- Calls of a connection that are made in the time that is left for them.
-use Rattle.std.specs.Prelude.{◌≡◌, ◌<◌, ◌≤◌, ◌+◌, ◌-◌, ◌&&◌, ℕ, nat_lt, Bool, false, List, [], ◌∷◌, ◌++◌, length}
-use Rattle.std.specs.Prelude.{Result, Ok, Err, is_ok}
+use Rattle.std.specs.Prelude.{◌≡◌, ◌<◌, ◌≤◌, ◌+◌, ◌-◌, ◌&&◌, ℕ, nat_lt, Bool, true, false, List, [], ◌∷◌, ◌++◌, length}
+use Rattle.std.specs.Prelude.{Option, Some, Result, Ok, Err, is_ok}
 use Rattle.std.specs.Prelude.{if◌then◌else◌}
 use Rattle.std.specs.Time.{instant_nanos}
 use Rattle.std.specs.declared.io.Error.{Error}
 use Rattle.std.specs.declared.time.Instant.{Instant}
 use Rattle.keycard_rules.specs.Calls.{Passes}
-use Rattle.hotel_program.specs.declared.timed.TheConstants.{PATIENCE, REST_BYTES, SILENCE}
+use Rattle.hotel_program.specs.declared.listener.Link.{Ghosts as LinkOf}
+use Rattle.hotel_program.specs.declared.timed.TheConstants.{FIRST_PATIENCE, PATIENCE, REST_BYTES, SILENCE}
 
 -- What is left of a time after what passed between two readings of the clock.
 abbrev pub left_after : ℕ → Instant → Instant → ℕ
 left_after left begun ended = left - (instant_nanos ended - instant_nanos begun)
 
--- The answer to a call, and the time that it leaves, by the reading of the clock behind the call: what the call gave,
--- and less by what passed since the reading before it. Where the clock gave no time, its error, and as much as before.
-abbrev pub CallEnds : ℕ → Instant → Result ℕ Error → Result Instant Error → Result ℕ Error → ℕ → Type 0
-CallEnds left begun gave (Ok ended) got rest = (got ≡ gave) × (rest ≡ left_after left begun ended)
-CallEnds left begun gave (Err why) got rest = (got ≡ Err why) × (rest ≡ left)
+-- What is left of it by a reading of the clock behind a call: nothing, where the clock gave no time.
+abbrev pub left_at : ℕ → Instant → Result Instant Error → ℕ
+left_at left begun (Ok ended) = left_after left begun ended
+left_at left begun (Err why) = 0
 
 -- By the reading of the clock before it, a call was made, and then the clock was read again. Where the clock gave no
--- time, its error is the answer, and nothing was done.
+-- time before it, its error is the answer, and nothing was done.
 abbrev pub CallBegins : {L : Type 0} → (L → Result Instant Error → L → Type 0) → (L → Result ℕ Error → L → Type 0)
     → ℕ → Result Instant Error → L → Result ℕ Error → ℕ → L → Type 0
 CallBegins clock_read called left (Ok begun) old got rest new =
-    (gave : Result ℕ Error) × (mid : _) × (ended : Result Instant Error)
-    × called old gave mid × clock_read mid ended new × CallEnds left begun gave ended got rest
+    (mid : _) × (ended : Result Instant Error)
+    × called old got mid × clock_read mid ended new × (rest ≡ left_at left begun ended)
 CallBegins clock_read called left (Err why) old got rest new = (got ≡ Err why) × (rest ≡ left) × (new ≡ old)
 
 -- By what came of setting its limit, a call was made between two readings of the clock. Where the limit wasn't set,
@@ -63,13 +63,55 @@ abbrev pub LeavesTime : Bool → Result ℕ Error → ℕ → ℕ → Bool → T
 LeavesTime waits got left new waits' =
     (new ≡ (if is_first waits got then PATIENCE else left)) × (waits' ≡ (if is_first waits got then false else waits))
 
+-- Where the reads of a connection stand: its link, what is left of their time, and whether no byte has come.
+pub record Reads (L : Type 0) : Type 0 where
+  pub link : L
+  pub left : ℕ
+  pub waits : Bool
+
+-- A read: what it gave, and what it left in the room.
+abbrev pub Reading : Type 0
+Reading = Result ℕ Error × List ℕ
+
+-- A read was made in the time that was left.
+abbrev pub ReadsInTime : {S L : Type 0} → LinkOf L S → S → Reads L → Reading → Reads L → Type 0
+ReadsInTime calls stream old reading new =
+    (left : ℕ)
+    × CallInTime (calls.reads_limited stream) calls.clock_read (λ l got l'. calls.was_read stream l got reading.1 l')
+    old.link old.left reading.0 left new.link × LeavesTime old.waits reading.0 left new.left new.waits
+
+-- From the first link on, all reads were made in the time that was left.
+abbrev pub AreRead : {S L : Type 0} → LinkOf L S → S → L → List Reading → Reads L → Type 0
+AreRead calls stream first readings now =
+    Passes (ReadsInTime calls stream) (record { link = first; left = FIRST_PATIENCE; waits = true }) readings now
+
+-- A write: its bytes, and how many it took.
+abbrev pub Writing : Type 0
+Writing = List ℕ × Result ℕ Error
+
+-- From a link and what was left of the time of its writes to these behind it, a write was made in that time.
+abbrev pub WritesInTime : {S L : Type 0} → LinkOf L S → S → L × ℕ → Writing → L × ℕ → Type 0
+WritesInTime calls stream old writing new =
+    CallInTime (calls.writes_limited stream) calls.clock_read (λ l. calls.was_written stream l writing.0)
+    old.0 old.1 writing.1 new.1 new.0
+
+-- From the first link on, all writes were made in the time that was left.
+abbrev pub AreWritten : {S L : Type 0} → LinkOf L S → S → L → List Writing → L × ℕ → Type 0
+AreWritten calls stream first writings now = Passes (WritesInTime calls stream) (first, PATIENCE) writings now
+
+-- So all reads were made of this connection since the link that reads it began.
+abbrev pub ReadSince : {S L : Type 0} → LinkOf L S → Option S → Option L → S → Reads L → Type 0
+ReadSince {L = L} calls its_stream its_link stream now = (its_stream ≡ Some stream) × (first : L)
+    × (its_link ≡ Some first) × (readings : List Reading) × AreRead calls stream first readings now
+
+-- So all writes were made.
+abbrev pub WrittenSince : {S L : Type 0} → LinkOf L S → Option S → Option L → S → L × ℕ → Type 0
+WrittenSince {L = L} calls its_stream its_link stream now = (its_stream ≡ Some stream) × (first : L)
+    × (its_link ≡ Some first) × (writings : List Writing) × AreWritten calls stream first writings now
+
 -- The shorter of two times.
 abbrev pub shorter : ℕ → ℕ → ℕ
 shorter a b = a - (a - b)
-
--- A reading of what comes behind an answer: what the read gave, and what it left in the room.
-abbrev pub Reading : Type 0
-Reading = Result ℕ Error × List ℕ
 
 -- From a connection and what was left of its time to these behind it, a reading was made in a second, or in what was
 -- left where that was less; what it took of this is taken from what was left.

@@ -2,6 +2,7 @@
 
 ghost use Rattle.std.specs.Prelude.{◌≡◌, ◌≢◌};
 ghost use Rattle.hotel_program.specs.Acts.{ActEnds, desk, views};
+ghost use Rattle.hotel_program.specs.Connections.{sockets};
 ghost use Rattle.hotel_program.specs.Faults.{end_status};
 ghost use Rattle.hotel_program.specs.Program.{script_end};
 ghost use Rattle.hotel_program.specs.declared.command_line.plan.DeskAct.TheVariants.{Script};
@@ -9,7 +10,7 @@ ghost use Rattle.hotel_program.specs.declared.command_line.plan.DeskAct.TheVaria
 use crate::alone::{run_audit, run_list, run_one};
 use crate::command_line::DeskAct;
 use crate::faults::{Fault, FaultSink, finish};
-use crate::script::{ScriptEnd, ScriptFault, run_script};
+use crate::script::{ScriptEnd, ScriptFault, run_script_by};
 use crate::server::run_serve;
 use crate::statuses::DONE;
 use crate::surroundings::Surroundings;
@@ -46,7 +47,8 @@ pub fn run_act<B: Walks, R: Rng, I: Read, W: Write, F: FaultSink, E: Surrounding
     faults: &mut F,
     around: &mut E,
 ) -> u8
-    ensures ends { ActEnds (views B.Kept B.rows R.stream W.contents F.told E.port_bound)
+    ensures ends { ActEnds (views B.Kept B.rows R.stream W.contents F.told (sockets E.Port.Listener E.Port.Link.Link)
+        E.port_bound)
         (I.remaining reader.old) file.now act.now result
         (desk books.old source.old writer.old faults.old around.old)
         (desk books.new source.new writer.new faults.new around.new) }
@@ -59,7 +61,7 @@ pub fn run_act<B: Walks, R: Rng, I: Read, W: Write, F: FaultSink, E: Surrounding
         DeskAct::Audit(_) => run_audit(alloc, file, books, writer, faults),
         DeskAct::Script => {
             let mut calls = IoCalls::none();
-            let end = run_script(alloc, reader, writer, books, source, &mut calls);
+            let end = run_script_by(alloc, reader, writer, books, source, &mut calls);
             finish(end_of_script(end), faults, &mut calls)
         }
         DeskAct::Serve { port, count } => {

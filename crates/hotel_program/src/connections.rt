@@ -1,27 +1,28 @@
 //! Connections that are answered one after the other.
 
-ghost use Rattle.std.specs.Prelude.{◌≡◌, ◌∷◌, [], List, Err, length};
+ghost use Rattle.std.specs.Prelude.{◌≡◌, ◌∷◌, [], Some, IfOk, IfSome};
 ghost use Rattle.std.specs.Duration.{as_nanos};
 ghost use Rattle.keycard_rules.specs.Calls.{Passes};
 ghost use Rattle.hotel_lists.specs.Calls.{CountsCalls, NoneForgotten, OnErrOf};
 ghost use Rattle.hotel_lists.specs.Reads.{ReadsWhile};
-ghost use Rattle.hotel_http.specs.{Request.WantsMore, Serve.IfUnwritten, Serve.ServesOver, Serve.served_in};
+ghost use Rattle.hotel_http.specs.{Request.MayFollow, Request.WantsMore, Serve.IfUnwritten, Serve.ServesOver, Serve.served_in};
 ghost use Rattle.hotel_http.specs.declared.serve.ServeFault.TheVariants as serve;
 ghost use Rattle.hotel_program.specs.Faults.{ReportsAll};
 ghost use Rattle.hotel_program.specs.declared.faults.Fault.TheVariants.{Read, Write};
-ghost use Rattle.hotel_program.specs.Connections.{ConnectionEnd, ConnectionHappens, LacksLimits, Takes, connection_end};
-ghost use Rattle.hotel_program.specs.Connections.{connection_fault, faults_of};
+ghost use Rattle.hotel_program.specs.Connections.{ConnectionEnd, Connects, Serves, ServesEach, TakenEnds};
+ghost use Rattle.hotel_program.specs.Connections.{connection_end, connection_fault, faults_of, follows_in, sockets};
 
 use crate::faults::{Fault, FaultSink};
 use crate::listener::{Link, Listener};
 use crate::statuses::DONE;
-use crate::timed::{TimedReader, TimedWriter, has_limits};
+use crate::timed::{Begun, TimedReader, TimedWriter, has_limits};
 use hotel_core::Walks;
 use hotel_http::{Exchange, Routes, ServeFault, make_routes, serve_by};
 use hotel_lists::IoCalls;
 use rand_core::Rng;
 use std::alloc::Global;
 use std::io::{Read, Write};
+use std::marker::Brand;
 use std::time::Duration;
 
 /// How many nanoseconds pass before the next connection is asked for where one couldn't be taken: a tenth of a second.
@@ -51,8 +52,10 @@ fn serve_stream<I: Read, W: Write, B: Walks, R: Rng>(
     source: &mut R,
     calls: &mut IoCalls,
 ) -> Result<Exchange, ServeFault>
-    ensures serves { ServesOver B.Kept B.rows R.stream (I.remaining reader.old) (W.contents writer.old)
-        (W.contents writer.new) (books.old, source.old) (books.new, source.new) (served_in result) }
+    ensures serves { ServesOver B.Kept B.rows R.stream (I.remaining reader.old) (I.remaining reader.new)
+        (W.contents writer.old) (W.contents writer.new)
+        (books.old, source.old) (books.new, source.new) (served_in result) }
+    ensures follows { IfOk result (λ done. IfSome (I.remaining reader.old) (λ input. MayFollow input done.follows)) }
     ensures wanted { ReadsWhile WantsMore (I.remaining reader.old) (I.remaining reader.new) }
     ensures calls { CountsCalls calls.old calls.new (OnErrOf result serve.Read) (IfUnwritten (served_in result)) }
 {
@@ -65,28 +68,37 @@ fn serve_stream<I: Read, W: Write, B: Walks, R: Rng>(
     }
 }
 
-/// Answers the request of a connection that was taken. Where more of the request may follow its answer, what comes is
-/// thrown away for a while, so that the answer isn't lost.
-fn serve_taken<L: Listener, B: Walks, R: Rng>(
+/// A connection whose request was served, or not, and its links.
+#[derive(Drop)]
+struct Finished<L> {
+    end: Result<Exchange, ServeFault>,
+    reads: L,
+    writes: L,
+}
+
+/// Answers the request of a connection whose limits are set. Where more of the request may follow its answer, what
+/// comes is thrown away for a while, so that the answer isn't lost.
+fn serve_limited<S, L: Link<S>, K: Begun<S, L>, B: Walks, R: Rng>(
     alloc: Global,
     routes: Option<&Routes>,
-    listener: &L,
-    stream: &L::Stream,
+    stream: &S,
+    reads: L,
+    writes: L,
     books: &mut B,
     source: &mut R,
     calls: &mut IoCalls,
-) -> Result<(), Fault>
-    ensures ends { (end : ConnectionEnd) × (result ≡ connection_end end)
-        × (end ≡ None → LacksLimits L.Link.reads_limited L.Link.writes_limited)
-        × ConnectionHappens B.Kept B.rows R.stream (books.old, source.old) end (books.new, source.new) }
-    ensures calls { CountsCalls calls.old calls.new (OnErrOf result Read) (OnErrOf result Write) }
+) -> Finished<L>
+    requires stream { K.stream ≡ Some stream.now }
+    requires reads { K.reads ≡ Some reads }
+    requires writes { K.writes ≡ Some writes }
+    ensures served { Serves L.Link B.Kept B.rows R.stream stream.now reads writes (books.old, source.old) result.end
+        result.reads result.writes (books.new, source.new) }
+    ensures calls { CountsCalls calls.old calls.new (OnErrOf result.end serve.Read)
+        (IfUnwritten (served_in result.end)) }
 {
-    if !has_limits(stream, &mut listener.link()) {
-        return Err(Fault::Closed);
-    }
-    let mut reader = TimedReader::new(stream, listener.link());
-    let mut writer = TimedWriter::new(stream, listener.link());
-    match serve_stream(
+    let mut reader: TimedReader<'_, S, L, K> = TimedReader::new(stream, reads);
+    let mut writer: TimedWriter<'_, S, L, K> = TimedWriter::new(stream, writes);
+    let end = serve_stream(
         alloc,
         routes,
         &mut reader,
@@ -94,13 +106,52 @@ fn serve_taken<L: Listener, B: Walks, R: Rng>(
         books,
         source,
         calls,
-    ) {
-        Ok(done) => {
-            if done.follows {
-                reader.linger();
-            }
-            Ok(())
-        }
+    );
+    let reads = if follows_in(&end) {
+        reader.linger()
+    } else {
+        reader.into_link()
+    };
+    let writes = writer.into_link();
+    Finished { end, reads, writes }
+}
+/// Whether more of a request may follow what was read.
+fn follows_in(end: &Result<Exchange, ServeFault>) -> bool
+    ensures { result ≡ follows_in end.now }
+{
+    match end {
+        Ok(done) => done.follows,
+        Err(_) => false,
+    }
+}
+
+/// Answers the request of a connection that was taken, where its limits could be set, and closes it.
+fn serve_taken<L: Listener, B: Walks, R: Rng>(
+    alloc: Global,
+    routes: Option<&Routes>,
+    listener: &mut L,
+    stream: L::Stream,
+    books: &mut B,
+    source: &mut R,
+    calls: &mut IoCalls,
+) -> Result<(), Fault>
+    ensures ends { (end : ConnectionEnd) × (result ≡ connection_end end)
+        × TakenEnds (sockets L.Listener L.Link.Link) B.Kept B.rows R.stream stream listener.old
+        (books.old, source.old) end listener.new (books.new, source.new) }
+    ensures calls { CountsCalls calls.old calls.new (OnErrOf result Read) (OnErrOf result Write) }
+{
+    let mut reads = listener.link();
+    let mut writes = listener.link();
+    if !has_limits(&stream, &mut reads, &mut writes) {
+        listener.close(stream, reads, writes);
+        return Err(Fault::Closed);
+    }
+    let Finished { end, reads, writes } = serve_limited::<L::Stream, L::Link, Brand, B, R>(
+        alloc, routes, &stream, reads, writes, books, source, calls,
+    );
+    listener.close(stream, reads, writes);
+    match end {
+        Ok(_) => Ok(()),
         Err(why) => Err(fault_of(why)),
     }
 }
@@ -116,12 +167,12 @@ fn serve_connection<L: Listener, B: Walks, R: Rng>(
     calls: &mut IoCalls,
 ) -> Result<(), Fault>
     ensures ends { (end : ConnectionEnd) × (result ≡ connection_end end)
-        × Takes L.taken L.waited (LacksLimits L.Link.reads_limited L.Link.writes_limited) listener.old end listener.new
-        × ConnectionHappens B.Kept B.rows R.stream (books.old, source.old) end (books.new, source.new) }
+        × Connects (sockets L.Listener L.Link.Link) B.Kept B.rows R.stream
+        (listener.old, (books.old, source.old)) end (listener.new, (books.new, source.new)) }
     ensures calls { CountsCalls calls.old calls.new (OnErrOf result Read) (OnErrOf result Write) }
 {
     match listener.accept() {
-        Ok(stream) => serve_taken(alloc, routes, listener, &stream, books, source, calls),
+        Ok(stream) => serve_taken(alloc, routes, listener, stream, books, source, calls),
         Err(_) => {
             listener.wait(Duration::from_nanos(PAUSE));
             Err(Fault::Closed)
@@ -140,8 +191,8 @@ fn serve_and_tell<L: Listener, B: Walks, R: Rng, F: FaultSink>(
     calls: &mut IoCalls,
 )
     ensures ends { (end : ConnectionEnd) × ReportsAll F.told faults.old (faults_of (end ∷ [])) faults.new
-        × Takes L.taken L.waited (LacksLimits L.Link.reads_limited L.Link.writes_limited) listener.old end listener.new
-        × ConnectionHappens B.Kept B.rows R.stream (books.old, source.old) end (books.new, source.new) }
+        × Connects (sockets L.Listener L.Link.Link) B.Kept B.rows R.stream
+        (listener.old, (books.old, source.old)) end (listener.new, (books.new, source.new)) }
     ensures calls { NoneForgotten calls.old calls.new }
 {
     let mut its_calls = IoCalls::none();
@@ -165,11 +216,8 @@ pub fn serve_connections<L: Listener + Drop, B: Walks, R: Rng, F: FaultSink>(
     faults: &mut F,
 ) -> u8
     ensures status { result ≡ 0 }
-    ensures ends { (ends : List ConnectionEnd) × (length ends ≡ count)
-        × ReportsAll F.told faults.old (faults_of ends) faults.new
-        × Passes (ConnectionHappens B.Kept B.rows R.stream) (books.old, source.old) ends (books.new, source.new)
-        × (last : L) × Passes (Takes L.taken L.waited (LacksLimits L.Link.reads_limited L.Link.writes_limited))
-        listener ends last }
+    ensures ends { ServesEach (sockets L.Listener L.Link.Link) B.Kept B.rows R.stream F.told count listener
+        (books.old, source.old) faults.old (books.new, source.new) faults.new }
 {
     let mut listener = listener;
     let made = make_routes(alloc).ok();

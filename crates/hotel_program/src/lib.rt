@@ -39,6 +39,6 @@ pub use laws::{
 };
 pub use listener::{ClockedListener, Link, Listener, NoClock, SystemLink};
 pub use program::run_program;
-pub use script::{ScriptEnd, ScriptFault, run_script};
+pub use script::{ScriptEnd, ScriptFault, run_script, run_script_by};
 pub use statuses::status_of;
 pub use surroundings::{Databases, Surroundings};

@@ -3,18 +3,25 @@
 ghost use Rattle.std.specs.Prelude.{◌≡◌, OnOk};
 ghost use Rattle.std.specs.Duration.{as_nanos};
 ghost use Rattle.std.specs.Io.{ReadsAtMost, WritesAtMost};
+ghost use Rattle.std.specs.Io.KnownBytes.{ReadConsumes, WriteAppends};
 
 use std::io::{self, Read, Write};
 use std::net::{Shutdown, TcpListener, TcpStream};
 use std::thread;
 use std::time::{Clock, Duration, Instant};
 
-/// What calls connections of the type `S`, and reads the clock. What comes over a connection, what comes of a limit and
-/// what the clock shows is not known to contracts: they say what was asked, in which order, and what the answers were.
+/// What calls connections of the type `S`, and reads the clock. What comes of a limit and what the clock shows is not
+/// known to contracts: they say what was asked, in which order, and what the answers were.
 pub trait Link<S> {
-    ghost use Rattle.std.specs.Prelude.{ℕ, List, Result};
+    ghost use Rattle.std.specs.Prelude.{ℕ, List, Option, None, Result};
     ghost use Rattle.std.specs.declared.io.Error.{Error};
     ghost use Rattle.std.specs.declared.time.Instant.{Instant};
+
+    /// The bytes that reads of a connection will give, where they are known.
+    ghost remaining: { S → Self → Option (List ℕ) } = { λ _ _. None };
+
+    /// The bytes that it was given, where they are known.
+    ghost contents: { S → Self → Option (List ℕ) } = { λ _ _. None };
 
     /// The states that may follow one after the clock was read.
     ghost clock_read: { Self → Result Instant Error → Self → Type 0 };
@@ -35,22 +42,28 @@ pub trait Link<S> {
     ghost writes_shut: { S → Self → Result (Unit {0}) Error → Self → Type 0 };
 
     fn now(&mut self) -> io::Result<Instant>
-        ensures read { clock_read self.old result self.new };
+        ensures read { clock_read self.old result self.new }
+        ensures unread { (stream : S) → remaining stream self.new ≡ remaining stream self.old }
+        ensures unwritten { (stream : S) → contents stream self.new ≡ contents stream self.old };
 
     fn limit_reads(&mut self, stream: &S, limit: Duration) -> io::Result<()>
         ensures limited { reads_limited stream.now self.old (as_nanos limit) result self.new }
+        ensures unread { remaining stream.now self.new ≡ remaining stream.now self.old }
         ensures past { as_nanos limit ≡ 0 → OnOk result ⊥ };
 
     fn limit_writes(&mut self, stream: &S, limit: Duration) -> io::Result<()>
         ensures limited { writes_limited stream.now self.old (as_nanos limit) result self.new }
+        ensures unwritten { contents stream.now self.new ≡ contents stream.now self.old }
         ensures past { as_nanos limit ≡ 0 → OnOk result ⊥ };
 
     fn read_some(&mut self, stream: &S, room: &mut [u8]) -> io::Result<usize>
         ensures bound { ReadsAtMost result room.new }
+        ensures bytes { ReadConsumes (remaining stream.now self.old) (remaining stream.now self.new) result room.new }
         ensures read { was_read stream.now self.old result room.new self.new };
 
     fn write_some(&mut self, stream: &S, bytes: &[u8]) -> io::Result<usize>
         ensures bound { WritesAtMost result bytes.now }
+        ensures bytes { WriteAppends (contents stream.now self.old) (contents stream.now self.new) result bytes.now }
         ensures written { was_written stream.now self.old bytes.now result self.new };
 
     /// The peer is told that nothing more is written.
@@ -59,31 +72,40 @@ pub trait Link<S> {
 }
 
 /// What takes connections, one after the other. Which come is not known to contracts: they say what was asked, in which
-/// order, and whether it was answered.
+/// order, and what was answered.
 pub trait Listener {
     ghost use Rattle.std.specs.Prelude.{ℕ, Result};
-    ghost use Rattle.std.specs.Result.{result_map_both};
     ghost use Rattle.std.specs.declared.io.Error.{Error};
 
     /// A connection.
     type Stream: Drop;
 
-    /// What calls one.
+    /// What calls one: one link reads it, another writes to it.
     type Link: Link<Self::Stream> + Drop;
 
     /// The states that may follow one after a connection was asked for, and was taken or not.
-    ghost taken: { Self → Result (Unit {0}) Error → Self → Type 0 };
+    ghost taken: { Self → Result Self.Stream Error → Self → Type 0 };
+
+    /// The same after a link was made.
+    ghost linked: { Self → Self.Link → Self → Type 0 };
+
+    /// The same after a connection was closed, with the link that read it and the one that wrote to it.
+    ghost closed: { Self → Self.Stream → Self.Link → Self.Link → Self → Type 0 };
 
     /// The same after so many nanoseconds were waited for.
     ghost waited: { Self → ℕ → Self → Type 0 };
 
     fn accept(&mut self) -> io::Result<Self::Stream>
-        ensures taken { taken self.old (result_map_both (λ stream. tt) (λ why. why) result) self.new };
+        ensures taken { taken self.old result self.new };
+
+    fn link(&mut self) -> Self::Link
+        ensures linked { linked self.old result self.new };
+
+    fn close(&mut self, stream: Self::Stream, reads: Self::Link, writes: Self::Link)
+        ensures closed { closed self.old stream reads writes self.new };
 
     fn wait(&mut self, time: Duration)
         ensures waited { waited self.old (as_nanos time) self.new };
-
-    fn link(&self) -> Self::Link;
 }
 
 /// Calls connections of the system, with a clock.
@@ -155,6 +177,10 @@ impl Listener for &TcpListener {
 
     ghost taken = { λ _ _ _. Unit {0} };
 
+    ghost linked = { λ _ _ _. Unit {0} };
+
+    ghost closed = { λ _ _ _ _ _. Unit {0} };
+
     ghost waited = { λ _ _ _. Unit {0} };
 
     fn accept(&mut self) -> io::Result<TcpStream> {
@@ -162,32 +188,43 @@ impl Listener for &TcpListener {
         Ok(stream)
     }
 
-    fn wait(&mut self, _time: Duration) {}
-
-    fn link(&self) -> SystemLink<NoClock> {
+    fn link(&mut self) -> SystemLink<NoClock> {
         SystemLink { clock: NoClock }
     }
+
+    fn close(
+        &mut self,
+        _stream: TcpStream,
+        _reads: SystemLink<NoClock>,
+        _writes: SystemLink<NoClock>,
+    ) {}
+
+    fn wait(&mut self, _time: Duration) {}
 }
 
 /// A listener of the system, with a clock.
 #[derive(Drop)]
-pub struct ClockedListener<'l, 'c, C> {
-    listener: &'l TcpListener,
-    clock: &'c C,
+pub struct ClockedListener<C> {
+    listener: TcpListener,
+    clock: C,
 }
 
-impl<'l, 'c, C: Clock> ClockedListener<'l, 'c, C> {
-    pub fn new(listener: &'l TcpListener, clock: &'c C) -> ClockedListener<'l, 'c, C> {
+impl<C: Clock + Copy> ClockedListener<C> {
+    pub fn new(listener: TcpListener, clock: C) -> ClockedListener<C> {
         ClockedListener { listener, clock }
     }
 }
 
-impl<'l, 'c, C: Clock> Listener for ClockedListener<'l, 'c, C> {
+impl<C: Clock + Copy> Listener for ClockedListener<C> {
     type Stream = TcpStream;
 
-    type Link = SystemLink<&'c C>;
+    type Link = SystemLink<C>;
 
     ghost taken = { λ _ _ _. Unit {0} };
+
+    ghost linked = { λ _ _ _. Unit {0} };
+
+    ghost closed = { λ _ _ _ _ _. Unit {0} };
 
     ghost waited = { λ _ _ _. Unit {0} };
 
@@ -196,11 +233,13 @@ impl<'l, 'c, C: Clock> Listener for ClockedListener<'l, 'c, C> {
         Ok(stream)
     }
 
-    fn wait(&mut self, time: Duration) {
-        thread::sleep(self.clock, time);
+    fn link(&mut self) -> SystemLink<C> {
+        SystemLink { clock: self.clock }
     }
 
-    fn link(&self) -> SystemLink<&'c C> {
-        SystemLink { clock: self.clock }
+    fn close(&mut self, _stream: TcpStream, _reads: SystemLink<C>, _writes: SystemLink<C>) {}
+
+    fn wait(&mut self, time: Duration) {
+        thread::sleep(&self.clock, time);
     }
 }

@@ -8,6 +8,7 @@ ghost use Rattle.hotel_program.specs.declared.faults.Fault.TheVariants.{Usage, M
 ghost use Rattle.hotel_program.specs.declared.command_line.plan.DeskAct.TheVariants.{Script};
 ghost use Rattle.hotel_program.specs.declared.script.ScriptEnd.{ScriptEnd};
 ghost use Rattle.hotel_program.specs.declared.script.ScriptFault.{ScriptFault};
+ghost use Rattle.hotel_program.specs.Connections.{sockets};
 ghost use Rattle.hotel_program.specs.Faults.{end_status, IsOfFiles, Reports};
 ghost use Rattle.hotel_program.specs.Plan.{outer_views, AskForScript, FileIsRead, InMemory, OverBooks, PlanEnds};
 ghost use Rattle.hotel_program.specs.Plan.{UsageSaid, WordsEnd};
@@ -17,7 +18,7 @@ use crate::acts::{end_of_script, run_act};
 use crate::command_line::{DeskAct, FileName, Plan, UsageFault, parse_words};
 use crate::faults::{Fault, FaultSink, finish};
 use crate::files::SEED_BYTES;
-use crate::script::run_script;
+use crate::script::run_script_by;
 use crate::statuses::{DONE, USAGE};
 use crate::surroundings::{Databases, Surroundings};
 use hotel_core::{Books, ListBooks, Walks};
@@ -42,7 +43,7 @@ fn answer_script<I: Read, W: Write>(
     let mut books = ListBooks::empty(alloc);
     books.known_sound();
     let mut source = ChaCha20Rng::from_seed([0; SEED_BYTES]);
-    let end = run_script(alloc, reader, writer, &mut books, &mut source, calls);
+    let end = run_script_by(alloc, reader, writer, &mut books, &mut source, calls);
     end_of_script(end)
 }
 
@@ -58,7 +59,8 @@ fn run_in_memory<I: Read, W: Write, F: FaultSink, B: Walks + Drop, E: Databases<
     around: &mut E,
 ) -> u8
     ensures ends { InMemory (outer_views W.contents F.told F.shown E.seed_read E.file_read
-        E.books_opened E.port_bound ⟦<ListBooks as Kept>⟧ B.Kept B.rows)
+        E.books_opened E.books_closed (sockets E.Port.Listener E.Port.Link.Link) E.port_bound
+        ⟦<ListBooks as Kept>⟧ B.Kept B.rows)
         (I.remaining reader.old) act.now file.now source.old around.old result
         (record { writer = writer.old; faults = faults.old; around = around.old })
         (record { writer = writer.new; faults = faults.new; around = around.new }) }
@@ -84,7 +86,8 @@ fn run_on_database<I: Read, W: Write, F: FaultSink, B: Walks + Drop, E: Database
     around: &mut E,
 ) -> u8
     ensures ends { OverBooks (outer_views W.contents F.told F.shown E.seed_read E.file_read
-        E.books_opened E.port_bound ⟦<ListBooks as Kept>⟧ B.Kept B.rows)
+        E.books_opened E.books_closed (sockets E.Port.Listener E.Port.Link.Link) E.port_bound
+        ⟦<ListBooks as Kept>⟧ B.Kept B.rows)
         (I.remaining reader.old) act.now file.now source.old (Some name.now) around.old result
         (record { writer = writer.old; faults = faults.old; around = around.old })
         (record { writer = writer.new; faults = faults.new; around = around.new }) }
@@ -114,7 +117,8 @@ fn run_over_books<I: Read, W: Write, F: FaultSink, B: Walks + Drop, E: Databases
     around: &mut E,
 ) -> u8
     ensures ends { OverBooks (outer_views W.contents F.told F.shown E.seed_read E.file_read
-        E.books_opened E.port_bound ⟦<ListBooks as Kept>⟧ B.Kept B.rows)
+        E.books_opened E.books_closed (sockets E.Port.Listener E.Port.Link.Link) E.port_bound
+        ⟦<ListBooks as Kept>⟧ B.Kept B.rows)
         (I.remaining reader.old) plan.now.act file.now source.old plan.now.db around.old result
         (record { writer = writer.old; faults = faults.old; around = around.old })
         (record { writer = writer.new; faults = faults.new; around = around.new }) }
@@ -159,7 +163,8 @@ fn run_plan<I: Read, W: Write, F: FaultSink, B: Walks + Drop, E: Databases<B>>(
     around: &mut E,
 ) -> u8
     ensures ends { PlanEnds (outer_views W.contents F.told F.shown E.seed_read E.file_read
-        E.books_opened E.port_bound ⟦<ListBooks as Kept>⟧ B.Kept B.rows)
+        E.books_opened E.books_closed (sockets E.Port.Listener E.Port.Link.Link) E.port_bound
+        ⟦<ListBooks as Kept>⟧ B.Kept B.rows)
         (I.remaining reader.old) plan.now result
         (record { writer = writer.old; faults = faults.old; around = around.old })
         (record { writer = writer.new; faults = faults.new; around = around.new }) }
@@ -216,7 +221,8 @@ fn run_words<I: Read, W: Write, F: FaultSink, B: Walks + Drop, E: Databases<B>>(
     around: &mut E,
 ) -> u8
     ensures ends { WordsEnd (outer_views W.contents F.told F.shown E.seed_read E.file_read
-        E.books_opened E.port_bound ⟦<ListBooks as Kept>⟧ B.Kept B.rows)
+        E.books_opened E.books_closed (sockets E.Port.Listener E.Port.Link.Link) E.port_bound
+        ⟦<ListBooks as Kept>⟧ B.Kept B.rows)
         (I.remaining reader.old) (map string_bytes words.now) result
         (record { writer = writer.old; faults = faults.old; around = around.old })
         (record { writer = writer.new; faults = faults.new; around = around.new }) }
@@ -259,7 +265,8 @@ pub fn run_program<I: Read, W: Write, F: FaultSink, B: Walks + Drop, E: Database
         × Reports F.told faults.old (script_end end) faults.new
         × EndsOverNewDesk W.contents (I.remaining reader.old) writer.old writer.new end × (around.new ≡ around.old) }
     ensures words { IfWords words (λ texts. WordsEnd (outer_views W.contents F.told F.shown E.seed_read E.file_read
-        E.books_opened E.port_bound ⟦<ListBooks as Kept>⟧ B.Kept B.rows)
+        E.books_opened E.books_closed (sockets E.Port.Listener E.Port.Link.Link) E.port_bound
+        ⟦<ListBooks as Kept>⟧ B.Kept B.rows)
         (I.remaining reader.old) texts result
         (record { writer = writer.old; faults = faults.old; around = around.old })
         (record { writer = writer.new; faults = faults.new; around = around.new })) }

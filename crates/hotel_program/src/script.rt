@@ -100,7 +100,7 @@ fn answer_lines<W: Write, B: Walks, R: Rng>(
 /// Answers the lines of a script: all the bytes that the reader has. The whole script is read first; then each line is
 /// carried out and its answer written before the next line is begun. The reads and writes, those of its lists among
 /// them, are added to the caller's; the thousandth interrupted one is a fault. The writer is not flushed.
-pub fn run_script<I: Read, W: Write, B: Walks, R: Rng>(
+pub fn run_script_by<I: Read, W: Write, B: Walks, R: Rng>(
     alloc: Global,
     reader: &mut I,
     writer: &mut W,
@@ -115,4 +115,19 @@ pub fn run_script<I: Read, W: Write, B: Walks, R: Rng>(
 {
     let script = read_whole(alloc, reader, SCRIPT_LIMIT, calls)?;
     answer_lines(alloc, &script, writer, books, source, calls)
+}
+
+/// `run_script_by`, of whose reads and writes the caller keeps no record.
+pub fn run_script<I: Read, W: Write, B: Walks, R: Rng>(
+    alloc: Global,
+    reader: &mut I,
+    writer: &mut W,
+    books: &mut B,
+    source: &mut R,
+) -> Result<ScriptEnd, ScriptFault>
+    ensures ends { ScriptRan B.Kept B.rows R.stream W.contents (I.remaining reader.old)
+        (books.old, source.old, writer.old) result (books.new, source.new, writer.new) }
+    ensures wanted { ReadsWhile (λ came. length came ≤ SCRIPT_LIMIT) (I.remaining reader.old) (I.remaining reader.new) }
+{
+    run_script_by(alloc, reader, writer, books, source, &mut IoCalls::none())
 }

@@ -3,10 +3,10 @@
 ghost use Rattle.std.specs.Prelude.{◌≢◌, ◌++◌, codes};
 ghost use Rattle.hotel_lists.specs.Bytes.{Writes};
 ghost use Rattle.hotel_program.specs.Acts.{ServeEnds, desk, listening_text, views};
+ghost use Rattle.hotel_program.specs.Connections.{sockets};
 
 use crate::connections::serve_connections;
 use crate::faults::{Fault, FaultSink, finish};
-use crate::listener::ClockedListener;
 use crate::surroundings::Surroundings;
 use hotel_core::Walks;
 use hotel_lists::{IoCalls, WriteFailed, write_parts};
@@ -54,7 +54,8 @@ pub fn run_serve<B: Walks, R: Rng, W: Write, F: FaultSink, E: Surroundings>(
     faults: &mut F,
     around: &mut E,
 ) -> u8
-    ensures ends { ServeEnds (views B.Kept B.rows R.stream W.contents F.told E.port_bound) port count result
+    ensures ends { ServeEnds (views B.Kept B.rows R.stream W.contents F.told
+        (sockets E.Port.Listener E.Port.Link.Link) E.port_bound) port count result
         (desk books.old source.old writer.old faults.old around.old)
         (desk books.new source.new writer.new faults.new around.new) }
     ensures no_usage { result ≢ 2 }
@@ -65,10 +66,7 @@ pub fn run_serve<B: Walks, R: Rng, W: Write, F: FaultSink, E: Surroundings>(
         Err(why) => return finish(Err(why), faults, &mut calls),
     };
     match write_listening(writer, port, &mut calls) {
-        Ok(()) => {
-            let listener = ClockedListener::new(&listener, &*around);
-            serve_connections(alloc, listener, count, books, source, faults)
-        }
+        Ok(()) => serve_connections(alloc, listener, count, books, source, faults),
         Err(WriteFailed) => finish(Err(Fault::Write), faults, &mut calls),
     }
 }

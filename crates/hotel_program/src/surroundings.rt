@@ -1,19 +1,21 @@
-//! What is around the program: files, ports, a clock and databases.
+//! What is around the program: files, ports and databases.
 
 use crate::command_line::FileName;
 use crate::faults::Fault;
 use crate::files::SEED_BYTES;
+use crate::listener::Listener;
 use std::alloc::Global;
-use std::net::TcpListener;
-use std::time::Clock;
 
 /// What is around the program. What it holds is not known to contracts: they say what was asked of it, and in which
 /// order.
-pub trait Surroundings: Clock {
+pub trait Surroundings {
     ghost use Rattle.std.specs.Prelude.{ℕ, ◌≡◌, List, Option, Result, IfErr, option_map};
     ghost use Rattle.std.specs.Result.{result_map_both};
     ghost use Rattle.hotel_program.specs.Faults.{IsOfFiles, IsOfReading, IsOfSeed};
     ghost use Rattle.hotel_program.specs.declared.faults.Fault.{Fault, TheVariants.Port};
+
+    /// What takes the connections of a port.
+    type Port: Listener + Drop;
 
     /// The meanings that may follow one after a seed was read: of the named file, or of the system's source.
     ghost seed_read: { Self → Option (List ℕ) → Result (List ℕ) Fault → Self → Type 0 };
@@ -22,7 +24,7 @@ pub trait Surroundings: Clock {
     ghost file_read: { Self → List ℕ → Result (List ℕ) Fault → Self → Type 0 };
 
     /// The same of a port.
-    ghost port_bound: { Self → ℕ → Result (Unit {0}) Fault → Self → Type 0 };
+    ghost port_bound: { Self → ℕ → Result Self.Port Fault → Self → Type 0 };
 
     /// The first `SEED_BYTES` of the file, or of the system's source of random bytes where none is named.
     fn read_seed(
@@ -42,8 +44,8 @@ pub trait Surroundings: Clock {
         ensures which { IfErr result IsOfReading };
 
     /// Listens on a port of the loopback address.
-    fn listen(&mut self, port: u16) -> Result<TcpListener, Fault>
-        ensures bound { port_bound self.old port (result_map_both (λ listener. tt) (λ why. why) result) self.new }
+    fn listen(&mut self, port: u16) -> Result<Self::Port, Fault>
+        ensures bound { port_bound self.old port result self.new }
         ensures fault { IfErr result IsOfFiles }
         ensures which { IfErr result (λ why. why ≡ Port) };
 }
@@ -59,6 +61,9 @@ pub trait Databases<B>: Surroundings {
     /// The meanings that may follow one after books of the named database were opened.
     ghost books_opened: { Self → List ℕ → Result B Fault → Self → Type 0 };
 
+    /// The same after books were given back.
+    ghost books_closed: { Self → B → Self → Type 0 };
+
     /// The books of a database, which is made a desk where it is missing or has no tables.
     fn open_books(&mut self, alloc: Global, name: &FileName) -> Result<B, Fault>
         ensures opened { books_opened self.old name.now result self.new }
@@ -66,5 +71,6 @@ pub trait Databases<B>: Surroundings {
         ensures which { IfErr result IsOfDatabase };
 
     /// Gives books back.
-    fn close_books(&self, books: B);
+    fn close_books(&mut self, books: B)
+        ensures closed { books_closed self.old books self.new };
 }

@@ -1,15 +1,16 @@
 //! A connection that has a time for its first byte, one for all its reads behind it, and the same for all its writes.
 
-ghost use Rattle.std.specs.Prelude.{◌≡◌, ◌≤◌, ℕ, false, true, None, Result, IsOk, OnOk};
+ghost use Rattle.std.specs.Prelude.{◌≡◌, ◌≤◌, ℕ, false, true, Option, Some, None, Result, IsOk, OnOk};
 ghost use Rattle.std.specs.Duration.{as_nanos};
 ghost use Rattle.std.specs.Io.{ReadsAtMost, WritesAtMost};
-ghost use Rattle.std.specs.Io.KnownBytes.{ReadConsumes, WriteAppends};
+ghost use Rattle.std.specs.Io.KnownBytes.{Keeps, ReadConsumes, WriteAppends};
 ghost use Rattle.std.specs.declared.io.Error.{Error};
-ghost use Rattle.hotel_program.specs.Timed.{CallInTime, LeavesTime, LingersOn, ReadsRest, SecondSet};
-ghost use Rattle.hotel_program.specs.Timed.{is_first, left_after, shorter};
+ghost use Rattle.hotel_program.specs.Timed.{CallInTime, LeavesTime, LingersOn, ReadSince, ReadsRest, SecondSet};
+ghost use Rattle.hotel_program.specs.Timed.{WrittenSince, is_first, left_after, left_at, shorter};
 
 use crate::listener::Link;
 use std::io::{self, Read, Write};
+use std::marker::{Brand, PhantomData};
 use std::time::{Duration, Instant};
 
 /// How many nanoseconds the first byte of a connection may take to come: one second. Browsers open connections ahead,
@@ -37,11 +38,14 @@ fn patience() -> Duration
 }
 
 /// Sets how long a read and a write of the connection may take: whether the system took both limits.
-pub fn has_limits<S, L: Link<S>>(stream: &S, link: &mut L) -> bool
-    ensures { (first : Result (Unit {0}) Error) × (mid : L) × L.reads_limited stream.now link.old PATIENCE first mid
-        × SecondSet (λ old set new. L.writes_limited stream.now old PATIENCE set new) first mid link.new result }
+pub fn has_limits<S, L: Link<S>>(stream: &S, reads: &mut L, writes: &mut L) -> bool
+    ensures limits { (first : Result (Unit {0}) Error) × L.reads_limited stream.now reads.old PATIENCE first reads.new
+        × SecondSet (λ old set new. L.writes_limited stream.now old PATIENCE set new) first writes.old writes.new
+        result }
+    ensures unread { L.remaining stream.now reads.new ≡ L.remaining stream.now reads.old }
+    ensures unwritten { L.contents stream.now writes.new ≡ L.contents stream.now writes.old }
 {
-    link.limit_reads(stream, patience()).is_ok() && link.limit_writes(stream, patience()).is_ok()
+    reads.limit_reads(stream, patience()).is_ok() && writes.limit_writes(stream, patience()).is_ok()
 }
 
 /// What is left of a time, of which some was taken between two readings of a clock.
@@ -51,6 +55,17 @@ fn left_of(left: Duration, begun: Instant, ended: Instant) -> Duration
     left.saturating_sub(ended.duration_since(begun))
 }
 
+/// The same by what the clock gave behind a call: nothing, where it gave no time.
+fn left_at(left: Duration, begun: Instant, ended: io::Result<Instant>) -> Duration
+    ensures left { as_nanos result ≡ left_at (as_nanos left) begun ended }
+    ensures less { as_nanos result ≤ as_nanos left }
+{
+    match ended {
+        Ok(ended) => left_of(left, begun, ended),
+        Err(_) => Duration::ZERO,
+    }
+}
+
 /// The shorter of two times.
 fn shorter(a: Duration, b: Duration) -> Duration
     ensures { as_nanos result ≡ shorter (as_nanos a) (as_nanos b) }
@@ -58,7 +73,8 @@ fn shorter(a: Duration, b: Duration) -> Duration
     a.saturating_sub(a.saturating_sub(b))
 }
 
-/// A read that may take the time that is left, and takes from it what it took. Where nothing is left it fails.
+/// A read that may take the time that is left, and takes from it what it took: all, where the clock doesn't say. Where
+/// nothing is left it fails.
 fn read_within<S, L: Link<S>>(
     link: &mut L,
     stream: &S,
@@ -66,6 +82,7 @@ fn read_within<S, L: Link<S>>(
     room: &mut [u8],
 ) -> io::Result<usize>
     ensures bound { ReadsAtMost result room.new }
+    ensures bytes { ReadConsumes (L.remaining stream.now link.old) (L.remaining stream.now link.new) result room.new }
     ensures past { as_nanos left.old ≡ 0 → OnOk result ⊥ }
     ensures less { as_nanos left.new ≤ as_nanos left.old }
     ensures timed { CallInTime (L.reads_limited stream.now) L.clock_read
@@ -75,7 +92,7 @@ fn read_within<S, L: Link<S>>(
     link.limit_reads(stream, *left)?;
     let begun = link.now()?;
     let got = link.read_some(stream, room);
-    *left = left_of(*left, begun, link.now()?);
+    *left = left_at(*left, begun, link.now());
     got
 }
 
@@ -87,6 +104,7 @@ fn write_within<S, L: Link<S>>(
     bytes: &[u8],
 ) -> io::Result<usize>
     ensures bound { WritesAtMost result bytes.now }
+    ensures bytes { WriteAppends (L.contents stream.now link.old) (L.contents stream.now link.new) result bytes.now }
     ensures past { as_nanos left.old ≡ 0 → OnOk result ⊥ }
     ensures less { as_nanos left.new ≤ as_nanos left.old }
     ensures timed { CallInTime (L.writes_limited stream.now) L.clock_read
@@ -96,19 +114,60 @@ fn write_within<S, L: Link<S>>(
     link.limit_writes(stream, *left)?;
     let begun = link.now()?;
     let taken = link.write_some(stream, bytes);
-    *left = left_of(*left, begun, link.now()?);
+    *left = left_at(*left, begun, link.now());
     taken
+}
+
+/// A read of what comes behind an answer: it may take a second, and no more than what is left.
+fn read_rest<S, L: Link<S>>(
+    link: &mut L,
+    stream: &S,
+    left: &mut Duration,
+    room: &mut [u8],
+) -> io::Result<usize>
+    ensures bound { ReadsAtMost result room.new }
+    ensures timed { ReadsRest (L.reads_limited stream.now) L.clock_read (L.was_read stream.now)
+        (link.old, as_nanos left.old) (result, room.new) (link.new, as_nanos left.new) }
+{
+    let limit = shorter(*left, Duration::from_nanos(SILENCE));
+    let mut rest = limit;
+    let got = read_within(link, stream, &mut rest, room);
+    *left = left.saturating_sub(limit.saturating_sub(rest));
+    got
+}
+
+/// A connection and its links as they began, for proofs alone: who serves one picks it. It ties what generic code leaves
+/// of a reader or writer to what that began with.
+pub trait Begun<S, L> {
+    ghost stream: { Option S };
+
+    /// The link that reads the connection.
+    ghost reads: { Option L };
+
+    /// The link that writes to it.
+    ghost writes: { Option L };
+}
+
+impl<S, L> Begun<S, L> for Brand {
+    ghost stream = { None };
+
+    ghost reads = { None };
+
+    ghost writes = { None };
 }
 
 /// A connection that is read: its first byte has one second, and all reads behind it together have ten, whatever pieces
 /// come in.
 #[derive(Drop)]
-pub struct TimedReader<'s, S, L> {
+pub struct TimedReader<'s, S, L: Link<S>, K: Begun<S, L>> {
     stream: &'s S,
     link: L,
     left: Duration,
     /// No byte has come.
     waits: bool,
+    begun: PhantomData<K>,
+    ghost timed: { ∥ ReadSince L.Link K.stream K.reads stream.now
+        (record { link = link; left = as_nanos left; waits = waits }) ∥₁ },
 }
 
 /// Whether a read brought the first byte.
@@ -121,58 +180,65 @@ fn is_first(waits: bool, got: &io::Result<usize>) -> bool
     }
 }
 
-impl<'s, S, L: Link<S>> TimedReader<'s, S, L> {
-    pub fn new(stream: &'s S, link: L) -> TimedReader<'s, S, L>
-        ensures { (as_nanos result.left ≡ FIRST_PATIENCE) × (result.waits ≡ true) }
+impl<'s, S, L: Link<S>, K: Begun<S, L>> TimedReader<'s, S, L, K> {
+    pub fn new(stream: &'s S, link: L) -> TimedReader<'s, S, L, K>
+        requires stream { K.stream ≡ Some stream.now }
+        requires link { K.reads ≡ Some link }
+        ensures { (result.stream.now ≡ stream.now) × (result.link ≡ link) }
     {
         TimedReader {
             stream,
             link,
             left: Duration::from_nanos(FIRST_PATIENCE),
             waits: true,
+            begun: PhantomData,
         }
     }
 
-    /// A read of what comes behind an answer: it may take a second, and no more than what is left.
-    fn read_rest(&mut self, room: &mut [u8]) -> io::Result<usize>
-        ensures same { self.new.stream ≡ self.old.stream }
-        ensures bound { ReadsAtMost result room.new }
-        ensures timed { ReadsRest (L.reads_limited self.old.stream.now) L.clock_read (L.was_read self.old.stream.now)
-            (self.old.link, as_nanos self.old.left) (result, room.new) (self.new.link, as_nanos self.new.left) }
+    /// The link, when nothing more is read.
+    pub fn into_link(self) -> L
+        ensures { result ≡ self.entry.link }
     {
-        let limit = shorter(self.left, Duration::from_nanos(SILENCE));
-        let mut rest = limit;
-        let got = read_within(&mut self.link, self.stream, &mut rest, room);
-        self.left = self.left.saturating_sub(limit.saturating_sub(rest));
-        got
+        self.link
     }
 
     /// Shuts the writing side, and throws away what comes until the peer ends too. So no reset takes the answer from a
-    /// peer that still sends. It ends too where one second brings nothing, `REST_BYTES` came, or no time is left.
-    pub fn linger(&mut self)
-        ensures lingers { (shut : Result (Unit {0}) Error) × (mid : L)
-            × L.writes_shut self.old.stream.now self.old.link shut mid
-            × LingersOn (ReadsRest (L.reads_limited self.old.stream.now) L.clock_read (L.was_read self.old.stream.now))
-            shut (mid, as_nanos self.old.left) (self.new.link, as_nanos self.new.left) }
+    /// peer that still sends. It ends too where one second brings nothing, `REST_BYTES` came, or no time is left. It
+    /// answers the link.
+    pub fn linger(self) -> L
+        ensures lingers { (shut : Result (Unit {0}) Error) × (mid : L) × (rest : ℕ)
+            × L.writes_shut self.entry.stream.now self.entry.link shut mid
+            × LingersOn (ReadsRest (L.reads_limited self.entry.stream.now) L.clock_read
+            (L.was_read self.entry.stream.now)) shut (mid, as_nanos self.entry.left) (result, rest) }
     {
-        if self.link.shut_writes(self.stream).is_err() {
-            return;
+        let TimedReader {
+            stream,
+            mut link,
+            mut left,
+            ..
+        } = self;
+        if link.shut_writes(stream).is_err() {
+            return link;
         }
         let mut room = [0; ROOM_BYTES];
-        let mut left = REST_BYTES;
-        while left > 0 {
-            match self.read_rest(&mut room) {
-                Ok(count) if count > 0 => left = left.saturating_sub(count),
-                _ => return,
+        let mut rest = REST_BYTES;
+        while rest > 0 {
+            match read_rest(&mut link, stream, &mut left, &mut room) {
+                Ok(count) if count > 0 => rest = rest.saturating_sub(count),
+                _ => return link,
             }
         }
+        link
     }
 }
 
-impl<'s, S, L: Link<S>> Read for TimedReader<'s, S, L> {
+impl<'s, S, L: Link<S>, K: Begun<S, L>> Read for TimedReader<'s, S, L, K> {
+    ghost remaining = { λ r. L.remaining r.stream.now r.link };
+
     fn read(&mut self, room: &mut [u8]) -> io::Result<usize>
         ensures bound { ReadsAtMost result room.new }
-        ensures bytes { ReadConsumes None None result room.new }
+        ensures bytes { ReadConsumes (L.remaining self.old.stream.now self.old.link)
+            (L.remaining self.new.stream.now self.new.link) result room.new }
         ensures past { as_nanos self.old.left ≡ 0 → OnOk result ⊥ }
         ensures timed { (left : ℕ) × CallInTime (L.reads_limited self.old.stream.now) L.clock_read
             (λ old got new. L.was_read self.old.stream.now old got room.new new)
@@ -190,28 +256,43 @@ impl<'s, S, L: Link<S>> Read for TimedReader<'s, S, L> {
 
 /// A connection that is written to: all its writes together have ten seconds, whatever the peer takes at once.
 #[derive(Drop)]
-pub struct TimedWriter<'s, S, L> {
+pub struct TimedWriter<'s, S, L: Link<S>, K: Begun<S, L>> {
     stream: &'s S,
     link: L,
     left: Duration,
+    begun: PhantomData<K>,
+    ghost timed: { ∥ WrittenSince L.Link K.stream K.writes stream.now (link, as_nanos left) ∥₁ },
 }
 
-impl<'s, S, L: Link<S>> TimedWriter<'s, S, L> {
-    pub fn new(stream: &'s S, link: L) -> TimedWriter<'s, S, L>
-        ensures { as_nanos result.left ≡ PATIENCE }
+impl<'s, S, L: Link<S>, K: Begun<S, L>> TimedWriter<'s, S, L, K> {
+    pub fn new(stream: &'s S, link: L) -> TimedWriter<'s, S, L, K>
+        requires stream { K.stream ≡ Some stream.now }
+        requires link { K.writes ≡ Some link }
+        ensures { (result.stream.now ≡ stream.now) × (result.link ≡ link) }
     {
         TimedWriter {
             stream,
             link,
             left: patience(),
+            begun: PhantomData,
         }
+    }
+
+    /// The link, when nothing more is written.
+    pub fn into_link(self) -> L
+        ensures { result ≡ self.entry.link }
+    {
+        self.link
     }
 }
 
-impl<'s, S, L: Link<S>> Write for TimedWriter<'s, S, L> {
+impl<'s, S, L: Link<S>, K: Begun<S, L>> Write for TimedWriter<'s, S, L, K> {
+    ghost contents = { λ w. L.contents w.stream.now w.link };
+
     fn write(&mut self, bytes: &[u8]) -> io::Result<usize>
         ensures bound { WritesAtMost result bytes.now }
-        ensures bytes { WriteAppends None None result bytes.now }
+        ensures bytes { WriteAppends (L.contents self.old.stream.now self.old.link)
+            (L.contents self.new.stream.now self.new.link) result bytes.now }
         ensures past { as_nanos self.old.left ≡ 0 → OnOk result ⊥ }
         ensures less { as_nanos self.new.left ≤ as_nanos self.old.left }
         ensures timed { CallInTime (L.writes_limited self.old.stream.now) L.clock_read
@@ -224,6 +305,8 @@ impl<'s, S, L: Link<S>> Write for TimedWriter<'s, S, L> {
     /// Nothing is held back.
     fn flush(&mut self) -> io::Result<()>
         ensures done { IsOk result }
+        ensures bytes { Keeps (L.contents self.old.stream.now self.old.link)
+            (L.contents self.new.stream.now self.new.link) }
         ensures same { self.new ≡ self.old }
     {
         Ok(())

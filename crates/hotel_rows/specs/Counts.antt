@@ -1,6 +1,6 @@
 -- What is counted of plain rows: the rooms of each kind, and the nights of the stays; and which rows can be counted.
 use Rattle.std.specs.Prelude.{◌≡◌, ◌+◌, ◌-◌, ◌^◌, ◌==◌, ◌&&◌, ℕ, Bool, true, not, nat_le, nat_lt, length}
-use Rattle.std.specs.Prelude.{List, map, Option, option_map, bytes_eq, string_bytes}
+use Rattle.std.specs.Prelude.{List, map, Option, Some, None, option_map, Result, Ok, Err, bytes_eq, string_bytes}
 use Rattle.std.specs.List.{list_all, list_any, count_by}
 use Rattle.std.specs.Map.{values_of}
 use Rattle.keycard_rules.specs.declared.numbers.TheConstants.{LAST_NUMBER, LAST_ROOM}
@@ -14,7 +14,9 @@ use Rattle.hotel_rows.specs.declared.stored.PlainKind.{PlainKind}
 use Rattle.hotel_rows.specs.declared.stored.PlainRoom.{PlainRoom}
 use Rattle.hotel_rows.specs.declared.stored.PlainStay.{PlainStay}
 use Rattle.hotel_rows.specs.declared.stored.Stored.{Stored}
+use Rattle.hotel_rows.specs.declared.stored.TableName.{TableName}
 use Rattle.hotel_rows.specs.declared.counts.Counts.{Counts}
+use Rattle.hotel_rows.specs.Damage.{first_damaged_of}
 use Rattle.hotel_rows.specs.Stored.{number_of, kind_text, stay_entry}
 use Rattle.hotel_rows.specs.RowTests.{is_number_up_to, is_room_of_kind}
 
@@ -58,3 +60,8 @@ are_rooms_of plain_kinds plain_rooms =
     list_all (λ kind. is_kind (kind_text kind)) plain_kinds
     && list_all (λ room. names_kind (string_bytes room.kind) plain_kinds) plain_rooms
     && nat_le (length plain_rooms) LAST_ROOM
+
+-- What is counted of rows of which no table is damaged, or the first damaged table.
+abbrev pub IsTested : Stored → Result Counts TableName → Type 0
+IsTested s (Ok counts) = (first_damaged_of s ≡ None) × IsCountedOf s counts
+IsTested s (Err table) = first_damaged_of s ≡ Some table

@@ -3,13 +3,12 @@ ghost use Rattle.std.specs.Prelude.{◌≡◌, ◌+◌, ◌-◌, ◌^◌, ◌≤
 ghost use Rattle.std.specs.Result.{IfErr};
 ghost use Rattle.std.specs.List.{list_all, count_by};
 ghost use Rattle.std.specs.Map.{keys_of, values_of};
-ghost use Rattle.keycard_rules.specs.declared.issued.LookFault.TheVariants.{Memory, Store};
+ghost use Rattle.keycard_rules.specs.declared.issued.LookFault.TheVariants.{Store};
 ghost use Rattle.hotel_nights.specs.Block.{one_if};
 ghost use Rattle.hotel_nights.specs.Kinds.{is_kind};
 ghost use Rattle.hotel_core.specs.KindRooms.{is_there, rooms_in};
 ghost use Rattle.hotel_core.specs.NightIndex.{CountsNights};
 ghost use Rattle.hotel_rows.specs.Stored.{kind_text, stay_row, stay_entry};
-ghost use Rattle.hotel_rows.specs.Damage.{first_damaged_of};
 ghost use Rattle.hotel_rows.specs.RowTests.{is_room_of_kind};
 ghost use Rattle.hotel_rows.specs.Counts.{IsCountedOf, KnowsKinds, are_rooms_of, tells_stay};
 
@@ -18,7 +17,7 @@ use crate::stored::{PlainKind, PlainRoom, PlainStay, Stored};
 use crate::values::{counted, day, guest, kind_code, stay_state};
 use hotel_core::{KindRooms, NightIndex};
 use hotel_nights::Stay;
-use keycard_rules::LookFault;
+use keycard_rules::{LookFault, Memory};
 use std::alloc::Global;
 
 /// What books keep in memory of their rows.
@@ -112,14 +111,20 @@ fn count_nights(alloc: Global, stored: &Stored) -> Result<NightIndex, LookFault>
     Ok(nights)
 }
 
-/// What is counted of the rows.
-///
-/// `Store` only where a table is damaged, and not for each damage; `Memory` only where a growth was refused.
-pub fn counts_of(alloc: Global, stored: &Stored) -> Result<Counts, LookFault>
-    ensures ok { IfOk result (IsCountedOf stored.now) }
-    ensures err { first_damaged_of stored.now ≡ None → IfErr result (λ why. why ≡ Memory) }
+/// What is counted of the rows, which can be counted.
+pub(crate) fn counts_of(alloc: Global, stored: &Stored) -> Result<Counts, Memory>
+    requires rooms { are_rooms_of stored.now.kind.items stored.now.room.items ≡ true }
+    requires stays { list_all tells_stay stored.now.stay.items ≡ true }
+    ensures { IfOk result (IsCountedOf stored.now) }
 {
-    let kinds = count_rooms(alloc, &stored.kind, &stored.room)?;
-    let nights = count_nights(alloc, stored)?;
-    Ok(Counts { kinds, nights })
+    let kinds = match count_rooms(alloc, &stored.kind, &stored.room) {
+        Ok(kinds) => kinds,
+        Err(LookFault::Memory) => return Err(Memory),
+        Err(LookFault::Store) => unreachable!(),
+    };
+    match count_nights(alloc, stored) {
+        Ok(nights) => Ok(Counts { kinds, nights }),
+        Err(LookFault::Memory) => Err(Memory),
+        Err(LookFault::Store) => unreachable!(),
+    }
 }

@@ -2,6 +2,7 @@
 ghost use Rattle.std.specs.Prelude.{◌≡◌, ◌∷◌, [], true, IfOk};
 ghost use Rattle.std.specs.List.{list_all};
 ghost use Rattle.hotel_rows.specs.declared.stored.TableName.TheVariants as table;
+ghost use Rattle.hotel_rows.specs.Counts.{IsTested};
 ghost use Rattle.hotel_rows.specs.Damage.{UndamagedIsSound, first_damaged_of, first_of_tables};
 ghost use Rattle.hotel_rows.specs.Stored.{plain_fits};
 ghost use Rattle.hotel_rows.specs.Known.{IsOfRows};
@@ -25,6 +26,7 @@ mod placed;
 mod rooms;
 mod stays;
 
+use crate::counts::Counts;
 use crate::damage::cards::cards_hold;
 use crate::damage::codes::codes_hold;
 use crate::damage::fit_runs::room_fits;
@@ -76,34 +78,51 @@ fn first_of_later(
     Ok(None)
 }
 
-/// The first damaged table of rows whose fits are these.
-fn first_with(
+/// What books count of rows whose fits are these, or the first damaged table.
+fn counts_with(
     alloc: Global,
     stored: &Stored,
     plain: &[PlainFit],
-) -> Result<Option<TableName>, Memory>
+) -> Result<Result<Counts, TableName>, Memory>
     requires { plain.now ≡ plain_fits stored.now }
-    ensures { IfOk result (λ first. first ≡ first_damaged_of stored.now) }
+    ensures { IfOk result (IsTested stored.now) }
 {
     if !meta_holds(stored) {
-        return Ok(Some(TableName::Meta));
+        return Ok(Err(TableName::Meta));
     }
     let kinds = kinds_hold(alloc, stored)?;
     let Some(kinds) = kinds else {
-        return Ok(Some(TableName::Kind));
+        return Ok(Err(TableName::Kind));
     };
     let places = places_of(alloc, stored)?;
     let fits = room_fits(alloc, plain)?;
     let rooms = rooms_hold(alloc, &kinds, &places, &fits, stored)?;
     if !rooms {
-        return Ok(Some(TableName::Room));
+        return Ok(Err(TableName::Room));
     }
-    let stays = stays_hold(alloc, &kinds, &places, stored)?;
-    if !stays {
-        return Ok(Some(TableName::Stay));
-    }
+    let counts = stays_hold(alloc, &kinds, &places, stored)?;
+    let Some(counts) = counts else {
+        return Ok(Err(TableName::Stay));
+    };
     let known = known_of(alloc, stored, places, fits)?;
-    first_of_later(alloc, &known, stored, plain)
+    let first = first_of_later(alloc, &known, stored, plain)?;
+    let Some(table) = first else {
+        return Ok(Ok(counts));
+    };
+    Ok(Err(table))
+}
+
+/// What books count of the rows, or the first table, in the order of their names, of which a rule fails.
+///
+/// `Memory` only where a growth was refused.
+pub fn counts_if_sound(alloc: Global, stored: &Stored) -> Result<Result<Counts, TableName>, Memory>
+    ensures { IfOk result (IsTested stored.now) }
+{
+    let Some(fits) = &stored.fit else {
+        let fits = first_fits(alloc, &stored.room)?;
+        return counts_with(alloc, stored, &fits);
+    };
+    counts_with(alloc, stored, fits)
 }
 
 /// The first table, in the order of their names, of which a rule fails.
@@ -112,11 +131,10 @@ fn first_with(
 pub fn first_damaged(alloc: Global, stored: &Stored) -> Result<Option<TableName>, Memory>
     ensures { IfOk result (λ first. first ≡ first_damaged_of stored.now) }
 {
-    let Some(fits) = &stored.fit else {
-        let fits = first_fits(alloc, &stored.room)?;
-        return first_with(alloc, stored, &fits);
-    };
-    first_with(alloc, stored, fits)
+    match counts_if_sound(alloc, stored)? {
+        Ok(_counts) => Ok(None),
+        Err(table) => Ok(Some(table)),
+    }
 }
 
 /// A law, which makes no call: no table is damaged exactly where the rows are sound in the sense of the core and each

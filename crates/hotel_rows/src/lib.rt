@@ -16,8 +16,8 @@ mod rooms;
 mod stored;
 pub mod values;
 
-pub use counts::{Counts, counts_of};
-pub use damage::{first_damaged, undamaged_is_sound};
+pub use counts::Counts;
+pub use damage::{counts_if_sound, first_damaged, undamaged_is_sound};
 pub use rooms::rooms_of;
 pub use stored::{
     PlainCard, PlainCode, PlainFit, PlainInside, PlainKind, PlainNote, PlainRoom, PlainStay,

@@ -4,7 +4,6 @@ use crate::line_asks::ask_of;
 use crate::scenarios::{Scenario, Step};
 use hotel_asks::Ask;
 use hotel_core::Walks;
-use hotel_lists::IoCalls;
 use hotel_program::{ScriptEnd, run_audit, run_list, run_script};
 use keycard_rules::ListedWords;
 use std::alloc::Global;
@@ -37,7 +36,6 @@ impl<B: Walks> Desk<B> {
             writer,
             &mut self.books,
             &mut self.source,
-            &mut IoCalls::none(),
         ) {
             Ok(ScriptEnd { lines: 1 }) => Ok(()),
             _ => Err(Fail::from("no line")),

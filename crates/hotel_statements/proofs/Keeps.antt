@@ -1,11 +1,15 @@
 -- What a look-up leaves of the books.
 use Rattle.std.proofs.Common.{◌≡◌, ◌⊎◌, inl, inr, sym, subst, ◌∙◌, List, [], ℕ, false, Option, None, Some, Ok, Err}
 use Rattle.std.proofs.Common.{Result, IsTrue, arith}
+use Rattle.std.specs.Prelude.{OnOk, IfErr}
+use Rattle.sqlite_trees.specs.declared.store.Store.{Ghosts}
+use Rattle.sqlite.specs.Held.{Held, state}
+use Rattle.sqlite.specs.Given.{HasBegun}
 use Rattle.sqlite.specs.Order.{Row}
 use Rattle.sqlite.specs.Tree.{Trees}
 use Rattle.sqlite.specs.Listing.{understood}
 use Rattle.sqlite.specs.State.{State, HasCleanDisk, QueriesRow, Shown, FailsToQuery, IsNotRun, IsUnchanged}
-use Rattle.sqlite.specs.State.{IsRolledBack, Survives, ShowsRows, FailsToShow, store_error}
+use Rattle.sqlite.specs.State.{IsRolledBack, Survives, ShowsRows, FailsToShow, Fails, store_error}
 use Rattle.sqlite_trees.specs.declared.error.StoreError.{StoreError}
 use Rattle.sqlite_trees.specs.declared.error.StoreError.TheVariants.{OutOfMemory}
 use Rattle.sqlite.specs.declared.error.Error.TheVariants.{QueryReturnedNoRows}
@@ -168,6 +172,29 @@ pub first_unchanged : (sql : List ℕ) (params : Row) (old new : State) (row : R
 unfolding QueriesRow
 first_unchanged sql params old new row plain (inl h) = h.1
 first_unchanged sql params old new row plain (inr h) = shown_unchanged sql params old new h.0 plain h.1
+
+-- ---- a query that began
+
+pub begun_opened : {S : Type 0} (g : Ghosts S) (text : List ℕ) (params : Row) (old new : Held S)
+    → HasBegun g text params old new → IsTrue (state g old).is_open
+begun_opened g text params old new (inl h) = h.1.0.was_open
+begun_opened g text params old new (inr h) = shown_opened text params (state g old) (state g new) _ h.1
+
+pub begun_is_open : {S : Type 0} (g : Ghosts S) (text : List ℕ) (params : Row) (old new : Held S)
+    → HasBegun g text params old new → IsTrue (state g new).is_open
+begun_is_open g text params old new (inl h) = h.1.0.is_open
+begun_is_open g text params old new (inr h) = shown_is_open text params (state g old) (state g new) _ h.1
+
+-- and its next row
+
+pub next_stays : {R : Type 0} (old new : State) (result : Result R Error) → OnOk result (IsUnchanged old new)
+    → IfErr result (λ e. Fails old new ⊥ e ⊎ IsUnchanged old new) → Stays old new
+next_stays old new (Ok row) same kept = inl same
+next_stays old new (Err e) same kept = elim kept [ inl fails ↦ inr fails.3 | inr still ↦ inl still ]
+
+pub next_opened : (old new : State) → Stays old new → IsTrue new.is_open → IsTrue old.is_open
+next_opened old new (inl same) is_open = same.0.was_open
+next_opened old new (inr back) is_open = back.was_open is_open
 
 -- ---- two look-ups, the first of which was answered
 

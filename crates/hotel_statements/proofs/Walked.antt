@@ -34,8 +34,8 @@ use Rattle.hotel_statements.specs.Schema.{desk_schema}
 use Rattle.hotel_statements.specs.Books.{IsDesk, IsKept, IsBooks, KeepsRows}
 use Rattle.hotel_statements.specs.LookUps.{Asks, LeavesNoMore, fault_of, ShowsUnread}
 use Rattle.hotel_statements.specs.Walks.{SaysRows, HandsOne, WalkFails, WalksRows}
-use Rattle.hotel_statements.proofs.Keeps.{Stays, keeps_books, keeps_rows, then_keeps, then_survives, shown_opened}
-use Rattle.hotel_statements.proofs.Keeps.{shown_is_open}
+use Rattle.hotel_statements.proofs.Keeps.{Stays, keeps_books, keeps_rows, then_keeps, then_survives, begun_opened}
+use Rattle.hotel_statements.proofs.Keeps.{begun_is_open, next_stays, next_opened}
 use Rattle.hotel_statements.proofs.Since.{then_unchanged, error_later, clean_before}
 use Rattle.hotel_statements.proofs.Looked.{command_is, plain_in, all_crash, fault_books, fault_keeps}
 
@@ -82,7 +82,7 @@ answers_on text params q asks old s books kept same given start =
     (command_is q _ asks.query).1 asks.plain asks.listing given start).1 in
     (first.0, subst (λ (d : Database). IsAnswer q (overlay d.trees []) params (given ++ first.0)) same (first.1 Null))
 
-not_all : (P : Row → Type 0) (given : List Row) (row : Row) (tail : List Row) → ¬ P row
+pub not_all : (P : Row → Type 0) (given : List Row) (row : Row) (tail : List Row) → ¬ P row
     → ¬ All P ((given ++ row ∷ []) ++ tail)
 not_all P [] row tail unread all = unread (all 0 row (omega arith))
 not_all P (r ∷ given) row tail unread all =
@@ -128,15 +128,6 @@ pub record IsUnderWay {S A K : Type 0} (g : Ghosts S) (of : Row → A) (after : 
   pub takes : Passes after sink taken end
   pub given : IsKept (state g now) → (rows : List Row) × HasGiven g text params now rows × (taken ≡ map of rows)
 
-stays_after : {R : Type 0} (old new : State) (result : Result R Error)
-    → OnOk result (IsUnchanged old new) → IfErr result (λ e. Fails old new ⊥ e ⊎ IsUnchanged old new) → Stays old new
-stays_after old new (Ok row) same kept = inl same
-stays_after old new (Err e) same kept = elim kept [ inl fails ↦ inr fails.3 | inr still ↦ inl still ]
-
-opened : (old new : State) → Stays old new → IsTrue new.is_open → IsTrue old.is_open
-opened old new (inl same) is_open = same.0.was_open
-opened old new (inr back) is_open = back.was_open is_open
-
 module _ {S A K : Type 0} (g : Ghosts S) (of : Row → A) (IsReadable : Row → Type 0)
     (after after_stop : K → A → K → Type 0) (text : List ℕ)
     (params : Row) (old : Held S) (sink : K) where
@@ -158,14 +149,14 @@ module _ {S A K : Type 0} (g : Ghosts S) (of : Row → A) (IsReadable : Row → 
         let stays : HasCleanDisk (state g new) → IsDesk (state g old) → Stays (state g old) (state g new) =
         λ clean desk. inl (begun_plain g text params old new (plain desk) (begun clean)).1 in
         let keeps = keeps_rows (state g old) (state g new) _ books mode survives stays
-        (λ clean is_open. begun_opened (begun clean)) in
+        (λ clean is_open. begun_opened g text params old new (begun clean)) in
         record {
           books = keeps_books (state g old) (state g new) _ books mode survives stays
-              (λ clean is_open. begun_opened (begun clean));
+              (λ clean is_open. begun_opened g text params old new (begun clean));
           keeps = keeps;
           crash = all_crash text params (state g old) (state g new) books asks mode survives;
           unchanged = λ clean.
-              let before = (keeps (clean, begun_is_open (begun clean))).0 in
+              let before = (keeps (clean, begun_is_open g text params old new (begun clean))).0 in
               (begun_plain g text params old new (plain (books.desk before)) (begun clean)).1;
           counted = refl;
           taken = [];
@@ -173,14 +164,6 @@ module _ {S A K : Type 0} (g : Ghosts S) (of : Row → A) (IsReadable : Row → 
           given = λ kept.
               ([], (begun_plain g text params old new (plain (books.desk (keeps kept).0)) (begun kept.0)).0, refl);
         }
-      where
-        begun_opened : HasBegun g text params old new → IsTrue (state g old).is_open
-        begun_opened (inl h) = h.1.0.was_open
-        begun_opened (inr h) = shown_opened text params (state g old) (state g new) _ h.1
-
-        begun_is_open : HasBegun g text params old new → IsTrue (state g new).is_open
-        begun_is_open (inl h) = h.1.0.is_open
-        begun_is_open (inr h) = shown_is_open text params (state g old) (state g new) _ h.1
 
     pub refused : (rows : List A) (e : Error)
         → (HasCleanDisk (state g new) → FailsToQuery text params (state g old) (state g new) e)
@@ -213,17 +196,17 @@ module _ {S A K : Type 0} (g : Ghosts S) (of : Row → A) (IsReadable : Row → 
       (count : ℕ) (so_far : Walking mid.conn.now now count) where
     after_next : HasCleanDisk (state g new.conn.now) → Stays (state g mid.conn.now) (state g new.conn.now)
     after_next clean =
-        stays_after (state g mid.conn.now) (state g new.conn.now) result (moved.same clean) (moved.kept clean)
+        next_stays (state g mid.conn.now) (state g new.conn.now) result (moved.same clean) (moved.kept clean)
 
     still_books : IsBooks (state g new.conn.now)
     still_books = keeps_books (state g mid.conn.now)
         (state g new.conn.now) _ so_far.books moved.mode moved.survives (λ clean _. after_next clean)
-        (λ clean. opened (state g mid.conn.now) (state g new.conn.now) (after_next clean))
+        (λ clean. next_opened (state g mid.conn.now) (state g new.conn.now) (after_next clean))
 
     one_keeps : KeepsRows (state g mid.conn.now) (state g new.conn.now)
     one_keeps = keeps_rows (state g mid.conn.now)
         (state g new.conn.now) _ so_far.books moved.mode moved.survives (λ clean _. after_next clean)
-        (λ clean. opened (state g mid.conn.now) (state g new.conn.now) (after_next clean))
+        (λ clean. next_opened (state g mid.conn.now) (state g new.conn.now) (after_next clean))
 
     still_keeps : KeepsRows (state g old) (state g new.conn.now)
     still_keeps = then_keeps (state g old) (state g mid.conn.now) (state g new.conn.now) so_far.keeps one_keeps

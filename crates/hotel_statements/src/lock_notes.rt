@@ -23,7 +23,7 @@ fn give_note<S: Alter>(
         (note_given note.now number lock_place secured) tx.old.conn.now tx.new.conn.now result }
 {
     insert_note(tx, note, number)?;
-    set_noted(tx, note.room(), lock_place, secured, number)
+    set_noted(tx, note.room, lock_place, secured, number)
 }
 
 /// Takes a note of a room's present lock, whose number isn't there: adds it, sets what follows of it for its room, and
@@ -45,11 +45,11 @@ pub fn take_note<S: Alter>(
         InsideMove::Same => give_note(tx, note, number, lock_place, secured),
         InsideMove::Goes(card) => {
             give_note(tx, note, number, lock_place, secured)?;
-            delete_inside(tx, note.room(), card)
+            delete_inside(tx, note.room, card)
         }
         InsideMove::Comes(card) => {
             give_note(tx, note, number, lock_place, secured)?;
-            insert_inside(tx, note.room(), card)
+            insert_inside(tx, note.room, card)
         }
     }
 }

@@ -266,7 +266,7 @@ pub fn note<S: Alter>(
         return Ok(None);
     };
     let note = note_with(&bare, &fits)?;
-    if note.fit() == fit {
+    if note.fit == fit {
         Ok(Some(note))
     } else {
         Ok(None)

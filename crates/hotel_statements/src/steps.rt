@@ -131,19 +131,19 @@ pub(crate) fn insert_note<S: Alter>(
     ensures makes { WritesBy S.Store (adds_note note.now number ∷ []) (IsNewNote note.now number)
         (note_added note.now number) tx.old.conn.now tx.new.conn.now result }
 {
-    let act = note.act();
+    let act = note.act;
     run(
         tx,
         INSERT_NOTE,
         &[
-            numbered(note.room()),
+            numbered(note.room),
             small(number),
             act_number(&act),
             act_card(&act),
             act_first(&act),
             act_second(&act),
-            small(u32::from(note.day())),
-            small(note.second()),
+            small(u32::from(note.day)),
+            small(note.second),
         ],
     )
 }

@@ -1,5 +1,5 @@
 //! The tables, read whole.
-ghost use Rattle.std.specs.Prelude.{◌≡◌, ◌≢◌, ◌⊎◌, map, IfOk, IfErr, All};
+ghost use Rattle.std.specs.Prelude.{◌≡◌, ◌≢◌, ◌⊎◌, ◌++◌, [], ◌∷◌, map, IfErr, OnOk};
 ghost use Rattle.std.specs.List.{list_all};
 ghost use Rattle.std.specs.Ordering.{is_lt};
 ghost use Rattle.sqlite.specs.Held.{state};
@@ -13,30 +13,29 @@ ghost use Rattle.hotel_statements.specs.PlainRows.{ArePlainRows};
 use crate::from_row::fault_of;
 use crate::plain_rows::{NumberedInside, Plain, PlainMeta, PlainRow};
 use crate::version::Version;
+use crate::walk::MOST_ROWS;
 use hotel_rows::{PlainCard, PlainCode, PlainFit, PlainKind, PlainNote, PlainRoom, PlainStay};
 use keycard_rules::LookFault;
 use sqlite::{Alter, Connection, Row};
 use std::alloc::Global;
 
-/// The rows that were shown, as plain data.
-fn plain_rows_of<L: PlainRow + Drop>(alloc: Global, rows: &[Row]) -> Result<Vec<L>, LookFault>
-    ensures reads { IfOk result (λ plain_rows. map L.PlainRow.shown plain_rows.items ≡ map L.PlainRow.cut rows.now) }
-    ensures unread { IfErr result (λ fault. fault ≢ LookFault.Memory → ¬ All (BeginsAs L.PlainRow.shown) rows.now) }
+/// Adds a row that was shown, as plain data.
+fn add_plain<L: PlainRow + Drop>(plain_rows: &mut Vec<L>, row: &Row) -> Result<(), LookFault>
+    ensures adds { OnOk result (map L.PlainRow.shown plain_rows.new.items
+        ≡ map L.PlainRow.shown plain_rows.old.items ++ L.PlainRow.cut row.now ∷ []) }
+    ensures unread { IfErr result (λ fault. fault ≢ LookFault.Memory → ¬ BeginsAs L.PlainRow.shown row.now) }
 {
-    let mut plain_rows = Vec::new(alloc);
-    'rows: for i in 0..rows.len() {
-        let plain = match L::of_row(&rows[i]) {
-            Ok(plain) => plain,
-            Err(error) => return Err(fault_of(error)),
-        };
-        if plain_rows.push(plain).is_err() {
-            return Err(LookFault::Memory);
-        }
+    let plain = match L::of_row(row) {
+        Ok(plain) => plain,
+        Err(error) => return Err(fault_of(error)),
+    };
+    if plain_rows.push(plain).is_err() {
+        return Err(LookFault::Memory);
     }
-    Ok(plain_rows)
+    Ok(())
 }
 
-/// The rows of a table, in the order of its key.
+/// The rows of a table, in the order of its key, of which few are read ahead.
 fn read_table<S: Alter, L: PlainRow + Drop>(
     alloc: Global,
     conn: &mut Connection<S>,
@@ -48,10 +47,20 @@ fn read_table<S: Alter, L: PlainRow + Drop>(
         (λ plain_rows db. ArePlainRows L.PlainRow.columns L.PlainRow.shown plain_rows.items (db L.PlainRow.tree))
         (state S.Store conn.old) (state S.Store conn.new) result }
 {
-    match conn.query_all(L::text(), &[]) {
-        Ok(rows) => plain_rows_of(alloc, &rows),
-        Err(error) => Err(fault_of(error)),
+    let mut plain_rows = Vec::new(alloc);
+    let mut rows = match conn.query(L::text(), &[]) {
+        Ok(rows) => rows,
+        Err(error) => return Err(fault_of(error)),
+    };
+    'rows: for _i in 0..MOST_ROWS {
+        match rows.next() {
+            Ok(Some(row)) => add_plain(&mut plain_rows, row)?,
+            Ok(None) => return Ok(plain_rows),
+            Err(error) => return Err(fault_of(error)),
+        }
     }
+    // No memory holds so many rows.
+    Err(LookFault::Memory)
 }
 
 /// The rows of two tables.

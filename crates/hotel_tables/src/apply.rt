@@ -58,7 +58,7 @@ fn write_change<S: Alter>(
             secured,
             insides,
         } => {
-            let number = known.before + note.count().value();
+            let number = known.before + note.count.value();
             take_note(tx, note, number, *lock_place, *secured, *insides)
         }
     }
@@ -97,7 +97,7 @@ fn can_count(change: &Change, known: Known) -> bool
     match change {
         Change::Issue { .. } => known.codes < u32::MAX,
         Change::Refit { .. } => known.codes < u32::MAX,
-        Change::Noted { note, .. } => known.before <= u32::MAX - note.count().value(),
+        Change::Noted { note, .. } => known.before <= u32::MAX - note.count.value(),
         _ => true,
     }
 }
@@ -142,7 +142,7 @@ fn told_for<S: Alter>(
     match change {
         Change::Issue { room, .. } => look_ups::known_by_room(alloc, conn, *room),
         Change::Refit { room, .. } => look_ups::known_by_room(alloc, conn, *room),
-        Change::Noted { note, .. } => known_by_fit(alloc, conn, note.room(), note.fit()),
+        Change::Noted { note, .. } => known_by_fit(alloc, conn, note.room, note.fit),
         _ => Ok(Some(Known {
             codes: 0,
             notes: 0,

@@ -18,9 +18,7 @@ ghost use Rattle.hotel_tables.specs.Opening.{fits_rise, fits_natural, all_rise, 
 ghost use Rattle.hotel_tables.specs.Opening.{fault_for, rooms_for};
 
 use crate::open_fault::OpenFault;
-use hotel_rows::{
-    Counts, PlainFit, PlainInside, PlainRoom, Stored, counts_of, first_damaged, rooms_of,
-};
+use hotel_rows::{Counts, PlainFit, PlainInside, PlainRoom, Stored, counts_if_sound, rooms_of};
 use hotel_statements::Version;
 use hotel_statements::plain_rows::{self, NumberedInside, PlainMeta};
 use hotel_statements::whole_tables::{self, Tables, read_tables, rise};
@@ -207,18 +205,15 @@ fn sound_counts(alloc: Global, stored: &Stored) -> Result<Counts, OpenFault>
     ensures err { (version : Version) (db : Trees) → AreStored version stored.now db
         → IfErr result (FaultFits ⊥ version db) }
 {
-    match first_damaged(alloc, stored) {
-        Ok(None) => {}
-        Ok(Some(table)) => return Err(OpenFault::Damaged(table)),
+    let counts = match counts_if_sound(alloc, stored) {
+        Ok(Ok(counts)) => counts,
+        Ok(Err(table)) => return Err(OpenFault::Damaged(table)),
         Err(Memory) => return Err(OpenFault::Memory),
-    }
+    };
     if !all_natural(stored) {
         return Err(OpenFault::Store);
     }
-    match counts_of(alloc, stored) {
-        Ok(counts) => Ok(counts),
-        Err(why) => Err(open_fault(why)),
-    }
+    Ok(counts)
 }
 
 /// The rooms whose first fits an upgrade adds: those of a desk of the first version, in order.

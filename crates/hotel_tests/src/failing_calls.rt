@@ -1,12 +1,15 @@
-//! A script and a request of which each write fails in turn: how many commands they say that stand, which the built
-//! program doesn't tell. `.ci/failures` has its reads and writes fail, take no byte and be interrupted, and asks again.
-use crate::wrong_calls::{Wrong, WrongWriter};
+//! A script and a request of which each read and each write fails in turn, or calls are interrupted: how many commands
+//! they say that stand, which the built program doesn't tell. `.ci/failures` has its reads and writes fail, take no
+//! byte and be interrupted, and asks again.
+use crate::one_byte::{OneByteReader, OneByteWriter};
 use hotel_core::Walks;
 use hotel_http::{ServeFault, serve_one};
-use hotel_lists::IoCalls;
+use hotel_lists::{FailingReader, FailingWriter, FullWriter, InterruptedReader, InterruptedWriter};
 use hotel_program::{ScriptFault, run_script};
 use hotel_scenarios::desks::Desk;
 use hotel_scenarios::scenarios::{OPENED, Step};
+use std::alloc::Global;
+use std::io::{Read, Write};
 use std::process::Abort;
 use std::test::Fail;
 
@@ -17,12 +20,29 @@ enum Call {
     Request,
 }
 
+/// How a script or a request ends.
+#[derive(Clone, Copy, PartialEq, Eq)]
+enum End {
+    /// All of it is carried out, and the answer is written.
+    Whole,
+    /// A read fails.
+    Unread,
+    /// A write fails, and so many commands and lists stand.
+    Unwritten(u32),
+    /// By another fault.
+    Other,
+}
+
 /// What is asked of a desk behind parts of scenarios, and its answer.
 #[derive(Clone, Copy)]
 struct Asked {
     call: Call,
     parts: &'static [&'static [Step]],
     input: &'static [u8],
+    /// How many reads it takes, of one byte each. That of a script's end is one of them.
+    reads: u32,
+    /// Behind how many of them a front of the answer is written, and of how many bytes.
+    early: (u32, usize),
     /// Behind how many bytes of the answer each command and list was carried out.
     starts: &'static [usize],
     answer: &'static [u8],
@@ -32,6 +52,8 @@ static SCRIPT: Asked = Asked {
     call: Call::Script,
     parts: &[],
     input: b"begin 2031-05-01\nadd-kind DBL\nadd-room 101 DBL\nchain 101\n",
+    reads: 58,
+    early: (58, 0),
     starts: &[0, 6, 17, 40],
     answer: b"begun\nkind added\nroom code 0000000000a0\nplace,code,state\n0,0000000000a0,held\n",
 };
@@ -46,6 +68,8 @@ Content-Length: 8\r
 Expect: 100-continue\r
 \r
 room=101",
+    reads: 103,
+    early: (95, 25),
     starts: &[25],
     answer: b"\
 HTTP/1.1 100 Continue\r
@@ -59,85 +83,132 @@ card 1 party 1 old 0000000000a0 new 0000000000a1
 ",
 };
 
-/// How many commands and lists of the script stand, where a write fails.
-fn stand_of_script(
-    script: &[u8],
+/// How the script ends.
+fn end_of_script<I: Read, O: Write>(
     desk: &mut Desk<impl Walks>,
-    writer: &mut WrongWriter,
-) -> Option<u32> {
-    let mut reader = script;
+    reader: &mut I,
+    writer: &mut O,
+) -> End {
     let end = run_script(
         desk.alloc,
-        &mut reader,
+        reader,
         writer,
         &mut desk.books,
         &mut desk.source,
-        &mut IoCalls::none(),
     );
     match end {
-        Err(ScriptFault::Write { done }) => Some(done),
-        _ => None,
+        Ok(_) => End::Whole,
+        Err(ScriptFault::Read) => End::Unread,
+        Err(ScriptFault::Write { done }) => End::Unwritten(done),
+        Err(_) => End::Other,
     }
 }
 
-/// How many commands of the request stand, where a write fails.
-fn stand_of_request(
-    request: &[u8],
+/// How the request ends.
+fn end_of_request<I: Read, O: Write>(
     desk: &mut Desk<impl Walks>,
-    writer: &mut WrongWriter,
-) -> Option<u32> {
-    let mut reader = request;
+    reader: &mut I,
+    writer: &mut O,
+) -> End {
     let end = serve_one(
         desk.alloc,
-        &mut reader,
+        reader,
         writer,
         &mut desk.books,
         &mut desk.source,
     );
     match end {
-        Err(ServeFault::Write { acted }) => Some(if acted { 1 } else { 0 }),
-        _ => None,
+        Ok(_) => End::Whole,
+        Err(ServeFault::Read) => End::Unread,
+        Err(ServeFault::Write { acted }) => End::Unwritten(if acted { 1 } else { 0 }),
+        Err(_) => End::Other,
     }
 }
 
 impl Asked {
-    /// How many commands and lists are carried out where so many bytes are written.
-    fn done_behind(&self, bytes: usize) -> u32 {
+    /// The desk that is asked.
+    fn desk(&self, alloc: Global) -> Result<Desk, Fail> {
+        Desk::behind(alloc, &[0xa0, 0xa1], self.parts)
+    }
+
+    /// How it ends over these streams.
+    fn end_over<I: Read, O: Write>(
+        &self,
+        desk: &mut Desk<impl Walks>,
+        reader: &mut I,
+        writer: &mut O,
+    ) -> End {
+        match self.call {
+            Call::Script => end_of_script(desk, reader, writer),
+            Call::Request => end_of_request(desk, reader, writer),
+        }
+    }
+
+    /// How it ends where a write goes wrong behind so many bytes: what was begun before them stands.
+    fn end_behind(&self, bytes: usize) -> End {
         let mut done = 0u32;
         for start in self.starts {
             if *start <= bytes {
                 done = done.saturating_add(1);
             }
         }
-        done
+        End::Unwritten(done)
+    }
+
+    /// So many bytes of the answer.
+    fn front(&self, bytes: usize) -> Result<&'static [u8], Fail> {
+        Ok(self.answer.get(..bytes).ok_or("a front")?)
     }
 }
 
-/// A write goes wrong so behind so many bytes, which were written: what was begun before them stands.
-fn stands_behind(
+/// A write goes wrong behind so many bytes, by this writer.
+fn stops_behind<O: Write>(
     rt: &(impl Abort + AllocGlobal),
     asked: &Asked,
     bytes: usize,
-    wrong: Wrong,
+    writer: &mut O,
 ) -> Result<(), Fail> {
-    let mut desk = Desk::behind(rt.alloc(), &[0xa0, 0xa1], asked.parts)?;
-    let mut writer = WrongWriter::new(rt.alloc(), wrong);
-    let stand = match asked.call {
-        Call::Script => stand_of_script(asked.input, &mut desk, &mut writer),
-        Call::Request => stand_of_request(asked.input, &mut desk, &mut writer),
-    };
-    assert!(rt; stand == Some(asked.done_behind(bytes)));
-    assert!(rt; writer.written() == asked.answer.get(..bytes).ok_or("a front")?);
+    let mut desk = asked.desk(rt.alloc())?;
+    let mut reader = asked.input;
+    assert!(rt; asked.end_over(&mut desk, &mut reader, writer) == asked.end_behind(bytes));
+    Ok(())
+}
+
+/// The write behind so many of one byte each fails.
+fn fails_behind(
+    rt: &(impl Abort + AllocGlobal),
+    asked: &Asked,
+    bytes: usize,
+    good: u32,
+) -> Result<(), Fail> {
+    let writer = OneByteWriter::new(rt.alloc());
+    let mut writer = FailingWriter { writer, good };
+    stops_behind(rt, asked, bytes, &mut writer)?;
+    assert!(rt; writer.writer.written() == asked.front(bytes)?);
+    Ok(())
+}
+
+/// The same of one that takes no byte.
+fn is_full_behind(
+    rt: &(impl Abort + AllocGlobal),
+    asked: &Asked,
+    bytes: usize,
+    good: u32,
+) -> Result<(), Fail> {
+    let writer = OneByteWriter::new(rt.alloc());
+    let mut writer = FullWriter { writer, good };
+    stops_behind(rt, asked, bytes, &mut writer)?;
+    assert!(rt; writer.writer.written() == asked.front(bytes)?);
     Ok(())
 }
 
 /// The write of each byte fails in turn, or takes no byte.
 fn each_write_of(rt: &(impl Abort + AllocGlobal), asked: &Asked) -> Result<(), Fail> {
-    let mut call = 0u32;
+    let mut good = 0u32;
     for bytes in 0..asked.answer.len() {
-        call = call.saturating_add(1);
-        stands_behind(rt, asked, bytes, Wrong::Failing(call))?;
-        stands_behind(rt, asked, bytes, Wrong::Stuck(call))?;
+        fails_behind(rt, asked, bytes, good)?;
+        is_full_behind(rt, asked, bytes, good)?;
+        good = good.saturating_add(1);
     }
     Ok(())
 }
@@ -146,4 +217,85 @@ fn each_write_of(rt: &(impl Abort + AllocGlobal), asked: &Asked) -> Result<(), F
 fn each_write_fails(rt: HostRuntime) -> Result<(), Fail> {
     each_write_of(&rt, &SCRIPT)?;
     each_write_of(&rt, &REQUEST)
+}
+
+/// Nothing is done yet: asked of the desk, all of it is carried out.
+fn is_still_answered(
+    rt: &(impl Abort + AllocGlobal),
+    asked: &Asked,
+    desk: &mut Desk<impl Walks>,
+) -> Result<(), Fail> {
+    let mut reader = OneByteReader::new(asked.input);
+    let mut writer = Vec::new(rt.alloc());
+    assert!(rt; asked.end_over(desk, &mut reader, &mut writer) == End::Whole);
+    assert!(rt; writer.as_slice() == asked.answer);
+    Ok(())
+}
+
+/// The read behind so many of one byte each fails: no command is begun.
+fn is_unread_behind(rt: &(impl Abort + AllocGlobal), asked: &Asked, good: u32) -> Result<(), Fail> {
+    let mut desk = asked.desk(rt.alloc())?;
+    let reader = OneByteReader::new(asked.input);
+    let mut reader = FailingReader { reader, good };
+    let mut writer = Vec::new(rt.alloc());
+    assert!(rt; asked.end_over(&mut desk, &mut reader, &mut writer) == End::Unread);
+    let (reads, bytes) = asked.early;
+    let bytes = if good < reads { 0 } else { bytes };
+    assert!(rt; writer.as_slice() == asked.front(bytes)?);
+    is_still_answered(rt, asked, &mut desk)
+}
+
+/// The read of each byte fails in turn.
+fn each_read_of(rt: &(impl Abort + AllocGlobal), asked: &Asked) -> Result<(), Fail> {
+    for good in 0..asked.reads {
+        is_unread_behind(rt, asked, good)?;
+    }
+    Ok(())
+}
+
+#[test]
+fn each_read_fails(rt: HostRuntime) -> Result<(), Fail> {
+    each_read_of(&rt, &SCRIPT)?;
+    each_read_of(&rt, &REQUEST)
+}
+
+/// The first reads and the first writes are interrupted, so many of each: it ends so, and this is written.
+fn ends_interrupted(
+    rt: &(impl Abort + AllocGlobal),
+    asked: &Asked,
+    calls: (u32, u32),
+    end: End,
+    written: &[u8],
+) -> Result<(), Fail> {
+    let mut desk = asked.desk(rt.alloc())?;
+    let (reads, writes) = calls;
+    let mut reader = InterruptedReader {
+        reader: asked.input,
+        times: reads,
+    };
+    let mut writer = InterruptedWriter {
+        writer: Vec::new(rt.alloc()),
+        times: writes,
+    };
+    assert!(rt; asked.end_over(&mut desk, &mut reader, &mut writer) == end);
+    assert!(rt; writer.writer.as_slice() == written);
+    Ok(())
+}
+
+/// The reads and writes are counted together: after 999 interrupted ones all is answered, and the 1,000th is a fault.
+fn is_interrupted(rt: &(impl Abort + AllocGlobal), asked: &Asked) -> Result<(), Fail> {
+    for calls in [(999, 0), (0, 999), (600, 399)] {
+        ends_interrupted(rt, asked, calls, End::Whole, asked.answer)?;
+    }
+    ends_interrupted(rt, asked, (1_000, 0), End::Unread, b"")?;
+    for calls in [(0, 1_000), (600, 400)] {
+        ends_interrupted(rt, asked, calls, asked.end_behind(0), b"")?;
+    }
+    Ok(())
+}
+
+#[test]
+fn interrupted_calls(rt: HostRuntime) -> Result<(), Fail> {
+    is_interrupted(&rt, &SCRIPT)?;
+    is_interrupted(&rt, &REQUEST)
 }

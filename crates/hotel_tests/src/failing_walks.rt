@@ -2,14 +2,15 @@
 //! HTTP.
 use crate::causes::{CAUSES, counts, counts_of, refusal_of, stopping};
 use crate::lists::{list_of, write_alone};
-use crate::wrong_calls::{Wrong, WrongWriter};
+use crate::one_byte::OneByteWriter;
 use hotel_core::Walks;
 use hotel_http::{ServeFault, Served, serve_one};
-use hotel_lists::{IoCalls, ListFault};
+use hotel_lists::{FailingWriter, FullWriter, InterruptedWriter, ListFault};
 use hotel_program::{ScriptEnd, run_script};
 use hotel_scenarios::desks::Desk;
 use keycard_rules::LookFault;
 use std::alloc::Global;
+use std::io::Write;
 use std::process::Abort;
 use std::test::Fail;
 use stopping_books::StoppingBooks;
@@ -138,22 +139,21 @@ fn fault_of(cause: LookFault) -> ListFault {
     }
 }
 
-/// The list ends so over these books, with writes that go wrong so, by so many calls. It answers the writer.
-fn ends_so(
+/// The list ends so over these books and this writer, by so many calls.
+fn ends_so<W: Write>(
     rt: &(impl Abort + AllocGlobal),
     asked: &Asked,
     books: &mut StoppingBooks,
-    wrong: Wrong,
+    writer: &mut W,
     end: Result<(), ListFault>,
     calls: u64,
-) -> Result<WrongWriter, Fail> {
+) -> Result<(), Fail> {
     let before = books.calls();
     let list = list_of(rt.alloc(), asked.line)?;
-    let mut writer = WrongWriter::new(rt.alloc(), wrong);
-    let ended = write_alone(rt.alloc(), &list, books, &mut writer);
+    let ended = write_alone(rt.alloc(), &list, books, writer);
     assert!(rt; ended == end);
     assert!(rt; books.calls() == before.saturating_add(calls));
-    Ok(writer)
+    Ok(())
 }
 
 /// The list is written whole.
@@ -162,33 +162,47 @@ fn is_whole(
     asked: &Asked,
     books: &mut StoppingBooks,
 ) -> Result<(), Fail> {
-    let writer = ends_so(rt, asked, books, Wrong::NONE, Ok(()), asked.calls)?;
+    let mut writer = OneByteWriter::new(rt.alloc());
+    ends_so(rt, asked, books, &mut writer, Ok(()), asked.calls)?;
     assert!(rt; writer.written() == asked.text);
     Ok(())
 }
 
-/// The call of this number fails for this cause, and writes go wrong so: that cause is reported and counted. Then the
-/// list is whole.
+/// A writer that goes on by one byte a call, of which the one behind so many good ones fails.
+fn failing_writer(alloc: Global, good: u32) -> FailingWriter<OneByteWriter> {
+    FailingWriter {
+        writer: OneByteWriter::new(alloc),
+        good,
+    }
+}
+
+/// Where no write of a list fails.
+const ALL_GOOD: u32 = u32::MAX;
+
+/// The call of this number fails for this cause, and the write behind so many good ones: that cause is reported and
+/// counted. Then the list is whole.
 fn fails_at(
     rt: &(impl Abort + AllocGlobal),
     asked: &Asked,
-    wrong: Wrong,
+    good: u32,
     call: u64,
     cause: LookFault,
 ) -> Result<(), Fail> {
     let mut books = stopping(listed_desk(rt.alloc())?, call, cause).books;
-    let writer = ends_so(rt, asked, &mut books, wrong, Err(fault_of(cause)), call)?;
-    assert!(rt; asked.may_be_cut_to(writer.written(), call));
+    let mut writer = failing_writer(rt.alloc(), good);
+    let end = Err(fault_of(cause));
+    ends_so(rt, asked, &mut books, &mut writer, end, call)?;
+    assert!(rt; asked.may_be_cut_to(writer.writer.written(), call));
     is_whole(rt, asked, &mut books)?;
     assert!(rt; counts(&books) == counts_of(Some(cause)));
     Ok(())
 }
 
-/// Each call of the list fails in turn, for each cause, and writes go wrong so.
-fn fails_in_turn(rt: &(impl Abort + AllocGlobal), asked: &Asked, wrong: Wrong) -> Result<(), Fail> {
+/// Each call of the list fails in turn, for each cause, and the write behind so many good ones.
+fn fails_in_turn(rt: &(impl Abort + AllocGlobal), asked: &Asked, good: u32) -> Result<(), Fail> {
     for call in 1..=asked.calls {
         for cause in CAUSES {
-            fails_at(rt, asked, wrong, call, cause)?;
+            fails_at(rt, asked, good, call, cause)?;
         }
     }
     Ok(())
@@ -197,7 +211,7 @@ fn fails_in_turn(rt: &(impl Abort + AllocGlobal), asked: &Asked, wrong: Wrong) -
 #[test]
 fn each_call_of_a_list_fails(rt: HostRuntime) -> Result<(), Fail> {
     for asked in &ASKED {
-        fails_in_turn(&rt, asked, Wrong::NONE)?;
+        fails_in_turn(&rt, asked, ALL_GOOD)?;
     }
     Ok(())
 }
@@ -216,29 +230,53 @@ fn header_bytes(asked: &Asked) -> u32 {
 #[test]
 fn a_failed_walk_is_told_before_a_failed_write(rt: HostRuntime) -> Result<(), Fail> {
     for asked in &ASKED {
-        let next = header_bytes(asked).saturating_add(1);
-        fails_in_turn(&rt, asked, Wrong::Failing(next))?;
+        fails_in_turn(&rt, asked, header_bytes(asked))?;
     }
     Ok(())
 }
 
-/// The write of each byte fails in turn: the bytes before it were written.
+/// How many calls the list makes where the write behind so many bytes fails.
+fn calls_behind(asked: &Asked, bytes: u32) -> u64 {
+    if bytes < header_bytes(asked) {
+        1u64.saturating_sub(asked.header)
+    } else {
+        asked.calls
+    }
+}
+
+/// The write behind so many of one byte each fails, or takes no byte: the bytes before it were written.
+fn is_cut_behind(
+    rt: &(impl Abort + AllocGlobal),
+    asked: &Asked,
+    books: &mut StoppingBooks,
+    good: u32,
+    written: &[u8],
+) -> Result<(), Fail> {
+    let calls = calls_behind(asked, good);
+    let end = Err(ListFault::Write);
+    let mut failing = failing_writer(rt.alloc(), good);
+    ends_so(rt, asked, books, &mut failing, end, calls)?;
+    assert!(rt; failing.writer.written() == written);
+    let mut full = FullWriter {
+        writer: OneByteWriter::new(rt.alloc()),
+        good,
+    };
+    ends_so(rt, asked, books, &mut full, end, calls)?;
+    assert!(rt; full.writer.written() == written);
+    Ok(())
+}
+
+/// The write of each byte fails in turn, or takes no byte.
 fn each_write_of(
     rt: &(impl Abort + AllocGlobal),
     asked: &Asked,
     books: &mut StoppingBooks,
 ) -> Result<(), Fail> {
-    let mut write = 0u32;
+    let mut good = 0u32;
     for bytes in 0..asked.text.len() {
-        write = write.saturating_add(1);
-        let calls = if write <= header_bytes(asked) {
-            1u64.saturating_sub(asked.header)
-        } else {
-            asked.calls
-        };
-        let end = Err(ListFault::Write);
-        let writer = ends_so(rt, asked, books, Wrong::Failing(write), end, calls)?;
-        assert!(rt; writer.written() == asked.text.get(..bytes).ok_or("a front")?);
+        let written = asked.text.get(..bytes).ok_or("a front")?;
+        is_cut_behind(rt, asked, books, good, written)?;
+        good = good.saturating_add(1);
     }
     Ok(())
 }
@@ -251,6 +289,37 @@ fn failed_writes_are_not_counted(rt: HostRuntime) -> Result<(), Fail> {
         each_write_of(&rt, asked, &mut books)?;
         assert!(rt; counts(&books) == counts_of(None));
         is_whole(&rt, asked, &mut books)?;
+    }
+    Ok(())
+}
+
+/// The first writes are interrupted, so many of them: the list ends so, by so many calls, and this is written.
+fn ends_interrupted(
+    rt: &(impl Abort + AllocGlobal),
+    asked: &Asked,
+    times: u32,
+    end: Result<(), ListFault>,
+    calls: u64,
+    written: &[u8],
+) -> Result<(), Fail> {
+    let mut books = stopping(listed_desk(rt.alloc())?, 0, LookFault::Store).books;
+    let mut writer = InterruptedWriter {
+        writer: OneByteWriter::new(rt.alloc()),
+        times,
+    };
+    ends_so(rt, asked, &mut books, &mut writer, end, calls)?;
+    assert!(rt; writer.writer.written() == written);
+    assert!(rt; counts(&books) == counts_of(None));
+    Ok(())
+}
+
+/// After 999 interrupted writes the list is whole, and the 1,000th is a fault.
+#[test]
+fn interrupted_writes(rt: HostRuntime) -> Result<(), Fail> {
+    for asked in &ASKED {
+        ends_interrupted(&rt, asked, 999, Ok(()), asked.calls, asked.text)?;
+        let calls = calls_behind(asked, 0);
+        ends_interrupted(&rt, asked, 1_000, Err(ListFault::Write), calls, b"")?;
     }
     Ok(())
 }
@@ -278,7 +347,6 @@ fn output_of(
         &mut writer,
         &mut desk.books,
         &mut desk.source,
-        &mut IoCalls::none(),
     );
     assert!(rt; ran == Ok(ScriptEnd { lines: 2 }));
     Ok(writer)

@@ -3,6 +3,8 @@
 #![tactic(auto)]
 
 #[cfg(test)]
+mod asked_commands;
+#[cfg(test)]
 mod causes;
 #[cfg(test)]
 mod chains_and_nights;
@@ -17,6 +19,8 @@ mod failing_walks;
 #[cfg(test)]
 mod lists;
 #[cfg(test)]
+mod one_byte;
+#[cfg(test)]
 mod stopped_commands;
 #[cfg(test)]
 mod stopped_imports;
@@ -26,5 +30,3 @@ mod stops;
 mod value_readers;
 #[cfg(test)]
 mod worked_scenarios;
-#[cfg(test)]
-mod wrong_calls;

@@ -25,14 +25,22 @@ pub enum Act {
 }
 
 /// One note of a lock. Two notes are equal where all their fields are.
+///
+/// Whoever sets a field keeps the day and the second within their last ones.
 #[derive(Clone, Copy, Debug, PartialEq, Eq)]
 pub struct LockNote {
-    room: RoomNo,
-    fit: FitNo,
-    count: Count,
-    act: Act,
-    day: u16,
-    second: u32,
+    /// The room whose lock noted it.
+    pub room: RoomNo,
+    /// The number of the room's lock that noted it.
+    pub fit: FitNo,
+    /// The lock's count of the note.
+    pub count: Count,
+    /// What happened.
+    pub act: Act,
+    /// The day of the note, counted from 2000-01-01 as day 0: at most `LAST_DAY`.
+    pub day: u16,
+    /// The second of its day, from 0 on: at most `LAST_SECOND`.
+    pub second: u32,
 }
 
 impl Model for LockNote {
@@ -86,49 +94,5 @@ impl LockNote {
             day,
             second,
         })
-    }
-
-    /// The room whose lock noted it.
-    pub fn room(&self) -> RoomNo
-        ensures { result ≡ self.now.room }
-    {
-        self.room
-    }
-
-    /// The number of the room's lock that noted it.
-    pub fn fit(&self) -> FitNo
-        ensures { result ≡ self.now.fit }
-    {
-        self.fit
-    }
-
-    /// The lock's count of the note.
-    pub fn count(&self) -> Count
-        ensures { result ≡ self.now.count }
-    {
-        self.count
-    }
-
-    /// What happened.
-    pub fn act(&self) -> Act
-        ensures { result ≡ self.now.act }
-    {
-        self.act
-    }
-
-    /// The day of the note, counted from 2000-01-01 as day 0.
-    pub fn day(&self) -> u16
-        ensures same { result ≡ self.now.day }
-        ensures known { result ≤ LAST_DAY }
-    {
-        self.day
-    }
-
-    /// The second of its day, from 0 on.
-    pub fn second(&self) -> u32
-        ensures same { result ≡ self.now.second }
-        ensures known { result ≤ LAST_SECOND }
-    {
-        self.second
     }
 }

@@ -1,10 +1,12 @@
 -- A walk part-way through the rows of a list: what the sink took, and the rows that are still to come.
 use Rattle.std.proofs.Common.{ℕ, suc, ◌≡◌, ◌<◌, ◌+◌, ◌-◌, ◌++◌, Bool, true, false, cond, Option, Some, None, List, []}
 use Rattle.std.proofs.Common.{◌∷◌, Result, Ok, Err, filter, append_assoc, refl, ap, sym, ◌∙◌, subst, arith, filter_map}
+use Rattle.std.proofs.Common.{is_some}
 use Rattle.hotel_core.proofs.Names.{range_with_len, cons_option, Passes, TakesFront, StopsAt, failure_of}
 use Rattle.keycard_rules.proofs.CallsTogether.{passes_push}
 use Rattle.std.proofs.lemmas.List.{append-nil}
 use Rattle.keycard_rules.specs.declared.issued.LookFault.TheVariants as look
+use Rattle.hotel_core.specs.Books.Reads.{is_any}
 use Rattle.hotel_core.specs.declared.books.walks.WalkFault.{WalkFault}
 use Rattle.hotel_core.specs.declared.books.walks.WalkFault.TheVariants as why
 
@@ -69,3 +71,27 @@ not_store (Ok done) other failed = cc
 not_store (Err why.Stopped) other failed = cc
 not_store (Err why.Memory) other failed = cc
 not_store (Err why.Store) other failed = other refl
+
+-- ---- a list that has one row or more, since the next one is to come
+
+one_is_any : {R : Type 0} (taken : List R) (row : R) (later : List R) → is_any (taken ++ row ∷ later) ≡ true
+one_is_any [] row later = refl
+one_is_any (x ∷ taken) row later = refl
+
+-- the next one passes the test
+pub passing_is_any : {R : Type 0} (p : R → Bool) (taken rest later rows : List R) (row : R) → rest ≡ row ∷ later
+    → p row ≡ true → taken ++ filter p rest ≡ rows → is_any rows ≡ true
+passing_is_any p taken rest later rows row e is same =
+    ap is_any (sym same ∙ ap (λ xs. taken ++ filter p xs) e ∙ ap (λ xs. taken ++ xs) (passing p row later is))
+    ∙ one_is_any taken row (filter p later)
+
+made_by : {R : Type 0} (taken : List R) (o : Option R) (later : List R)
+    → is_some o ≡ true → is_any (taken ++ cons_option o later) ≡ true
+made_by taken (Some row) later is = one_is_any taken row later
+made_by taken None later is = cc
+
+-- the next one makes a row
+pub made_is_any : {X R : Type 0} (f : X → Option R) (taken rows : List R) (rest later : List X) (x : X)
+    → rest ≡ x ∷ later → is_some (f x) ≡ true → rows ≡ taken ++ filter_map f rest → is_any rows ≡ true
+made_is_any f taken rows rest later x e is same =
+    ap is_any (same ∙ ap (λ xs. taken ++ filter_map f xs) e) ∙ made_by taken (f x) (filter_map f later) is

@@ -1,8 +1,9 @@
 //! Walks over the rows of the lists, which are handed to a sink one after the other.
-ghost use Rattle.std.specs.Prelude.{◌≡◌, true, false, OnOk, OnErr};
+ghost use Rattle.std.specs.Prelude.{◌≡◌, false, OnOk, OnErr};
 ghost use Rattle.hotel_model.specs.Refinement.ListsOnRows.{arrivals_on, in_house_on, chain_on, left_behind_on};
 ghost use Rattle.hotel_model.specs.Rows.{notes_at};
-ghost use Rattle.hotel_core.specs.{Books.Walks.WalksOver, declared.books.walks.WalkFault.TheVariants.Memory};
+ghost use Rattle.hotel_core.specs.{Books.Reads.is_any, Books.Walks.WalksOver};
+ghost use Rattle.hotel_core.specs.{declared.books.walks.WalkFault.TheVariants.Memory};
 ghost use Rattle.hotel_core.specs.{declared.books.walks.WalkFault.TheVariants.Stopped};
 
 use crate::books::Books;
@@ -69,7 +70,7 @@ pub trait Walks: Books {
 
     /// The rooms with a registered party, by room.
     fn walk_in_house<S: Sink<HouseRow>>(&mut self, sink: &mut S) -> Result<(), WalkFault>
-        ensures { WalksOver Self.Kept true S.after S.after_stop
+        ensures { WalksOver Self.Kept (is_any (in_house_on (Self.rows self.old))) S.after S.after_stop
             (in_house_on (Self.rows self.old)) self.old self.new sink.old sink.new result };
 
     /// The codes of a room in order of issue; none where the room isn't there.

@@ -71,8 +71,8 @@ fn open<B: Books>(
         books.old books.new (reply_of result) }
 {
     let lock_place = issued_place(books, link.new_code)?.place;
-    let secured = secured_after(books, note.room(), row, lock_place)?;
-    let is_inside = is_inside(books, note.room(), number)?;
+    let secured = secured_after(books, note.room, row, lock_place)?;
+    let is_inside = is_inside(books, note.room, number)?;
     let insides = comes(number, is_inside);
     let note = *note;
     make(
@@ -102,7 +102,7 @@ pub(crate) fn enter<B: Books>(
         books.old books.new (reply_of result) }
 {
     noted_card(books, number, link)?;
-    let held = code_in(books, note.room(), row.lock_place)?;
+    let held = code_in(books, note.room, row.lock_place)?;
     if !opens(held, link) {
         return Err(Refusal::LockShut);
     }

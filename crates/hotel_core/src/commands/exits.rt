@@ -25,7 +25,7 @@ pub(crate) fn leave<B: Books>(
         books.old books.new (reply_of result) }
 {
     noted_card(books, number, link)?;
-    if !is_inside(books, note.room(), number)? {
+    if !is_inside(books, note.room, number)? {
         return Err(Refusal::NotInside);
     }
     let change = Change::Noted {

@@ -27,14 +27,14 @@ pub(crate) fn notes_of_present(row: &RoomRow) -> u32
 pub(crate) fn is_present(note: &LockNote, row: &RoomRow) -> bool
     ensures { result ≡ (note.now.fit == row.now.fit) }
 {
-    note.fit() == row.fit
+    note.fit == row.fit
 }
 
 /// Whether a note comes after all that the room's row counts of its present lock.
 fn is_past(note: &LockNote, row: &RoomRow) -> bool
     ensures { result ≡ (note.now.fit == row.now.fit) && nat_lt (row.now.notes - row.now.before) note.now.count }
 {
-    is_present(note, row) && notes_of_present(row) < note.count().value()
+    is_present(note, row) && notes_of_present(row) < note.count.value()
 }
 
 /// The note of the same room, lock and count, where one was taken; none is asked for that comes after all that the
@@ -53,7 +53,7 @@ pub(crate) fn kept_note<B: Books>(
     if is_past(note, row) {
         return Ok(None);
     }
-    let kept = books.note(note.room(), note.fit(), note.count());
+    let kept = books.note(note.room, note.fit, note.count);
     known(kept)
 }
 

@@ -26,7 +26,7 @@ fn same_note(kept: &LockNote, note: &LockNote) -> bool
 fn is_fit(note: &LockNote, row: &RoomRow) -> bool
     ensures { result ≡ nat_le note.now.fit row.now.fit }
 {
-    note.fit() <= row.fit
+    note.fit <= row.fit
 }
 
 /// Whether a note that wasn't taken is the next one of its room's present lock.
@@ -36,7 +36,7 @@ fn check_next(note: &LockNote, row: &RoomRow) -> Result<(), Refusal>
     if !is_present(note, row) {
         return Err(Refusal::OldFit);
     }
-    let count = note.count().value();
+    let count = note.count.value();
     let taken = notes_of_present(row);
     if count <= taken {
         // Sound books have each note up to this count.
@@ -58,7 +58,7 @@ fn take_next<B: Books>(books: &mut B, note: &LockNote, row: &RoomRow) -> Result<
     ensures { StepsWithoutWords B.Kept B.Books.own (λ rows. reported_on rows note.now None) books.old books.new
         (reply_of result) }
 {
-    match note.act() {
+    match note.act {
         Act::Entered { card, link } => enter(books, note, row, card, &link),
         Act::Left { card, link } => leave(books, note, row, card, &link),
         Act::Recoded { from, to } => recode(books, note, row, from, to),
@@ -72,7 +72,7 @@ pub(crate) fn take_note<B: Books>(books: &mut B, note: &LockNote) -> Result<Repl
         (reply_of result) }
 {
     today(books)?;
-    let row = room_there(books, note.room())?;
+    let row = room_there(books, note.room)?;
     if !is_fit(note, &row) {
         return Err(Refusal::NoFit);
     }

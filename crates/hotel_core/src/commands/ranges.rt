@@ -9,10 +9,8 @@ use keycard_rules::LockNote;
 pub(crate) fn known_note(note: &LockNote)
     ensures { IsCommand (command.Reported note.now) }
 {
-    note.fit().value();
-    note.count().value();
-    note.day();
-    note.second();
+    note.fit.value();
+    note.count.value();
 }
 
 /// Does nothing: a command's values are in their ranges.

@@ -33,7 +33,7 @@ pub(crate) fn recode<B: Books>(
     ensures { StepsWithoutWords B.Kept B.Books.own (λ rows. told_on rows note.now (act.Recoded from to))
         books.old books.new (reply_of result) }
 {
-    let room = note.room();
+    let room = note.room;
     let held = code_in(books, room, row.lock_place)?;
     if held != from {
         return Err(Refusal::HeldDiffers);

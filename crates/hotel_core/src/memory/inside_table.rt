@@ -1,7 +1,8 @@
 //! The cards inside rooms, found by room.
-ghost use Rattle.std.specs.Prelude.{◌≡◌, [], not, IfOk, OnOk, OnErr};
+ghost use Rattle.std.specs.Prelude.{◌≡◌, [], false, not, IfOk, IsOk, OnOk, OnErr};
 ghost use Rattle.hotel_model.specs.{Words.is_one_of, Guests.those_in, Guests.are_none, Guests.those_elsewhere};
 ghost use Rattle.hotel_model.specs.{Refinement.Change.moved};
+ghost use Rattle.hotel_core.specs.Books.Reads.{is_any};
 
 use hotel_model::InsideMove;
 use keycard_rules::{CardNo, LAST_NUMBER, Memory, RoomNo};
@@ -41,7 +42,8 @@ impl InsideTable {
 
     /// The numbers of the cards inside a room, in order.
     pub(crate) fn at(&self, alloc: Global, room: RoomNo) -> Result<Vec<CardNo>, AllocError>
-        ensures { IfOk result (λ numbers. numbers.items ≡ those_in self.now room) }
+        ensures same { IfOk result (λ numbers. numbers.items ≡ those_in self.now room) }
+        ensures sure { is_any (those_in self.now room) ≡ false → IsOk result }
     {
         let mut found = Vec::new(alloc);
         let least = CardNo::new(1).unwrap();

@@ -1,9 +1,11 @@
 //! Books in memory.
-ghost use Rattle.std.specs.Prelude.{◌≡◌, Err, IfSome, Some, refl};
+ghost use Rattle.std.specs.Prelude.{◌≡◌, Err, IfSome, IsOk, Some, not, refl};
 ghost use Rattle.std.proofs.Common.{ap, ◌∙◌};
 ghost use Rattle.keycard_rules.specs.Rise.{Counts, HasRisen, NoFewer, of_memory, one_of};
 ghost use Rattle.keycard_rules.specs.{declared.issued.LookFault.TheVariants.Memory};
-ghost use Rattle.hotel_model.specs.{Rows.no_rows, Refinement.Lookups.codes_in};
+ghost use Rattle.hotel_model.specs.{Guests.are_none, Rows.no_rows, Words.is_one_of};
+ghost use Rattle.hotel_model.specs.Refinement.Lookups.{codes_in, inside_at};
+ghost use Rattle.hotel_core.specs.Books.Reads.{LooksUp, is_any};
 ghost use Rattle.hotel_core.specs.{Books.Walks.failure_of, declared.books.walks.WalkFault.TheVariants.Store};
 
 use crate::books::Books;
@@ -186,11 +188,19 @@ impl Books for ListBooks {
         }
     }
 
-    fn is_inside(&mut self, room: RoomNo, number: CardNo) -> Result<bool, LookFault> {
+    fn is_inside(&mut self, room: RoomNo, number: CardNo) -> Result<bool, LookFault>
+        ensures looks { LooksUp ⟦<ListBooks as Kept>⟧ (is_any (inside_at self.old.rows room)) (λ a. a)
+            (is_one_of number (inside_at self.old.rows room)) self.old self.new result }
+        ensures sure { IsOk result }
+    {
         Ok(self.tables.is_inside(room, number))
     }
 
-    fn has_inside(&mut self, room: RoomNo) -> Result<bool, LookFault> {
+    fn has_inside(&mut self, room: RoomNo) -> Result<bool, LookFault>
+        ensures looks { LooksUp ⟦<ListBooks as Kept>⟧ (is_any (inside_at self.old.rows room)) (λ a. a)
+            (not (are_none (inside_at self.old.rows room))) self.old self.new result }
+        ensures sure { IsOk result }
+    {
         Ok(self.tables.has_inside(room))
     }
 

@@ -56,7 +56,7 @@ impl NoteTable {
         ensures ok { OnOk result (self.new ≡ insert_entry pair_cmp self.old (note.now.room, number) note.now) }
         ensures err { OnErr result (self.new ≡ self.old) }
     {
-        let Ok(_) = self.notes.insert((note.room(), number), *note) else {
+        let Ok(_) = self.notes.insert((note.room, number), *note) else {
             return Err(Memory);
         };
         Ok(())

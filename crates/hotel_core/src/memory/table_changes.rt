@@ -215,8 +215,8 @@ impl Tables {
         ensures ok { OnOk result (self.new ≡ made (change.Noted note.now lock_place secured insides) self.old) }
         ensures err { OnErr result (self.new ≡ self.old) }
     {
-        let room = note.room();
-        let count = note.count().value();
+        let room = note.room;
+        let count = note.count.value();
         let number = notes_before(&self.rooms, room) + count;
         let Ok(()) = self.notes.insert(number, note) else {
             return Err(Memory);

@@ -1,11 +1,11 @@
 //! Walks over the tables in memory.
-ghost use Rattle.std.specs.Prelude.{◌≡◌, IfOk, Err, None, filter_map};
+ghost use Rattle.std.specs.Prelude.{◌≡◌, false, IfOk, IsOk, Err, None, filter_map, is_some};
 ghost use Rattle.std.specs.List.{range_with_len};
 ghost use Rattle.hotel_model.specs.Refinement.ListsOnRows.{arrivals_on, in_house_on, chain_on};
 ghost use Rattle.hotel_model.specs.Refinement.ListsOnRows.{left_behind_on, house_row_on, chain_row_on};
 ghost use Rattle.hotel_model.specs.Refinement.ListsOnRows.{behind_row_on};
 ghost use Rattle.hotel_model.specs.{Lists.arrives_on, Rows.notes_at};
-ghost use Rattle.hotel_core.specs.{Books.Walks.Hands, Books.Walks.failure_of};
+ghost use Rattle.hotel_core.specs.{Books.Reads.is_any, Books.Walks.Hands, Books.Walks.failure_of};
 ghost use Rattle.hotel_core.specs.{declared.books.walks.WalkFault.TheVariants.Store};
 
 use crate::books::walks::{Sink, WalkFault};
@@ -26,7 +26,8 @@ fn arrives(stay: &Stay, day: Day) -> bool
 impl Tables {
     /// The row of the room's party, where one is registered; the guest's name is copied.
     fn house_row(&self, row: &RoomRow) -> Result<Option<HouseRow>, AllocError>
-        ensures { IfOk result (λ house. house ≡ house_row_on self.now row.now) }
+        ensures same { IfOk result (λ house. house ≡ house_row_on self.now row.now) }
+        ensures sure { is_some (house_row_on self.now row.now) ≡ false → IsOk result }
     {
         let Some(party) = row.party else {
             return Ok(None);
@@ -88,6 +89,7 @@ impl Tables {
 
     pub(crate) fn walk_in_house<S: Sink<HouseRow>>(&self, sink: &mut S) -> Result<(), WalkFault>
         ensures hands { Hands S.after S.after_stop (in_house_on self.now) sink.old sink.new result }
+        ensures sure { is_any (in_house_on self.now) ≡ false → failure_of result ≡ None }
         ensures no_store { result ≡ Err Store → ⊥ }
     {
         for row in self.rooms.values() {

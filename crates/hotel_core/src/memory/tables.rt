@@ -1,5 +1,5 @@
 //! The tables of books in memory, and what look-ups find there.
-ghost use Rattle.std.specs.Prelude.{◌≡◌, ◌-◌, ◌<◌, length, IfOk, not};
+ghost use Rattle.std.specs.Prelude.{◌≡◌, ◌-◌, ◌<◌, false, is_some, length, IfOk, IsOk, not};
 ghost use Rattle.std.specs.Map.{keys_of};
 ghost use Rattle.keycard_rules.specs.Words.{is_one_of};
 ghost use Rattle.hotel_model.specs.{Guests.are_none, Rows.Rows, Rows.no_rows, Rows.has_kind};
@@ -7,6 +7,7 @@ ghost use Rattle.hotel_model.specs.{Rows.fit_at, Rows.rooms_of_kind};
 ghost use Rattle.hotel_model.specs.Refinement.Lookups.{room_at, codes_in, code_place, code_at, stay_at, stays_of_kind};
 ghost use Rattle.hotel_model.specs.Refinement.Lookups.{card_at, inside_at, note_at, first_full_on};
 ghost use Rattle.hotel_model.specs.Refinement.Lookups.{number_after};
+ghost use Rattle.hotel_core.specs.Books.Reads.{is_any};
 
 use crate::kind_rooms::KindRooms;
 use crate::memory::card_table::CardTable;
@@ -129,7 +130,8 @@ impl Tables {
 
     /// A copy of a party's stay.
     pub(crate) fn stay(&self, party: PartyNo) -> Result<Option<Stay>, AllocError>
-        ensures { IfOk result (λ stay. stay ≡ stay_at self.now party) }
+        ensures same { IfOk result (λ stay. stay ≡ stay_at self.now party) }
+        ensures sure { is_some (stay_at self.now party) ≡ false → IsOk result }
     {
         let Some(stay) = self.stays.map().get(&party) else {
             return Ok(None);
@@ -139,7 +141,8 @@ impl Tables {
 
     /// Copies of the stays of a kind, by the party's number.
     pub(crate) fn stays_of_kind(&self, kind: &KindCode) -> Result<Vec<Stay>, AllocError>
-        ensures { IfOk result (λ stays. stays.items ≡ stays_of_kind self.now kind.now) }
+        ensures same { IfOk result (λ stays. stays.items ≡ stays_of_kind self.now kind.now) }
+        ensures sure { is_any (stays_of_kind self.now kind.now) ≡ false → IsOk result }
     {
         let mut found = Vec::new(self.alloc);
         for stay in self.stays.map().values() {
@@ -167,7 +170,8 @@ impl Tables {
 
     /// The numbers of the cards inside a room, in order.
     pub(crate) fn inside(&self, room: RoomNo) -> Result<Vec<CardNo>, AllocError>
-        ensures { IfOk result (λ numbers. numbers.items ≡ inside_at self.now room) }
+        ensures same { IfOk result (λ numbers. numbers.items ≡ inside_at self.now room) }
+        ensures sure { is_any (inside_at self.now room) ≡ false → IsOk result }
     {
         self.inside.at(self.alloc, room)
     }
@@ -197,7 +201,7 @@ impl Tables {
     {
         let row = self.fit(room, fit)?;
         let note = self.notes.note(room, row.before, count.value())?;
-        if note.fit() != fit {
+        if note.fit != fit {
             return None;
         }
         Some(note)

@@ -31,25 +31,23 @@ fn with_values<'a>(
     Ok(command)
 }
 
-/// The program's own words: where the books and the seed are.
+/// The program's own options: the database and the seed file.
 fn with_options<'a>(alloc: Global) -> Result<Command<'a>, AllocError>
     ensures shape { IfOk result (λ c. app_of c ≡ options) }
     ensures globals { IfOk result (λ c. (fields_of c).has_globals ≡ false) }
 {
     let database = Arg::new(alloc, "db").long("db").value_name("FILE").help(
-        "the file with the books, made where it is missing; without it they are kept in memory",
+        "the database file, created if it doesn't exist; without it the data is in memory and is lost at the end",
     );
     let seed_file = Arg::new(alloc, "seed-file")
         .long("seed-file")
         .value_name("FILE")
-        .help(
-            "for tests: a file of 32 bytes from which codes are drawn, the same codes in each run",
-        );
+        .help("for tests: a file of 32 bytes that decides all codes; without it codes are random");
     Command::new(alloc, "hotel_desk")
         .bin_name("hotel_desk")?
         .version(VERSION)
         .about(
-            "The front desk of a hotel whose locks stand alone. Without words it carries out a script over memory.",
+            "The front desk of a hotel whose door locks have no network. Without arguments it runs a script in memory, for tests.",
         )
         .no_binary_name(true)
         .subcommand_required(true)
@@ -57,7 +55,7 @@ fn with_options<'a>(alloc: Global) -> Result<Command<'a>, AllocError>
         .arg(seed_file)
 }
 
-/// The program's own words and the subcommands of verbs.
+/// The program's own options and a subcommand for each command and list.
 fn with_verbs<'a>(alloc: Global, verbs: &[(&'a str, Verb)]) -> Result<Command<'a>, AllocError>
     ensures shape { IfOk result (λ c. app_of c ≡ fold with_subcommand options (map verb_leaf (texts verbs.now))) }
     ensures globals { IfOk result (λ c. (fields_of c).has_globals ≡ false) }
@@ -75,15 +73,11 @@ pub fn desk_command<'a>(alloc: Global) -> Result<Command<'a>, AllocError>
     ensures shape { IfOk result (λ c. app_of c ≡ desk) }
     ensures globals { IfOk result (λ c. (fields_of c).has_globals ≡ false) }
 {
-    let about_audit = "Import a lock's audit file and print an answer for each line: audit 101.csv";
-    let about_serve = "Answer HTTP on 127.0.0.1, one connection after the other: serve 8080 1000";
+    let about_audit =
+        "Import an audit file of locks and print an answer for each line: audit 101.csv";
+    let about_serve = "Serve HTTP on 127.0.0.1, one connection after the other: serve 8080 1000";
     let audit = with_values(alloc, "audit", about_audit, &[ValueName::File])?;
-    let script = with_values(
-        alloc,
-        "script",
-        "Carry out the script on standard input",
-        &[],
-    )?;
+    let script = with_values(alloc, "script", "Run the script on standard input", &[])?;
     let serve = with_values(
         alloc,
         "serve",

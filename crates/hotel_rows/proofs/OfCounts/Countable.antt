@@ -17,7 +17,8 @@ use Rattle.hotel_nights.specs.Kinds.{is_kind}
 use Rattle.hotel_model.specs.Words.{is_that, said_of}
 use Rattle.hotel_model.specs.Rows.{Rows, at_number, has_kind}
 use Rattle.hotel_model.specs.Stays.{room_of_state}
-use Rattle.hotel_model.specs.SoundRooms.{are_in_order, count_up, is_day, kinds_read, room_numbers}
+use Rattle.hotel_model.specs.SoundRooms.{are_in_order, count_up, is_day, kinds_read, room_numbers, lock_places}
+use Rattle.hotel_model.specs.SoundRooms.{room_kinds_there, codes_few, parties_in_house, secured_hold_last}
 use Rattle.hotel_model.specs.SoundStays.{has_party}
 use Rattle.hotel_core.specs.KindRooms.{is_there, rooms_in}
 use Rattle.hotel_model.specs.declared.rows.RoomRow.{RoomRow}
@@ -29,17 +30,19 @@ use Rattle.hotel_rows.specs.declared.stored.PlainStay.{PlainStay}
 use Rattle.hotel_rows.specs.declared.stored.Stored.{Stored}
 use Rattle.hotel_rows.specs.Stored.{number_of, kind_text, rows_of, state_of, room_row, stay_row}
 use Rattle.hotel_rows.specs.Keys.{are_numbered, room_key, stay_key}
-use Rattle.hotel_rows.specs.Damage.{first_damaged_of, most_notes, are_room_columns, are_stay_columns}
-use Rattle.hotel_rows.specs.RowTests.{are_stay_days, has_home, has_night, is_at_home, is_number_up_to}
+use Rattle.hotel_rows.specs.Damage.{first_damaged_of, most_notes, notes_few, are_room_columns, are_stay_columns}
+use Rattle.hotel_rows.specs.Damage.{kind_holds, room_holds}
+use Rattle.hotel_rows.specs.RowTests.{are_stay_days, has_home, is_at_home, is_number_up_to}
 use Rattle.hotel_rows.specs.RowTests.{is_room_number, is_room_of_kind}
 use Rattle.hotel_rows.specs.RowTests.{is_secured_as_due, has_few_codes, room_fits, stay_fits}
-use Rattle.hotel_rows.specs.Counts.{KnowsKinds, are_rooms_of, names_kind, tells_state, tells_stay}
+use Rattle.hotel_rows.specs.declared.counts.Counts.{Counts}
+use Rattle.hotel_rows.specs.Counts.{IsCountedOf, KnowsKinds, are_rooms_of, names_kind}
+use Rattle.hotel_rows.specs.Counts.{tells_night, tells_state, tells_stay}
 use Rattle.hotel_rows.proofs.OfCounts.{named_kind}
 use Rattle.hotel_rows.proofs.OfDamage.FoundKeys.{passes_at}
 use Rattle.hotel_rows.proofs.OfDamage.KindTexts.{none_of_kinds}
 use Rattle.hotel_rows.proofs.OfDamage.RowsTogether.{all_and, length_mapped, rooms_together}
-use Rattle.hotel_rows.proofs.OfDamage.StaysTogether.{stays_together}
-use Rattle.hotel_rows.proofs.OfDamage.Undamaged.{all_passed, undamaged_is_sound}
+use Rattle.hotel_rows.proofs.OfDamage.Undamaged.{all_passed}
 
 -- ---- numbers
 
@@ -147,24 +150,23 @@ stay_told s read numbers plain h =
     (kind_there (rows_of s) (string_bytes plain.kind) read kinds.1)) (day_before _ _ depart.0 depart.1)) depart.0)
     (state_told (rows_of s) (number_of plain.party) (number_of plain.state) plain.room numbers guests.0 homes.1)
 
--- ---- undamaged rows
+-- ---- rows of which the rules of kinds and rooms hold
 
-pub stays_told : (s : Stored) → first_damaged_of s ≡ None → list_all tells_stay s.stay.items ≡ true
-stays_told s none =
-    let h = all_passed s none in
-    let sound = ((undamaged_is_sound s).0 none).0 in
-    let passed = and_true _ (list_all (has_night s) s.stay.items) (sym (stays_together s) ∙ h.stay) in
-    let fits = and_true (are_numbered (map stay_key s.stay.items)) (list_all (stay_fits s) s.stay.items) passed.0 in
-    let numbered = and_true _ (nat_le (length (map stay_key s.stay.items)) 9999999) fits.0 in
-    let few : length (map stay_key s.stay.items) ≤ 9999999 = grind (arith, nat_tests, numbered.1) in
-    let numbers = counted_within 1 1 9999999 (map stay_key s.stay.items) (omega arith) (omega (arith, few))
-    (and_true _ (count_up 1 (map stay_key s.stay.items)) numbered.0).1 in
-    let keys : list_all (λ plain. is_number_up_to 9999999 (stay_key plain)) s.stay.items ≡ true =
-    sym (all_mapped (is_number_up_to 9999999) stay_key s.stay.items) ∙ numbers in
-    all_weaker (λ plain. is_number_up_to 9999999 (stay_key plain) && stay_fits s plain) tells_stay
-    (stay_told s sound.kind_reads sound.room_number) s.stay.items
-    (sym (all_and (λ plain. is_number_up_to 9999999 (stay_key plain)) (stay_fits s) s.stay.items _ refl)
-    ∙ both _ _ keys fits.1)
+kinds_all_read : (s : Stored) → kind_holds s ≡ true → kinds_read (rows_of s) ≡ true
+kinds_all_read s h = (and_true _ (kinds_read (rows_of s)) h).1
+
+numbers_hold : (s : Stored) → room_holds s ≡ true → room_numbers (rows_of s) ≡ true
+numbers_hold s h =
+    let rows = rows_of s in
+    let party = and_true _ (parties_in_house rows) (and_true _ (secured_hold_last rows) h).0 in
+    let codes = and_true _ (codes_few rows) (and_true _ (notes_few s) party.0).0 in
+    let lock = and_true _ (lock_places rows) (and_true _ (room_kinds_there rows) codes.0).0 in
+    (and_true _ (room_numbers rows) lock.0).1
+
+rooms_fit : (s : Stored) → room_holds s ≡ true
+    → (are_in_order nat_cmp (map room_key s.room.items) ≡ true) × (list_all (room_fits s) s.room.items ≡ true)
+rooms_fit s h = and_true (are_in_order nat_cmp (map room_key s.room.items)) (list_all (room_fits s) s.room.items)
+    (sym (rooms_together s) ∙ h)
 
 room_told : (s : Stored) (plain : PlainRoom) → room_fits s plain ≡ true
     → (is_room_number plain ≡ true) × (names_kind (string_bytes plain.kind) s.kind.items ≡ true)
@@ -179,26 +181,68 @@ room_told s plain h =
     (number.1, named_kind (string_bytes plain.kind) s.kind.items ∙ kind.1)
 
 -- rooms that fit have the numbers of rooms
-pub rooms_numbered : (s : Stored) → first_damaged_of s ≡ None → list_all is_room_number s.room.items ≡ true
-rooms_numbered s none = all_weaker (room_fits s) is_room_number (λ room h. (room_told s room h).0) s.room.items
-    (and_true (are_in_order nat_cmp (map room_key s.room.items)) (list_all (room_fits s) s.room.items)
-    (sym (rooms_together s) ∙ (all_passed s none).room)).1
+numbered : (s : Stored) → room_holds s ≡ true → list_all is_room_number s.room.items ≡ true
+numbered s h =
+    all_weaker (room_fits s) is_room_number (λ room h. (room_told s room h).0) s.room.items (rooms_fit s h).1
 
-pub rooms_told : (s : Stored) → first_damaged_of s ≡ None → are_rooms_of s.kind.items s.room.items ≡ true
-rooms_told s none =
-    let h = all_passed s none in
-    let sound = ((undamaged_is_sound s).0 none).0 in
-    let passed = and_true (are_in_order nat_cmp (map room_key s.room.items)) (list_all (room_fits s) s.room.items)
-    (sym (rooms_together s) ∙ h.room) in
+pub rooms_numbered : (s : Stored) → first_damaged_of s ≡ None → list_all is_room_number s.room.items ≡ true
+rooms_numbered s none = numbered s (all_passed s none).room
+
+-- and so they are few
+few_in : (s : Stored) → room_holds s ≡ true → length s.room.items ≤ 9999
+few_in s h = subst (λ n. n ≤ 9999) (length_mapped room_key s.room.items)
+    (few_rooms (map room_key s.room.items)
+    (all_mapped (λ k. nat_le 1 k && nat_le k 9999) room_key s.room.items ∙ numbered s h) (rooms_fit s h).0)
+
+pub rooms_told : (s : Stored) → kind_holds s ≡ true → room_holds s ≡ true
+    → are_rooms_of s.kind.items s.room.items ≡ true
+rooms_told s kind room =
     let kinds : list_all (λ kind. is_kind (kind_text kind)) s.kind.items ≡ true =
-    sym (all_mapped is_kind kind_text s.kind.items) ∙ sound.kind_reads in
+    sym (all_mapped is_kind kind_text s.kind.items) ∙ kinds_all_read s kind in
     let named = all_weaker (room_fits s) (λ room. names_kind (string_bytes room.kind) s.kind.items)
-    (λ room h. (room_told s room h).1) s.room.items passed.1 in
-    let numbers = rooms_numbered s none in
-    let few = few_rooms (map room_key s.room.items)
-    (all_mapped (λ k. nat_le 1 k && nat_le k 9999) room_key s.room.items ∙ numbers) passed.0 in
-    both _ _ (both _ _ kinds named)
-    (le_tested (length s.room.items) 9999 (subst (λ n. n ≤ 9999) (length_mapped room_key s.room.items) few))
+    (λ room h. (room_told s room h).1) s.room.items (rooms_fit s room).1 in
+    both _ _ (both _ _ kinds named) (le_tested (length s.room.items) 9999 (few_in s room))
+
+-- ---- stays that fit, among such rows
+
+pub stays_told : (s : Stored) → kind_holds s ≡ true → room_holds s ≡ true
+    → are_numbered (map stay_key s.stay.items) ≡ true
+    → list_all (stay_fits s) s.stay.items ≡ true → list_all tells_stay s.stay.items ≡ true
+stays_told s kind room order fits =
+    let counted = and_true _ (nat_le (length (map stay_key s.stay.items)) 9999999) order in
+    let few : length (map stay_key s.stay.items) ≤ 9999999 = grind (arith, nat_tests, counted.1) in
+    let numbers = counted_within 1 1 9999999 (map stay_key s.stay.items) (omega arith) (omega (arith, few))
+    (and_true _ (count_up 1 (map stay_key s.stay.items)) counted.0).1 in
+    let keys : list_all (λ plain. is_number_up_to 9999999 (stay_key plain)) s.stay.items ≡ true =
+    sym (all_mapped (is_number_up_to 9999999) stay_key s.stay.items) ∙ numbers in
+    all_weaker (λ plain. is_number_up_to 9999999 (stay_key plain) && stay_fits s plain) tells_stay
+    (stay_told s (kinds_all_read s kind) (numbers_hold s room)) s.stay.items
+    (sym (all_and (λ plain. is_number_up_to 9999999 (stay_key plain)) (stay_fits s) s.stay.items _ refl)
+    ∙ both _ _ keys fits)
+
+day_after : (arrive depart : ℕ) → is_day depart ≡ true → nat_lt arrive depart ≡ true → is_day (arrive + 1) ≡ true
+day_after arrive depart h less = grind (arith, nat_tests)
+
+lt_tested : (a b : ℕ) → a < b → nat_lt a b ≡ true
+lt_tested a b h = grind (arith, nat_tests)
+
+-- their nights are told by the counts
+pub nights_told : (s : Stored) (counts : Counts) → kind_holds s ≡ true → room_holds s ≡ true → IsCountedOf s counts
+    → list_all (stay_fits s) s.stay.items ≡ true → list_all (tells_night counts) s.stay.items ≡ true
+nights_told s counts kind room h = all_weaker (stay_fits s) (tells_night counts) told s.stay.items
+  where
+    told : (plain : PlainStay) → stay_fits s plain ≡ true → tells_night counts plain ≡ true
+    told plain fits =
+        let name = string_bytes plain.kind in
+        let days = and_true _ (are_stay_days plain) (and_true _ (has_home (rows_of s) (stay_row plain)) fits).0 in
+        let kinds = and_true _ (has_kind (rows_of s) name) days.0 in
+        let until = and_true _ (nat_le (number_of plain.depart) (number_of plain.arrive + 90)) days.1 in
+        let depart = and_true (is_day (number_of plain.depart))
+        (nat_lt (number_of plain.arrive) (number_of plain.depart)) until.0 in
+        let few : rooms_in counts.kinds name < 2 ^ 32 - 1 =
+        omega (arith, h.0 name, count_by-le-length (is_room_of_kind name) s.room.items, few_in s room) in
+        both _ _ (both _ _ (kind_there (rows_of s) name (kinds_all_read s kind) kinds.1)
+        (day_after _ _ depart.0 depart.1)) (lt_tested _ _ few)
 
 -- ---- where counting stops
 

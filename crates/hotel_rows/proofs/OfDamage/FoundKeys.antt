@@ -1,14 +1,18 @@
 -- Where keys stand.
-use Rattle.std.proofs.Common.{◌≡◌, ℕ, suc, zero, ◌<◌, Bool, true, false, cond, ◌==◌, ◌&&◌, ◌++◌, List, [], ◌∷◌, map}
+use Rattle.std.proofs.Common.{◌≡◌, ℕ, suc, zero, ◌<◌, ◌≤◌, ◌+◌, ◌-◌, nat_le, inl, inr, Bool, true, false, cond, ◌==◌, ◌&&◌, ◌++◌, List, [], ◌∷◌, map}
 use Rattle.std.proofs.Common.{length, get_or, Option, Some, None, refl, sym, ap, subst, ◌∙◌, arith}
 use Rattle.std.specs.Prelude.{option_map, is_some}
 use Rattle.std.specs.Ordering.{nat_cmp}
 use Rattle.std.specs.BTreeMap.{insert_entry}
 use Rattle.std.specs.List.{list_all}
+use Rattle.std.proofs.lemmas.Bool.{cases_Bool}
+use Rattle.std.proofs.lemmas.Bool.Decides.{nat_tests}
 use Rattle.hotel_model.specs.Rows.{at_number}
+use Rattle.hotel_model.specs.SoundRooms.{count_up}
 use Rattle.hotel_model.proofs.OfTables.Numbered.{at_inserted}
 use Rattle.hotel_core.proofs.OfTables.MapEntries.{at_is, eq_from}
 use Rattle.hotel_rows.specs.Keys.{place_in, IndexesFirst}
+use Rattle.hotel_rows.specs.Places.{counted_place}
 
 -- the first, or where there is none the second
 abbrev pub or_place : Option ℕ → Option ℕ → Option ℕ
@@ -115,20 +119,20 @@ module _ {L X : Type 0} (key : L → ℕ) (row : L → X) where
   length_keys [] = refl
   length_keys (l ∷ ls) = ap suc (length_keys ls)
 
-  pub none_found : (places : List (ℕ × ℕ)) (ls : List L) (q : ℕ)
-      → IndexesFirst places (map key ls) → at_number places q ≡ None → at_number (map (λ l. (key l, row l)) ls) q ≡ None
-  none_found places [] q is e = refl
-  none_found places (l ∷ ls) q is e =
+  pub none_found : (found : ℕ → Option ℕ) (ls : List L) (q : ℕ)
+      → ((q : ℕ) → found q ≡ place_in (map key ls) q) → found q ≡ None → at_number (map (λ l. (key l, row l)) ls) q ≡ None
+  none_found found [] q is e = refl
+  none_found found (l ∷ ls) q is e =
       row_found key row l (l ∷ ls) q ∙ ap (λ o. option_map (λ i. row (get_or (l ∷ ls) i l)) o) (sym (is q) ∙ e)
 
-  pub one_found : (places : List (ℕ × ℕ)) (ls : List L) (q i : ℕ) (d : L) → IndexesFirst places (map key ls)
-      → at_number places q ≡ Some i → at_number (map (λ l. (key l, row l)) ls) q ≡ Some (row (get_or ls i d))
-  one_found places ls q i d is e =
+  pub one_found : (found : ℕ → Option ℕ) (ls : List L) (q i : ℕ) (d : L) → ((q : ℕ) → found q ≡ place_in (map key ls) q)
+      → found q ≡ Some i → at_number (map (λ l. (key l, row l)) ls) q ≡ Some (row (get_or ls i d))
+  one_found found ls q i d is e =
       row_found key row d ls q ∙ ap (λ o. option_map (λ i. row (get_or ls i d)) o) (sym (is q) ∙ e)
 
-  pub one_bound : (places : List (ℕ × ℕ)) (ls : List L) (q i : ℕ)
-      → IndexesFirst places (map key ls) → at_number places q ≡ Some i → i < length ls
-  one_bound places ls q i is e = bound_of i (map key ls) q (length ls) (sym (is q) ∙ e) (length_keys ls)
+  pub one_bound : (found : ℕ → Option ℕ) (ls : List L) (q i : ℕ)
+      → ((q : ℕ) → found q ≡ place_in (map key ls) q) → found q ≡ Some i → i < length ls
+  one_bound found ls q i is e = bound_of i (map key ls) q (length ls) (sym (is q) ∙ e) (length_keys ls)
 
 key_by : (b : Bool) (ks : List ℕ) (k q i : ℕ) → (k == q) ≡ b → cond b (Some 0) (option_map suc (place_in ks q)) ≡ Some i
     → ((j : ℕ) → place_in ks q ≡ Some j → get_or ks j 0 ≡ q) → get_or (k ∷ ks) i 0 ≡ q
@@ -151,10 +155,10 @@ key_of_plain key (l ∷ ls) zero d low = refl
 key_of_plain key (l ∷ ls) (suc i) d low = key_of_plain key ls i d (omega (arith, low))
 
 module _ {L X : Type 0} (key : L → ℕ) (row : L → X) where
-  pub plain_found : (places : List (ℕ × ℕ)) (ls : List L) (q i : ℕ) (d : L)
-      → IndexesFirst places (map key ls) → at_number places q ≡ Some i → key (get_or ls i d) ≡ q
-  plain_found places ls q i d is e =
-      sym (key_of_plain key ls i d (one_bound key row places ls q i is e)) ∙ key_there (map key ls) q i (sym (is q) ∙ e)
+  pub plain_found : (found : ℕ → Option ℕ) (ls : List L) (q i : ℕ) (d : L)
+      → ((q : ℕ) → found q ≡ place_in (map key ls) q) → found q ≡ Some i → key (get_or ls i d) ≡ q
+  plain_found found ls q i d is e =
+      sym (key_of_plain key ls i d (one_bound key row found ls q i is e)) ∙ key_there (map key ls) q i (sym (is q) ∙ e)
 
 both_parts : (a b : Bool) → (a && b) ≡ true → (a ≡ true) × (b ≡ true)
 both_parts true b h = (refl, h)
@@ -167,3 +171,58 @@ passes_at t [] i d low all = absurd (omega (arith, low))
 passes_at t (l ∷ ls) zero d low all = (both_parts (t l) (list_all t ls) all).0
 passes_at t (l ∷ ls) (suc i) d low all =
     passes_at t ls i d (omega (arith, low)) (both_parts (t l) (list_all t ls) all).1
+
+-- keys that count up from n: those among them
+inside : (n : ℕ) (ks : List ℕ) (q : ℕ) → count_up n ks ≡ true → n ≤ q → q < n + length ks → place_in ks q ≡ Some (q - n)
+inside n [] q up low high = absurd (omega (arith, low, high))
+inside n (k ∷ ks) q up low high =
+    let p = both_parts (k == n) (count_up (n + 1) ks) up in
+    let is : k ≡ n = eq_from k n p.0 in
+    let by : (b : Bool) → (k == q) ≡ b → place_in (k ∷ ks) q ≡ cond b (Some 0) (option_map suc (place_in ks q)) =
+    λ b e. ap (λ b. cond b (Some 0) (option_map suc (place_in ks q))) e in
+    elim (cases_Bool (k == q)) [
+      | inl here ↦
+          let same : 0 ≡ q - n = omega (arith, is, eq_from k q here) in
+          by true here ∙ ap Some same
+      | inr there ↦
+          let more : n + 1 ≤ q = grind (arith, nat_tests, there, is, low) in
+          let few : q < n + 1 + length ks = omega (arith, high) in
+          let same : suc (q - (n + 1)) ≡ q - n = omega (arith, more) in
+          by false there ∙ ap (option_map suc) (inside (n + 1) ks q p.1 more few) ∙ ap Some same
+    ]
+
+-- and the others
+outside : (n : ℕ) (ks : List ℕ) (q : ℕ) → count_up n ks ≡ true → (n ≤ q → n + length ks ≤ q) → place_in ks q ≡ None
+outside n [] q up out = refl
+outside n (k ∷ ks) q up out =
+    let p = both_parts (k == n) (count_up (n + 1) ks) up in
+    let is : k ≡ n = eq_from k n p.0 in
+    elim (cases_Bool (k == q)) [
+      | inl here ↦
+          let low : n ≤ q = omega (arith, is, eq_from k q here) in
+          absurd (omega (arith, is, eq_from k q here, out low))
+      | inr there ↦
+          ap (λ b. cond b (Some 0) (option_map suc (place_in ks q))) there
+          ∙ ap (option_map suc) (outside (n + 1) ks q p.1
+          (λ more. let low : n ≤ q = omega (arith, more) in omega (arith, out low)))
+    ]
+
+-- where a key stands among those that count up from 1
+pub place_counted : (ks : List ℕ) (q : ℕ) → count_up 1 ks ≡ true → counted_place (length ks) q ≡ place_in ks q
+place_counted ks q up = elim (cases_Bool (nat_le 1 q)) [
+  | inl some ↦
+      let low : 1 ≤ q = grind (arith, nat_tests, some) in
+      ap (λ b. cond b (cond (nat_le q (length ks)) (Some (q - 1)) None) None) some
+      ∙ elim (cases_Bool (nat_le q (length ks))) [
+        | inl among ↦
+            let high : q < 1 + length ks = grind (arith, nat_tests, among) in
+            ap (λ b. cond b (Some (q - 1)) None) among ∙ sym (inside 1 ks q up low high)
+        | inr above ↦
+            let high : 1 + length ks ≤ q = grind (arith, nat_tests, above) in
+            ap (λ b. cond b (Some (q - 1)) None) above ∙ sym (outside 1 ks q up (λ _. high))
+      ]
+  | inr none ↦
+      let low : q < 1 = grind (arith, nat_tests, none) in
+      ap (λ b. cond b (cond (nat_le q (length ks)) (Some (q - 1)) None) None) none
+      ∙ sym (outside 1 ks q up (λ one. absurd (omega (arith, low, one))))
+]

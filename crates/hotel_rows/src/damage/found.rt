@@ -6,7 +6,7 @@ ghost use Rattle.hotel_model.specs.Rows.{at_number};
 ghost use Rattle.hotel_rows.specs.Stored.{number_of, fits_of, rows_of, joined_row};
 ghost use Rattle.hotel_rows.specs.Stored.{stay_row, code_row, card_row, inside_pair};
 ghost use Rattle.hotel_rows.specs.Keys.{IndexesFirst, room_key, stay_key, code_key, card_key, note_key, fit_key};
-ghost use Rattle.hotel_rows.specs.Places.{AreOf};
+ghost use Rattle.hotel_rows.specs.Places.{AreOf, Indexes, counted_place, place_at};
 ghost use Rattle.hotel_rows.specs.declared.stored.PlainRoom.{PlainRoom};
 
 use crate::damage::numbers;
@@ -140,13 +140,32 @@ pub(crate) fn fit_keys(alloc: Global, fits: &[PlainFit]) -> Result<Vec<FitKey>, 
     }
 }
 
+/// Where each key of a table stands first.
+#[derive(Drop)]
+pub(crate) enum Index {
+    /// The keys are 1 and on, so many, in order.
+    Counted(usize),
+    Listed(BTreeMap<u64, usize>),
+}
+
+/// Where each key of a table stands first. Keys that count up from 1 need no map.
+fn table_index(alloc: Global, keys: &[u64]) -> Result<Index, Memory>
+    ensures { IfOk result (λ index. Indexes index keys.now) }
+{
+    if numbers::count_from_one(keys) {
+        return Ok(Index::Counted(keys.len()));
+    }
+    let places = index_of(alloc, keys)?;
+    Ok(Index::Listed(places))
+}
+
 /// Where the rows with a number for a key stand.
 #[derive(Drop)]
 pub(crate) struct Places {
-    rooms: BTreeMap<u64, usize>,
-    stays: BTreeMap<u64, usize>,
-    codes: BTreeMap<u64, usize>,
-    cards: BTreeMap<u64, usize>,
+    rooms: Index,
+    stays: Index,
+    codes: Index,
+    cards: Index,
 }
 
 /// Where the stored rows stand.
@@ -154,13 +173,13 @@ pub(crate) fn places_of(alloc: Global, stored: &Stored) -> Result<Places, Memory
     ensures { IfOk result (λ places. AreOf places stored.now) }
 {
     let room_keys = room_keys(alloc, &stored.room)?;
-    let rooms = index_of(alloc, &room_keys)?;
+    let rooms = table_index(alloc, &room_keys)?;
     let stay_keys = stay_keys(alloc, &stored.stay)?;
-    let stays = index_of(alloc, &stay_keys)?;
+    let stays = table_index(alloc, &stay_keys)?;
     let code_keys = code_keys(alloc, &stored.code)?;
-    let codes = index_of(alloc, &code_keys)?;
+    let codes = table_index(alloc, &code_keys)?;
     let card_keys = card_keys(alloc, &stored.card)?;
-    let cards = index_of(alloc, &card_keys)?;
+    let cards = table_index(alloc, &card_keys)?;
     Ok(Places {
         rooms,
         stays,
@@ -169,10 +188,23 @@ pub(crate) fn places_of(alloc: Global, stored: &Stored) -> Result<Places, Memory
     })
 }
 
-fn place_at(places: &BTreeMap<u64, usize>, key: u64) -> Option<usize>
-    ensures { result ≡ at_number places.now.entries key }
+/// Where a key stands among 1 and on, so many.
+fn counted_place(len: usize, key: u64) -> Option<usize>
+    ensures { result ≡ counted_place len key }
 {
-    places.get(&key).copied()
+    if key < 1 || key > len as u64 {
+        return None;
+    }
+    Some((key - 1) as usize)
+}
+
+fn place_at(index: &Index, key: u64) -> Option<usize>
+    ensures { result ≡ place_at index.now key }
+{
+    match index {
+        Index::Counted(len) => counted_place(*len, key),
+        Index::Listed(places) => places.get(&key).copied(),
+    }
 }
 
 /// The room of a number.

@@ -1,13 +1,15 @@
 //! The rules of the table of stays.
-ghost use Rattle.std.specs.Prelude.{◌≡◌, IfOk};
+ghost use Rattle.std.specs.Prelude.{◌≡◌, true, false, IfOk, MatchOption};
 ghost use Rattle.std.specs.List.{list_all};
 ghost use Rattle.hotel_nights.specs.Guests.{is_guest};
 ghost use Rattle.hotel_rows.specs.Stored.{rows_of, stay_row};
-ghost use Rattle.hotel_rows.specs.Damage.{are_stay_columns, stay_holds};
+ghost use Rattle.hotel_rows.specs.Counts.{IsCountedOf};
+ghost use Rattle.hotel_rows.specs.Damage.{are_stay_columns, kind_holds, room_holds, stay_holds};
 ghost use Rattle.hotel_rows.specs.Known.{KindsOf};
 ghost use Rattle.hotel_rows.specs.Places.{AreOf};
 ghost use Rattle.hotel_rows.specs.RowTests.{are_stay_days, has_home, stay_fits};
 
+use crate::counts::{Counts, counts_of};
 use crate::damage::found::{Places, room_at, stay_keys};
 use crate::damage::kinds::{Kinds, has_kind};
 use crate::damage::nights::nights_fit;
@@ -113,24 +115,31 @@ pub(crate) fn stays_fit(
     Ok(true)
 }
 
-/// Whether the rules of the table of stays hold, where those of the kinds do.
+/// What is counted of the rows, where the rules of the table of stays hold.
 pub(crate) fn stays_hold(
     alloc: Global,
     kinds: &Kinds,
     places: &Places,
     stored: &Stored,
-) -> Result<bool, Memory>
+) -> Result<Option<Counts>, Memory>
     requires kinds { KindsOf kinds.now.entries stored.now }
     requires places { AreOf places.now stored.now }
-    ensures { IfOk result (λ hold. hold ≡ stay_holds stored.now) }
+    requires kinds_hold { kind_holds stored.now ≡ true }
+    requires rooms_hold { room_holds stored.now ≡ true }
+    ensures { IfOk result (λ hold. MatchOption hold (stay_holds stored.now ≡ false)
+        (λ counts. (stay_holds stored.now ≡ true) × IsCountedOf stored.now counts)) }
 {
     let keys = stay_keys(alloc, &stored.stay)?;
     if !are_numbered(&keys) {
-        return Ok(false);
+        return Ok(None);
     }
     let fit = stays_fit(alloc, kinds, places, stored)?;
     if !fit {
-        return Ok(false);
+        return Ok(None);
     }
-    nights_fit(alloc, stored)
+    let counts = counts_of(alloc, stored)?;
+    if !nights_fit(&counts, stored) {
+        return Ok(None);
+    }
+    Ok(Some(counts))
 }

@@ -1,7 +1,7 @@
 use Rattle.std.proofs.Common.{arith, sym, subst, take, ℕ, List}
 use Rattle.httparse.specs.{Spans.IsRequestWithin}
 use Rattle.hotel_http.specs.{Head.LiesWithin, declared.head.Judged.Judged}
-use Rattle.hotel_http.proofs.RequestLemmas.{follows_whole, request_ends, request_read}
+use Rattle.hotel_http.proofs.RequestLemmas.{head_kept, follows_whole, request_ends, request_read}
 use Rattle.hotel_http.specs.declared.head.TheConstants.{HEAD_BYTES}
 use Rattle.hotel_http.proofs.requests.read_request.Goals as goal
 
@@ -33,3 +33,7 @@ returns-clause-follows g c =
     let read = c.in_ok-read_head.ensures in
     follows_whole (g.R.Read.remaining c.args.reader.now) c.read_behind_head.result c.in-Whole.is c.deref.ensures.value
     read.within read.judged c.read_behind_head.ensures.follows
+
+pub returns-clause-before : goal.returns-clause-before
+returns-clause-before g c failed = head_kept (g.R.Read.remaining c.args.reader.now) _ _ c.in_ok-read_head.ensures.wanted
+    (c.read_behind_head.ensures.before failed)

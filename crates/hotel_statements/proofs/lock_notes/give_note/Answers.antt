@@ -1,6 +1,7 @@
 use Rattle.std.proofs.Common.{[], ◌∷◌, subst}
 use Rattle.hotel_statements.specs.Statements.{WritesBy, sets_noted}
 use Rattle.hotel_core.specs.Refinement.Finds.{AnyRows}
+use Rattle.hotel_core.proofs.OfCode.NoteFields.{room_is}
 use Rattle.hotel_statements.specs.Steps.{room_noted}
 use Rattle.hotel_statements.proofs.InTurn.{writes_then, writes_stopped}
 use Rattle.hotel_statements.proofs.lock_notes.give_note.Goals as goal
@@ -17,5 +18,5 @@ returns-clause-makes g c =
     let noted = subst (λ room. WritesBy g.S.Store (sets_noted room place secured number ∷ []) AnyRows
     (room_noted room place secured number) c.insert_note.new.tx.conn.now c.set_noted.new.tx.conn.now
     c.set_noted.result)
-    c.room.ensures c.set_noted.ensures.makes in
+    (room_is c.note.view_is) c.set_noted.ensures.makes in
     writes_then c.in_ok-insert_note.ensures.makes noted

@@ -7,6 +7,7 @@ use Rattle.hotel_core.specs.Refinement.Finds.{AnyRows}
 use Rattle.hotel_statements.specs.Steps.{IsNumbered, inside_gone, inside_added}
 use Rattle.hotel_statements.proofs.InTurn.{writes_then, writes_stopped, writes_as}
 use Rattle.hotel_statements.proofs.Made.Rooms.{note_is}
+use Rattle.hotel_core.proofs.OfCode.NoteFields.{room_is}
 use Rattle.hotel_statements.proofs.lock_notes.take_note.Goals as goal
 
 pub returns-in_err-give_note-in-Goes-clause-makes : goal.returns-in_err-give_note-in-Goes-clause-makes
@@ -39,7 +40,7 @@ returns-in_ok-give_note-in-Goes-clause-makes g c =
     let card = c.in-Goes.card in
     let goes = subst (λ room. WritesBy g.S.Store (removes_inside room card ∷ []) AnyRows (inside_gone room card)
     c.give_note-in-Goes.new.tx.conn.now c.delete_inside.new.tx.conn.now c.delete_inside.result)
-    c.room.ensures c.delete_inside.ensures.makes in
+    (room_is c.note.view_is) c.delete_inside.ensures.makes in
     subst (λ insides. WritesBy g.S.Store (takes_note note number place secured insides) (IsNumbered note number)
     (made (change.Noted note place secured insides)) c.args.tx.now.conn.now c.delete_inside.new.tx.conn.now
     c.delete_inside.result)
@@ -55,7 +56,7 @@ returns-in_ok-give_note-in-Comes-clause-makes g c =
     let card = c.in-Comes.card in
     let comes = subst (λ room. WritesBy g.S.Store (adds_inside room card ∷ []) AnyRows (inside_added room card)
     c.give_note-in-Comes.new.tx.conn.now c.insert_inside.new.tx.conn.now c.insert_inside.result)
-    c.room-in-Comes.ensures c.insert_inside.ensures.makes in
+    (room_is c.note.view_is) c.insert_inside.ensures.makes in
     subst (λ insides. WritesBy g.S.Store (takes_note note number place secured insides) (IsNumbered note number)
     (made (change.Noted note place secured insides)) c.args.tx.now.conn.now c.insert_inside.new.tx.conn.now
     c.insert_inside.result)

@@ -1,4 +1,6 @@
-use Rattle.std.proofs.Common.{[], ◌∷◌, refl}
+use Rattle.std.proofs.Common.{[], ◌∷◌, ap, refl}
+use Rattle.keycard_rules.specs.Note.{Note}
+use Rattle.hotel_core.proofs.OfCode.NoteFields.{act_is, room_is}
 use Rattle.hotel_statements.specs.Values.{int, maybe_int}
 use Rattle.hotel_statements.specs.Columns.{act_number, act_card, act_first, act_second}
 use Rattle.hotel_statements.proofs.InTurn.{writes_row}
@@ -21,10 +23,10 @@ returns-clause-makes g c =
       c.act_second.ensures,
       c.small-2.ensures,
       c.small-3.ensures,
-      c.room.ensures,
-      c.act-act.ensures,
       c.from.ensures,
-      c.day.ensures.same,
-      c.second.ensures.same,
+      room_is c.note.view_is,
+      act_is c.note.view_is,
+      ap (λ (note : Note). note.day) c.note.view_is,
+      ap (λ (note : Note). note.second) c.note.view_is,
       bound_maybe (act_card n.act),
     ) refl)

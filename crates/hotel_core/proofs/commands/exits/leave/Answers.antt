@@ -4,6 +4,7 @@ use Rattle.hotel_model.specs.declared.reply.Refusal.TheVariants as refusal
 use Rattle.hotel_core.proofs.OfCode.Parts.{given, then_found, stopped, refuses, ends, only, bars_refuse, bars_pass}
 use Rattle.hotel_core.proofs.OfCode.CheckParts.{then_passed, refused_first, bars_of_card}
 use Rattle.hotel_core.proofs.OfCode.AnswerParts.{answers, comes_of}
+use Rattle.hotel_core.proofs.OfCode.NoteFields.{room_is}
 use Rattle.hotel_core.proofs.commands.exits.leave.Goals as goal
 
 pub returns-in_err-noted_card : goal.returns-in_err-noted_card
@@ -21,21 +22,21 @@ returns-in_err-is_inside g c = λ source.
 pub returns-then-not-branch : goal.returns-then-not-branch
 returns-then-not-branch g c = λ source.
     refuses refusal.NotInside refl (then_found (then_passed (given (IsUntaken c.args.note.now c.args.row.now)
-    c.requires.untaken) c.in_ok-noted_card.ensures) (rw c.room.ensures at c.in_ok-is_inside.ensures))
+    c.requires.untaken) c.in_ok-noted_card.ensures) (rw (room_is c.note.view_is) at c.in_ok-is_inside.ensures))
     (λ k. bars_pass (bars_of_card (g.B.Books.rows c.args.books.now) c.args.number c.args.link.now) _ _ k.0.1
     ∙ rw (only k.1, c.if-not-branch.true) (refl {a = refused refusal.NotInside}))
 
 pub make-requires-clause-answered : goal.make-requires-clause-answered
 make-requires-clause-answered g c =
     answers (then_found (then_passed (given (IsUntaken c.args.note.now c.args.row.now) c.requires.untaken)
-    c.in_ok-noted_card.ensures) (rw c.room.ensures at c.in_ok-is_inside.ensures))
+    c.in_ok-noted_card.ensures) (rw (room_is c.note.view_is) at c.in_ok-is_inside.ensures))
     (λ clean k. comes_of _ _ _ (c.requires.outcome clean) (bars_pass (bars_of_card (g.B.Books.rows c.args.books.now)
-    c.args.number c.args.link.now) _ _ k.0.1 ∙ rw (k.0.0.0, only k.1, c.if-not-branch.false) refl))
+    c.args.number c.args.link.now) _ _ k.0.1 ∙ rw (k.0.0.0, only k.1, c.if-not-branch.false, c.note.view_is) refl))
 
 pub returns : goal.returns
 returns g c = λ source.
     ends (then_found (then_passed (given (IsUntaken c.args.note.now c.args.row.now) c.requires.untaken)
-    c.in_ok-noted_card.ensures) (rw c.room.ensures at c.in_ok-is_inside.ensures))
+    c.in_ok-noted_card.ensures) (rw (room_is c.note.view_is) at c.in_ok-is_inside.ensures))
     (c.make.ensures.steps source)
     (λ k. bars_pass (bars_of_card (g.B.Books.rows c.args.books.now) c.args.number c.args.link.now) _ _ k.0.1
-    ∙ rw (k.0.0.0, only k.1, c.if-not-branch.false) refl)
+    ∙ rw (k.0.0.0, only k.1, c.if-not-branch.false, c.note.view_is) refl)

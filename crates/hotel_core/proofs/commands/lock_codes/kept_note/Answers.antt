@@ -2,6 +2,7 @@ use Rattle.std.proofs.Common.{◌<◌, ◌-◌, ◌==◌, nat_lt, Some, None, re
 use Rattle.hotel_core.proofs.{Names.note_at, Names.since_refl, OfCode.LaterNotes.no_later_note}
 use Rattle.hotel_core.proofs.{OfCode.Counting.none_more, OfCode.LookUps.knows}
 use Rattle.hotel_model.proofs.{OfTables.Tests.and_true, OfTables.Tests.eq_from, OfTables.Tests.lt_from}
+use Rattle.hotel_core.proofs.OfCode.NoteFields.{count_is, fit_is, room_is}
 use Rattle.hotel_core.proofs.commands.lock_codes.kept_note.Goals as goal
 
 pub returns-then-is_past : goal.returns-then-is_past
@@ -27,5 +28,6 @@ pub returns : goal.returns
 returns g c =
     let note = c.args.note.now in
     knows g.met.B.Books.kept_rows (λ rows. note_at rows note.room note.fit note.count)
-    c.note-kept.result c.known.result (rw (c.room.ensures, c.fit.ensures, c.count.ensures) at c.note-kept.ensures)
+    c.note-kept.result c.known.result
+    (rw (room_is c.note.view_is, fit_is c.note.view_is, count_is c.note.view_is) at c.note-kept.ensures)
     c.known.ensures

@@ -5,14 +5,12 @@ use Rattle.hotel_program.specs.Timed.{Reading, ReadsOn, ReadsRest, all_brought}
 use Rattle.hotel_program.specs.declared.timed.TheConstants.{REST_BYTES}
 use Rattle.hotel_program.proofs.timed.TimedReader.linger.Given as goal
 
-abbrev pub invariant-loop-left : goal.invariant-loop-left
-invariant-loop-left g l = record {
-  read : (readings : List Reading) × ReadsOn (ReadsRest (g.L.Link.reads_limited l.initial.self.stream.now)
-      g.L.Link.clock_read (g.L.Link.was_read l.initial.self.stream.now))
-      readings (l.initial.self.link, as_nanos l.initial.self.left) (l.self.link, as_nanos l.self.left)
-      × (l.left ≡ REST_BYTES - all_brought readings);
-  same : l.self.stream ≡ l.initial.self.stream;
+abbrev pub invariant-loop-rest : goal.invariant-loop-rest
+invariant-loop-rest g l = record {
+  read : (readings : List Reading) × ReadsOn (ReadsRest (g.L.Link.reads_limited l.stream) g.L.Link.clock_read
+      (g.L.Link.was_read l.stream)) readings (l.initial.link, as_nanos l.initial.left) (l.link, as_nanos l.left)
+      × (l.rest ≡ REST_BYTES - all_brought readings);
 }
 
-abbrev pub decreases-loop-left : goal.decreases-loop-left
-decreases-loop-left g l = l.left
+abbrev pub decreases-loop-rest : goal.decreases-loop-rest
+decreases-loop-rest g l = l.rest

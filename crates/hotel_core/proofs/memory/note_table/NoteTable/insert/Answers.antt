@@ -5,4 +5,4 @@ use Rattle.hotel_core.proofs.memory.note_table.NoteTable.insert.Goals as goal
 pub invariant_of-self-2 : goal.invariant_of-self-2
 invariant_of-self-2 c =
     subst (λ es. HaveCounts es) (sym c.in-Ok.ensures.entries) (counts_added c.self.inside.notes.entries
-    (c.room.result, c.args.number) c.args.note.now c.self.invariant (search rules))
+    (c.note.inside.room, c.args.number) _ c.self.invariant (search rules))

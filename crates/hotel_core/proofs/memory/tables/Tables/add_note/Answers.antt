@@ -4,6 +4,7 @@ use Rattle.hotel_core.proofs.Names.{pair_cmp, Rows, note_numbered, before_in, La
 use Rattle.hotel_core.proofs.{OfTables.MapEntries.taken_back, OfTables.MapEntries.pair_total}
 use Rattle.hotel_core.proofs.{OfTables.LaterPlaces.free_on, OfTables.LaterPlaces.codes_changed}
 use Rattle.hotel_core.proofs.OfNights.RoomsByKind.{known_changed}
+use Rattle.hotel_core.proofs.OfCode.NoteFields.{count_is, room_is}
 use Rattle.hotel_core.proofs.memory.tables.Tables.add_note.Goals as goal
 
 pub invariant_of-self-2 : goal.invariant_of-self-2
@@ -17,23 +18,24 @@ invariant_of-self-2 c =
     record {
       places = subst (λ later. LaterPlacesFree later c.self.inside.codes)
           (sym c.note_at.ensures) (free_on rooms _ c.self.inside.codes c.self.invariant.places
-          (λ r. codes_changed (λ m n. m ≤ n) (λ n. omega arith) f (λ row. omega arith) c.room-room.result r rooms));
+          (λ r. codes_changed (λ m n. m ≤ n) (λ n. omega arith) f (λ row. omega arith) c.note.inside.room r rooms));
       rooms_known = subst (λ later. RoomsKnown c.self.inside.kinds later) (sym c.note_at.ensures)
-          (known_changed f (λ row. refl) c.self.inside.kinds c.room-room.result rooms c.self.invariant.rooms_known);
+          (known_changed f (λ row. refl) c.self.inside.kinds c.note.inside.room rooms c.self.invariant.rooms_known);
     }
 
 pub returns-in_default-change-clause-err : goal.returns-in_default-change-clause-err
 returns-in_default-change-clause-err c =
     let t = c.self.inside in
     let note : Note = c.args.note.now in
-    let count : c.value-count.result ≡ note.count = c.value-count.ensures.same ∙ c.count.ensures in
+    let count : c.value-count.result ≡ note.count = c.value-count.ensures.same ∙ count_is c.note.view_is in
     let number : c.notes_before.result + c.value-count.result ≡ before_in c.args.self.now note.room + note.count =
     (λ i. c.notes_before.ensures i + count i)
-    ∙ ap (λ r. said_of (at_number t.rooms.entries r) 0 (λ (x : RoomRow). x.before) + note.count) c.room-room.ensures
+    ∙ ap (λ r. said_of (at_number t.rooms.entries r) 0 (λ (x : RoomRow). x.before) + note.count)
+    (room_is c.note.view_is)
     ∙ ap (λ (rows : Rows). before_in rows note.room + note.count) c.self.view_is in
     let key : ℕ × ℕ = (note.room, before_in c.args.self.now note.room + note.count) in
-    let own : (c.room-room.result, c.notes_before.result + c.value-count.result) ≡ key =
-    (λ i. (c.room-room.ensures i, number i)) in
+    let own : (c.note.inside.room, c.notes_before.result + c.value-count.result) ≡ key =
+    (λ i. ((room_is c.note.view_is) i, number i)) in
     let kept : (note.room, c.notes_before.result + c.value-count.result) ≡ key = (λ i. (note.room, number i)) in
     let absent = ap (λ (rows : Rows). note_numbered rows key.0 key.1) c.self.view_is ∙ c.requires.untaken in
     let before : List ((ℕ × ℕ) × Note) → Rows = λ notes. record {
@@ -65,18 +67,18 @@ returns-in_default-change-clause-err c =
 
 pub overflow_add-number : goal.overflow_add-number
 overflow_add-number c =
-    let count : c.value-count.result ≡ c.args.note.now.count = c.value-count.ensures.same ∙ c.count.ensures in
+    let count : c.value-count.result ≡ c.args.note.now.count = c.value-count.ensures.same ∙ count_is c.note.view_is in
     let before : c.notes_before.result ≡ before_in c.args.self.now c.args.note.now.room =
     c.notes_before.ensures
-    ∙ ap (λ r. said_of (at_number c.self.inside.rooms.entries r) 0 (λ (x : RoomRow). x.before)) c.room-room.ensures
+    ∙ ap (λ r. said_of (at_number c.self.inside.rooms.entries r) 0 (λ (x : RoomRow). x.before)) (room_is c.note.view_is)
     ∙ ap (λ (rows : Rows). before_in rows c.args.note.now.room) c.self.view_is in
     omega (arith, count, before, c.requires.few)
 
 pub note_at-requires : goal.note_at-requires
 note_at-requires c =
-    let count : c.value-count.result ≡ c.args.note.now.count = c.value-count.ensures.same ∙ c.count.ensures in
-    let before : said_of (at_number c.self.inside.rooms.entries c.room-room.result) 0 (λ (x : RoomRow). x.before)
+    let count : c.value-count.result ≡ c.args.note.now.count = c.value-count.ensures.same ∙ count_is c.note.view_is in
+    let before : said_of (at_number c.self.inside.rooms.entries c.note.inside.room) 0 (λ (x : RoomRow). x.before)
     ≡ before_in c.args.self.now c.args.note.now.room =
-    ap (λ r. said_of (at_number c.self.inside.rooms.entries r) 0 (λ (x : RoomRow). x.before)) c.room-room.ensures
+    ap (λ r. said_of (at_number c.self.inside.rooms.entries r) 0 (λ (x : RoomRow). x.before)) (room_is c.note.view_is)
     ∙ ap (λ (rows : Rows). before_in rows c.args.note.now.room) c.self.view_is in
     omega (arith, count, before, c.requires.few)
