@@ -1,0 +1,200 @@
+"""What the documents want: the rows of a desk, and its answer to each command, note and list."""
+import collections
+import types
+
+from simulated.things import Card, day_text, ordinal
+
+FIRST_DAY, LAST_DAY = ordinal("2000-01-01"), ordinal("2099-12-31")
+MOST_FITS = 99
+CODE = "([0-9a-f]{12})"
+CARD = "card {card} party {party} old {old} new {new}"
+# docs/SCRIPTS.md, Commands: the values of each command, its answer, and its refusals in the order of the checks. A note
+# is answered `seen` where that stands.
+COMMANDS = {
+    "begin": ("day", "begun", "2"), "next-day": ("", "day {day}", "1 20"),
+    "add-kind": ("kind", "kind added", "1 3"), "add-room": ("room kind", "room code {new}", "1 4 5"),
+    "reserve": ("kind arrive nights guest", "party {party}", "1 4 15 16 17"),
+    "cancel": ("party", "cancelled", "1 7 8"), "check-out": ("party", "checked out", "1 7 9"),
+    "check-in": ("party room", CARD, "1 6 7 8 10 11 12 14"), "transfer": ("party room", CARD, "1 6 7 9 12 13 14"),
+    "spare": ("party", CARD, "1 7 9"), "reissue": ("party", CARD, "1 7 9"),
+    "entered": ("note", "taken", "1 6 32 21 seen 31 22 23 24 25"),
+    "left": ("note", "taken", "1 6 32 21 seen 31 22 23 24 26"),
+    "recoded": ("note", "taken", "1 6 32 21 seen 31 22 27 28"),
+    "refit": ("room", "lock {fit} code {new}", "1 6 14 33"),
+}
+# docs/FORMATS.md, What is answered: a note of this kind has the refusals of that command.
+VERBS = {"in": "entered", "out": "left", "recode": "recoded"}
+# docs/SCRIPTS.md, Refusals: the name and the cause of each. A cause that is a text is printed after the name. `kept` is
+# the notes taken of a note's lock, and `taken` the one of its count.
+REFUSALS = {
+    "1": ("NotBegun", lambda a: a.books.day is None), "2": ("AlreadyBegun", lambda a: a.books.day is not None),
+    "3": ("KindExists", lambda a: a.v["kind"] in a.books.kinds),
+    "4": ("NoKind", lambda a: a.v["kind"] not in a.books.kinds),
+    "5": ("RoomExists", lambda a: a.room is not None), "6": ("NoRoom", lambda a: a.room is None),
+    "7": ("NoParty", lambda a: a.stay is None), "8": ("NotBooked", lambda a: a.stay.state != "booked"),
+    "9": ("NotInHouse", lambda a: a.stay.state != "in house"),
+    "10": ("TooEarly", lambda a: a.books.day < a.stay.arrive),
+    "11": ("StayOver", lambda a: a.books.day >= a.stay.depart),
+    "12": ("WrongKind", lambda a: a.room.kind != a.stay.kind),
+    "13": ("SameRoom", lambda a: a.room.party == a.stay.party), "14": ("RoomTaken", lambda a: a.room.party is not None),
+    "15": ("PastArrival", lambda a: a.v["arrive"] < a.books.day),
+    "16": ("PastEnd", lambda a: a.v["arrive"] + a.v["nights"] > LAST_DAY),
+    "17": ("KindFull", lambda a: a.books.full_night(a.v["kind"], a.v["arrive"], a.v["nights"])),
+    "20": ("LastDay", lambda a: a.books.day == LAST_DAY),
+    "21": ("Conflict", lambda a: a.taken not in (None, a.note)), "seen": ("seen", lambda a: a.taken),
+    "22": ("Gap", lambda a: a.note.count > len(a.kept) + 1 and f" {len(a.kept) + 1}"),
+    "23": ("NoCard", lambda a: a.note.card not in a.books.cards),
+    "24": ("CardDiffers", lambda a: a.books.cards[a.note.card][2:4] != (a.note.old, a.note.new)),
+    "25": ("LockShut", lambda a: a.room.held not in (a.note.old, a.note.new)),
+    "26": ("NotInside", lambda a: a.note.card not in a.room.inside),
+    "27": ("HeldDiffers", lambda a: a.room.held != a.note.old),
+    "28": ("NotAwaited", lambda a: a.note.new not in a.room.awaited),
+    "31": ("OldFit", lambda a: a.note.fit < len(a.room.fits)), "32": ("NoFit", lambda a: a.note.fit > len(a.room.fits)),
+    "33": ("FitsUsedUp", lambda a: len(a.room.fits) == MOST_FITS),
+}
+# docs/SCRIPTS.md, Lists.
+HEADERS = {"arrivals": "party,guest,kind,arrive,depart", "in-house": "room,party,guest,kind,depart,secured",
+           "chain": "place,code,state", "left-behind": "room,held,current,awaited",
+           "audit-of": "room,fit,count,kind,card,old,new,at"}
+
+
+def row(note):
+    return ",".join(map(str, note))
+
+
+def field(guest):
+    return '"' + guest.replace('"', '""') + '"' if set(guest) & set(',"') else guest
+
+
+class Room:
+    """A room: its codes in order of issue, the place of the code that its lock holds and the cards inside, as far as
+    notes tell, and the notes of each of its locks."""
+
+    def __init__(self, number, kind, code):
+        self.number, self.kind, self.codes, self.place = number, kind, [code], 0
+        self.party, self.inside, self.is_secured, self.fits = None, set(), False, [[]]
+
+    held = property(lambda self: self.codes[self.place])
+    awaited = property(lambda self: self.codes[self.place + 1:])
+    link = property(lambda self: tuple(self.codes[-2:]))
+
+    def takes(self, note):
+        self.fits[-1].append(note)
+        self.place = self.place if note.kind == "out" else self.codes.index(note.new)
+        self.is_secured |= note.kind == "in" and not self.awaited and not self.inside
+        self.inside = self.inside | {note.card} if note.kind == "in" else self.inside - {note.card}
+
+    def gains(self, code, is_of_lock=False):
+        self.codes.append(code)
+        self.is_secured = False
+        if is_of_lock:
+            self.place, self.inside = len(self.codes) - 1, set()
+            self.fits.append([])
+
+
+class Books:
+    """The rows of a desk. Days are ordinals; the values of a command have their names in COMMANDS."""
+
+    def __init__(self):
+        self.day, self.kinds, self.rooms, self.stays, self.cards = None, set(), {}, {}, {}
+        self.nights = collections.Counter()
+
+    def full_night(self, kind, arrive, nights):
+        rooms = sum(room.kind == kind for room in self.rooms.values())
+        full = (night for night in range(arrive, arrive + nights) if self.nights[kind, night] >= rooms)
+        return next((f" {day_text(night)}" for night in full), None)
+
+    def refusal(self, verb, v):
+        """What a command is answered that does nothing; None if it is carried out."""
+        note, stay, room = v.get("note"), self.stays.get(v.get("party")), self.room_of(v)
+        kept = room.fits[note.fit - 1] if note and room and note.fit <= len(room.fits) else []
+        taken = kept[note.count - 1] if note and note.count <= len(kept) else None
+        asked = types.SimpleNamespace(books=self, v=v, note=note, stay=stay, room=room, kept=kept, taken=taken)
+        for number in COMMANDS[verb][2].split():
+            name, cause = REFUSALS[number]
+            if found := cause(asked):
+                return name if number == "seen" else f"refused {number} {name}{found if isinstance(found, str) else ''}"
+        return None
+
+    def room_of(self, v):
+        stay = self.stays.get(v.get("party"))
+        return self.rooms.get(v["note"].room if "note" in v else v.get("room") or (stay and stay.room))
+
+    def answer(self, verb, v, code=CODE):
+        """The answer to a command that is carried out, with this fresh code in it; else a pattern."""
+        room, day = self.room_of(v), self.day and day_text(self.day + 1)
+        old, new = (room.link if verb == "spare" else (room.codes[-1], code)) if room else (None, code)
+        return COMMANDS[verb][1].format(card=len(self.cards) + 1, party=v.get("party", len(self.stays) + 1), old=old,
+                                        new=new, fit=room and len(room.fits) + 1, day=day)
+
+    def carry_out(self, verb, v, code=None):
+        """Carries a command out, and returns its card, its code, or True."""
+        room, stay = self.room_of(v), self.stays.get(v.get("party"))
+        if stay and stay.room and verb != "spare":
+            self.rooms[stay.room].party = None
+        if "note" in v:
+            room.takes(v["note"])
+        elif verb in ("begin", "next-day"):
+            self.day = v.get("day") or self.day + 1
+        elif verb == "add-kind":
+            self.kinds.add(v["kind"])
+        elif verb == "add-room":
+            self.rooms[v["room"]] = Room(v["room"], v["kind"], code)
+        elif verb == "refit":
+            room.gains(code, is_of_lock=True)
+        elif verb == "reserve":
+            stay = types.SimpleNamespace(**v, party=len(self.stays) + 1, state="booked", room=None)
+            stay.depart, self.stays[stay.party] = stay.arrive + stay.nights, stay
+            self.nights.update((stay.kind, night) for night in range(stay.arrive, stay.depart))
+        elif verb in ("cancel", "check-out"):
+            self.nights.subtract((stay.kind, night) for night in range(stay.arrive, stay.depart))
+            stay.state, stay.room = "over", None
+        else:
+            if verb != "spare":
+                stay.state, stay.room, room.party = "in house", room.number, stay.party
+                room.gains(code)
+            self.cards[len(self.cards) + 1] = card = Card(len(self.cards) + 1, stay.party, *room.link, room.number)
+            return card
+        return code or True
+
+    def told(self, note):
+        """The answer to a note, which is carried out if it isn't refused or seen."""
+        asked = VERBS[note.kind], {"note": note}
+        return self.refusal(*asked) or self.carry_out(*asked) and "taken"
+
+    def file_answer(self, notes, cut=0):
+        """What an audit file of these notes is answered, of which so many last bytes are cut (docs/FORMATS.md, What is
+        answered). The notes are carried out."""
+        rest = row(notes[-1])[:-cut] if cut else ""
+        answers = [self.told(note) for note in notes[:len(notes) - bool(cut)]]
+        answers += ["unread FieldCount" if rest.count(",") < 7 else "unread BadMoment"] if rest else []
+        return "".join(f"{number} {said}\n" for number, said in enumerate(answers, 1))
+
+    def list_of(self, line):
+        """What this list is answered."""
+        name, *value = line.split(" ")
+        if name in ("chain", "audit-of") and int(value[0]) not in self.rooms:
+            return "refused 6 NoRoom\n"
+        return "\n".join([HEADERS[name], *getattr(self, name.replace("-", "_"))(*value), ""])
+
+    def arrivals(self, day):
+        stays = (stay for stay in self.stays.values() if stay.arrive <= ordinal(day) < stay.depart)
+        return [f"{stay.party},{field(stay.guest)},{stay.kind},{day_text(stay.arrive)},{day_text(stay.depart)}"
+                for stay in stays if stay.state == "booked"]
+
+    def in_house(self):
+        rooms = [(room, self.stays[room.party]) for _, room in sorted(self.rooms.items()) if room.party]
+        return [f"{room.number},{stay.party},{field(stay.guest)},{stay.kind},{day_text(stay.depart)},"
+                f"{'yes' if room.is_secured else 'no'}" for room, stay in rooms]
+
+    def chain(self, number):
+        codes, held = self.rooms[int(number)].codes, self.rooms[int(number)].place
+        return [f"{place},{code},{'passed' if place < held else 'held' if place == held else 'awaited'}"
+                for place, code in enumerate(codes)]
+
+    def left_behind(self):
+        return [f"{number},{room.held},{room.codes[-1]},{len(room.awaited)}"
+                for number, room in sorted(self.rooms.items()) if len(room.awaited) >= 2]
+
+    def audit_of(self, number):
+        return [row(note) for kept in self.rooms[int(number)].fits for note in kept]
