@@ -4,8 +4,9 @@
 usage: document_names.py      (nothing is built or run)
 
 - Of each document: identifiers are words of crates, .ci or bench, and files of a crate are there.
-- docs/PROOFS.md and docs/FAULTS.md: a clause, as `run.through`, is one of a function of that name, or a part of a
-  record. A scenario, a test and a function of .ci is there.
+- The tables of docs/PROOFS.md, FAULTS.md, LIMITS.md and TESTING.md: a clause, as `run.through`, is one of a function
+  of that name, a part of a record, or a ghost member of a trait. A scenario, a test, a module of a crate and a function
+  of .ci is there.
 - Each must-fail edit says in a line '# breaks: CRATE CLAUSE, ..' which clause of docs/PROOFS.md it breaks.
 - docs/MODEL.md: a definition, as `Lock.held`, stands in that file of specs.
 - docs/ARCHITECTURE.md: a function of a step stands in the crate and in the file that the step names. The files of a
@@ -23,6 +24,8 @@ TOP = pathlib.Path(__file__).resolve().parent.parent
 CRATES = {path.name: path for path in sorted((TOP / "crates").iterdir())}
 DOCUMENTS = [TOP / "README.md", *sorted((TOP / "docs").glob("*.md")), TOP / "bench" / "README.md"]
 TEST_CRATES = ("hotel_tests", "hotel_stored_tests", "hotel_client")
+# The documents whose tables name clauses and tests.
+WITH_CLAUSES = ("PROOFS", "FAULTS", "LIMITS", "TESTING")
 # Words of other libraries that documents name.
 FOREIGN = {"assert_eq", "auto_vacuum", "sqlite_stat1"}
 
@@ -32,6 +35,7 @@ CRATE_FILE = re.compile(rf"(?<![\w/])(?:crates/)?((?:hotel|keycard)_\w+)/((?:{FO
 SCRIPT = re.compile(r"`\.ci/(\w+)`((?:[:,] `\w+`)*)")
 HEADER = re.compile(r"\s*(?:pub(?:\([a-z]+\))? )?(?:const )?fn (\w+)")
 CLAUSE = re.compile(r"\s*ensures\s*(\w+)\s*\{")
+GHOST = re.compile(r"\s*ghost (\w+):")
 OWNER = re.compile(r"(?:pub(?:\([a-z]+\))? )?trait (\w+)"
                    r"|impl(?:<(?:[^<>]|<[^<>]*>)*>)? (?:([\w:]+)(?:<.*>)? for )?&?(\w+)")
 DEFINED = re.compile(r"(\s*)((?:pub|abbrev|unfoldable|opaque|record|data) )+([^\s:({]+)")
@@ -59,8 +63,7 @@ class Code:
             if file.is_file() and file.suffix not in (".md", ".db", ".pyc") and "out" not in file.parts:
                 self.words |= set(re.findall(r"[A-Za-z_]\w*", file.read_text(errors="replace")))
 
-    @staticmethod
-    def read_functions(functions, file, text):
+    def read_functions(self, functions, file, text):
         owners, clauses = [], set()
         for line in text.split("\n"):
             if found := OWNER.match(line):
@@ -73,6 +76,8 @@ class Code:
                     functions[name].append((file, clauses))
             elif found := CLAUSE.match(line):
                 clauses.add(found[1])
+            elif owners and (found := GHOST.match(line)):
+                self.parts[owners[0]].add(found[1])
 
     def read_parts(self, text):
         record, depth = None, 0
@@ -130,8 +135,8 @@ def clauses_named(code):
     named = {name for _, text in texts(CRATES["hotel_scenarios"] / "src", ".rt")
              for name in re.findall(r'name: "([a-z-]+)"', text)}
     named |= {path.stem for path in TOP.glob("crates/*/must-fail/*.edit")}
-    for name in ("PROOFS", "FAULTS"):
-        for place, line in prose(TOP / "docs" / f"{name}.md"):
+    for document in (path for path in DOCUMENTS if path.stem in WITH_CLAUSES):
+        for place, line in prose(document):
             for cell in cells(line):
                 plain = SCRIPT.sub("", cell)
                 found = scripts_of(scripts, cell), tests_of(tests, named, plain), clauses_of(code, plain)
@@ -159,8 +164,9 @@ def clauses_of(code, cell):
     for name, clause in re.findall(r"`([\w:]+)\.(\w+)`", cell):
         yield f"{name}.{clause}", code.has_clause(name, clause)
     for name, listed in re.findall(r"`([\w:]+)`: ((?:`[a-z_]+`(?:, )?)+)", cell):
-        for clause in re.findall(r"\w+", listed):
-            yield f"{name}: {clause}", code.has_clause(name, clause)
+        for part in re.findall(r"\w+", listed):
+            is_module = name in CRATES and any((CRATES[name] / "src").rglob(f"{part}.rt"))
+            yield f"{name}: {part}", is_module or code.has_clause(name, part)
 
 
 def edits_named(code):
