@@ -4,8 +4,8 @@ use Rattle.hotel_model.specs.{Rows.Rows, History.History, Cases.is_room, Notes.n
 use Rattle.hotel_model.specs.Lists.{arrivals, in_house, chain, left_behind}
 use Rattle.hotel_lists.specs.Listings.{Listing, listing, of_room, arrivals_listing, in_house_listing, chain_listing}
 use Rattle.hotel_lists.specs.Listings.{left_behind_listing, audit_listing}
-use Rattle.hotel_lists.specs.Lines.{arrivals_header, in_house_header, chain_header, left_behind_header, audit_header}
-use Rattle.hotel_lists.specs.Lines.{arrival_line, house_line, chain_line, behind_line, note_line}
+use Rattle.hotel_lists.specs.RowLines.{arrivals_header, in_house_header, chain_header, left_behind_header, audit_header}
+use Rattle.hotel_lists.specs.RowLines.{arrival_line, house_line, chain_line, behind_line, note_line}
 use Rattle.hotel_core.specs.declared.asks.ListAsk.{ListAsk}
 use Rattle.hotel_core.specs.declared.asks.ListAsk.TheVariants.{Arrivals, InHouse, ChainOf, LeftBehind, AuditOf}
 

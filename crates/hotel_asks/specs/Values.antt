@@ -1,6 +1,6 @@
 -- The values of verbs: each is what its reader makes of a text, or refused by its name.
 use Rattle.std.specs.Prelude.{◌≡◌, ℕ, ◌+◌, ◌==◌, ◌&&◌, Bool, true, List, length, take, drop, if◌then◌else◌, Option}
-use Rattle.std.specs.Prelude.{Some, Result, Ok, Err}
+use Rattle.std.specs.Prelude.{Some, Result, Ok, Err, IsOkAnd}
 use Rattle.std.specs.List.{position_or_len}
 use Rattle.std.specs.Option.{ok_or}
 use Rattle.std.specs.Str.{is_utf8}
@@ -64,13 +64,8 @@ count_in text = ok_or (number_up_to LAST_NUMBER text) (Value Count)
 abbrev pub moment_in : List ℕ → Result Moment ValueFault
 moment_in text = ok_or (read_moment text) (Value MomentName)
 
--- A value is wanted, and it is one whose reading copies a text.
-abbrev pub IsCopy : {A : Type 0} → (A → Bool) → Result A ValueFault → Type 0
-IsCopy copied (Ok a) = copied a ≡ true
-IsCopy copied (Err _) = ⊥
-
--- A reading is as wanted, or there was no memory to copy what is wanted.
+-- A reading is as wanted, or there was no memory to copy a text of what is wanted.
 abbrev pub IsReading : {A : Type 0} → (A → Bool) → Result A ValueFault → Result A AskFault → Type 0
 IsReading copied wanted (Ok a) = Ok a ≡ wanted
 IsReading copied wanted (Err (Values fault)) = Err fault ≡ wanted
-IsReading copied wanted (Err Memory) = IsCopy copied wanted
+IsReading copied wanted (Err Memory) = IsOkAnd wanted (λ a. copied a ≡ true)

@@ -1,5 +1,5 @@
 -- The verbs of commands and lists.
-use Rattle.std.specs.Prelude.{ℕ, List, [], ◌∷◌, codes, find, map, Option, option_map}
+use Rattle.std.specs.Prelude.{ℕ, Bool, true, false, List, [], ◌∷◌, codes, find, map, Option, option_map}
 use Rattle.std.specs.Borrow.{Bor}
 use Rattle.std.specs.Str.{bytes_eq}
 use Rattle.hotel_asks.specs.declared.verbs.Verb.{Verb}
@@ -31,6 +31,15 @@ verbs =
     (codes "left-behind", LeftBehind) ∷
     (codes "audit-of", AuditOf) ∷
     []
+
+-- A list is wanted.
+abbrev pub is_list : Verb → Bool
+is_list Arrivals = true
+is_list InHouse = true
+is_list ChainOf = true
+is_list LeftBehind = true
+is_list AuditOf = true
+is_list _ = false
 
 -- Rows of this table as they lie in memory.
 abbrev pub texts : List (Bor (List ℕ) × Verb) → List (List ℕ × Verb)

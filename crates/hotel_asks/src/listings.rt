@@ -2,7 +2,7 @@
 
 ghost use Rattle.std.specs.Prelude.{[]};
 ghost use Rattle.hotel_lists.specs.Calls.{CountsWrites, OnErrOf};
-ghost use Rattle.hotel_lists.specs.{Lines.LooksAt, Listings.ListEnds};
+ghost use Rattle.hotel_lists.specs.{RowLines.LooksAt, Listings.ListEnds};
 ghost use Rattle.hotel_asks.specs.Listings.{listing_on};
 
 use hotel_core::{ListAsk, Walks};

@@ -1,7 +1,8 @@
 //! The verbs of commands and lists.
 
-ghost use Rattle.std.specs.Prelude.{◌≡◌};
-ghost use Rattle.hotel_asks.specs.{Names.names_of, Verbs.read_verb, Verbs.texts, Verbs.verb_in};
+ghost use Rattle.std.specs.Prelude.{◌≡◌, ◌≤◌, length};
+ghost use Rattle.hotel_asks.specs.{Names.names_of, Verbs.is_list, Verbs.read_verb, Verbs.texts, Verbs.verb_in};
+ghost use Rattle.hotel_asks.specs.declared.texts.TheConstants.{MOST_VALUES};
 
 use crate::values::ValueName;
 
@@ -55,9 +56,21 @@ pub static VERBS: [(&str, Verb); 20] = [
 ];
 
 impl Verb {
+    /// Whether a list is wanted.
+    pub fn is_list(self) -> bool
+        ensures { result ≡ is_list self }
+    {
+        match self {
+            Verb::Arrivals | Verb::InHouse | Verb::ChainOf | Verb::LeftBehind | Verb::AuditOf =>
+                true,
+            _ => false,
+        }
+    }
+
     /// The names of its values, in their order.
     pub fn values<'a>(self) -> &'a [ValueName]
-        ensures { result.now ≡ names_of self }
+        ensures names { result.now ≡ names_of self }
+        ensures few { length result.now ≤ MOST_VALUES }
     {
         match self {
             Verb::NextDay | Verb::InHouse | Verb::LeftBehind => &[],

@@ -14,7 +14,7 @@ use Rattle.hotel_audit.specs.declared.imports.ImportFault.TheVariants.{File}
 use Rattle.hotel_audit.specs.Import.{AreAnswered, EndsAfter, Imports, IsFrontOf, ImportLeaves, ImportsLine}
 use Rattle.hotel_audit.specs.Import.{LineImported, NextFails, has_taken, stopped}
 
--- an import that was stopped ended after a front of the file's lines
+-- an import that was stopped ended after a prefix of the file's lines
 ends_stopped : (by : LookFault) (file : Result (List Line) AuditFault) (lines : List Line)
     (answers : List LineAnswer) (answered : ℕ) (taken : Bool)
     → IsFrontOf file lines answers answered taken → EndsAfter file (Err (stopped by answered taken)) lines answers

@@ -17,7 +17,7 @@ use Rattle.hotel_nights.specs.Moments.{moment_of, moment_text}
 use Rattle.hotel_nights.proofs.MomentLemmas.{read_moment-text}
 use Rattle.hotel_model.specs.Ranges.{IsCode, IsCount, IsFit, IsRoomNumber}
 use Rattle.hotel_model.proofs.OfTables.Tests.{not_lt}
-use Rattle.hotel_lists.specs.Lines.{act_fields, audit_header, note_line}
+use Rattle.hotel_lists.specs.RowLines.{act_fields, audit_header, note_line}
 use Rattle.hotel_audit.specs.{declared.header.Columns.TheVariants.WithFit, Header.column_names, Line.read_line}
 use Rattle.hotel_audit.specs.{AuditFile.audit_lines, AuditFile.file_records, AuditFile.lines_of}
 use Rattle.hotel_audit.specs.declared.audit_file.TheConstants.{AUDIT_BYTES}

@@ -12,7 +12,7 @@ use Rattle.hotel_model.proofs.{Lifted.LiftEasy.room_is_there, OfTables.NotesList
 use Rattle.hotel_model.proofs.OfTables.{RoomNumbers.room_there, RowTests.found_passes}
 use Rattle.hotel_model.proofs.OfTables.Tests.{eq_from, eq_self, not_both, not_lt_from}
 use Rattle.hotel_model.proofs.SoundRows.AllSound.{rows_sound}
-use Rattle.hotel_lists.specs.{Lines.audit_header, Lines.note_line, Listings.Listing}
+use Rattle.hotel_lists.specs.{RowLines.audit_header, RowLines.note_line, Listings.Listing}
 use Rattle.hotel_lists.specs.Listings.{in_full, listing, of_room}
 use Rattle.hotel_audit.specs.{AuditFile.audit_lines, declared.audit_file.AuditFault.AuditFault}
 use Rattle.hotel_audit.specs.declared.audit_file.AuditFault.TheVariants.{NoHeader, TooLarge}

@@ -22,7 +22,7 @@ front_does_not_fall (line.Note note ∷ front) rest c =
     (none_lower_front note front rest c.0, front_does_not_fall front rest c.1)
 front_does_not_fall (line.Unread cause ∷ front) rest c = front_does_not_fall front rest c
 
--- a front of lines that came changes nothing
+-- a prefix of lines that came changes nothing
 front_still : (h : History) (front rest : List Line) → CountsDoNotFall (front ++ rest)
     → after_lines (after_lines h (front ++ rest)) front ≡ after_lines h (front ++ rest)
 front_still h front rest c =

@@ -43,7 +43,7 @@ pub record AnsweredFile : Type 0 where
   pub lines : List Line
   pub answers : List LineAnswer
 
--- The lines that were answered are the file's, or a front of them where the import was stopped.
+-- The lines that were answered are the file's, or a prefix of them where the import was stopped.
 abbrev pub IsFileFront : AnsweredFile → Type 0
 IsFileFront file = (rest : List Line) × (audit_lines file.bytes ≡ Ok (file.lines ++ rest))
 

@@ -77,7 +77,7 @@ abbrev pub outcome_of : {A : Type 0} → (A → List LineAnswer) → Result A Im
 outcome_of answers (Ok given) = Ok (answers given)
 outcome_of answers (Err why) = Err why
 
--- These lines are a front of the file's. Their answers are so many, and one of them is Taken or none.
+-- These lines are a prefix of the file's. Their answers are so many, and one of them is Taken or none.
 abbrev pub IsFrontOf : Result (List Line) AuditFault → List Line → List LineAnswer → ℕ → Bool → Type 0
 IsFrontOf file lines answers answered taken =
     (rest : List Line) × (file ≡ Ok (lines ++ rest)) × (length answers ≡ answered) × (has_taken answers ≡ taken)

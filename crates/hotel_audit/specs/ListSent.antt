@@ -7,7 +7,7 @@ use Rattle.keycard_rules.specs.declared.note.Act.TheVariants as act
 use Rattle.hotel_model.specs.{declared.command.Command.Command, declared.reply.Reply.Reply, Cases.is_room}
 use Rattle.hotel_model.specs.{History.History, Notes.notes, Ranges.IsCode, Ranges.IsCount, Ranges.IsFit}
 use Rattle.hotel_model.specs.{Ranges.IsRoomNumber, RowsOf.rows_of, Run.Reached, Run.Runs}
-use Rattle.hotel_lists.specs.{Lines.audit_header, Lines.note_line, Listings.audit_listing, Listings.in_full}
+use Rattle.hotel_lists.specs.{RowLines.audit_header, RowLines.note_line, Listings.audit_listing, Listings.in_full}
 use Rattle.hotel_audit.specs.{declared.answer.LineAnswer.LineAnswer, declared.answer.LineAnswer.TheVariants.Seen}
 use Rattle.hotel_audit.specs.declared.audit_file.TheConstants.{AUDIT_BYTES}
 use Rattle.hotel_audit.specs.{declared.line.Line.Line, AuditFile.audit_lines, SentAgain.LinesLead}

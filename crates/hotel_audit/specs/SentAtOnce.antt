@@ -19,13 +19,13 @@ CountsDoNotFall [] = Unit {0}
 CountsDoNotFall (line.Note note ∷ lines) = NoneLower note lines × CountsDoNotFall lines
 CountsDoNotFall (line.Unread cause ∷ lines) = CountsDoNotFall lines
 
--- Lines in which no lock's counts fall, and then any front of them again: nothing happens, whatever the answers were.
+-- Lines in which no lock's counts fall, and then any prefix of them again: nothing happens, whatever the answers were.
 abbrev pub SentAtOnce : Type 0
 SentAtOnce = (h mid end : History) (s source t s' : Stream) (front rest : List Line) (answers again : List LineAnswer)
     → CountsDoNotFall (front ++ rest)
     → LinesLead h s (front ++ rest) answers mid source → LinesLead mid t front again end s' → end ≡ mid
 
--- A front of lines in which no lock's counts fall, and then all of them, come to the history of all of them sent once.
+-- A prefix of lines in which no lock's counts fall, and then all of them, come to the history of all of them sent once.
 abbrev pub StoppedAndSent : Type 0
 StoppedAndSent = (h mid end once : History) (s source t s' u u' : Stream) (front rest : List Line)
     (answers again whole : List LineAnswer) → CountsDoNotFall (front ++ rest)

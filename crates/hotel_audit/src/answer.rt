@@ -1,10 +1,10 @@
 //! What an import answers to a line.
 
 ghost use Rattle.std.specs.Prelude.{◌≡◌};
-ghost use Rattle.hotel_audit.specs.Import.{has_taken, reply_or_cause};
+ghost use Rattle.hotel_audit.specs.Import.{has_taken};
 
 use crate::line::Cause;
-use hotel_core::{Refusal, Reply};
+use hotel_core::Refusal;
 
 /// The answer to one line of an audit file.
 #[derive(Clone, Copy, Debug, PartialEq, Eq)]
@@ -17,20 +17,6 @@ pub enum LineAnswer {
     Unread(Cause),
     /// The note was refused; nothing changed.
     Refused(Refusal),
-}
-
-impl LineAnswer {
-    /// The reply to the line's note, or why the line is none.
-    pub(crate) fn reply(&self) -> Result<Reply, Cause>
-        ensures { result ≡ reply_or_cause self.now }
-    {
-        match self {
-            LineAnswer::Taken => Ok(Reply::Taken),
-            LineAnswer::Seen => Ok(Reply::Seen),
-            LineAnswer::Unread(cause) => Err(*cause),
-            LineAnswer::Refused(refusal) => Ok(Reply::Refused(*refusal)),
-        }
-    }
 }
 
 /// Whether a line was taken.

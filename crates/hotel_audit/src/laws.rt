@@ -20,12 +20,12 @@ pub fn seen_again()
 {}
 
 /// A file in which no room's pairs of fit and count fall from one line to a later one changes nothing when it, or any
-/// front of it, comes again with no command between. It is enough that no lock's counts fall.
+/// prefix of it, comes again with no command between. It is enough that no lock's counts fall.
 pub fn sent_again_at_once()
     ensures { SentAtOnce }
 {}
 
-/// Such a file comes to the same history, and so to the same tables, whether it is sent once or, after a front of its
+/// Such a file comes to the same history, and so to the same tables, whether it is sent once or, after a prefix of its
 /// lines, whole again with no command between.
 pub fn stopped_and_sent_again()
     ensures { StoppedAndSent }

@@ -1,14 +1,19 @@
-//! The texts of lines' answers, and of an import that was stopped.
-ghost use Rattle.std.specs.Prelude.{◌≡◌, ◌++◌, ◌+◌, ◌≤◌, length};
+//! The texts of lines' answers, of an import that was stopped, and of faults.
+ghost use Rattle.std.specs.Prelude.{◌≡◌, ◌++◌, ◌+◌, ◌≤◌, Some, length};
 ghost use Rattle.hotel_core.specs.declared.reply_texts.TheConstants.{REPLY_BYTES};
 ghost use Rattle.hotel_core.specs.Texts.{reply_text};
 ghost use Rattle.hotel_audit.specs.declared.texts.TheConstants.{ANSWER_BYTES};
 ghost use Rattle.hotel_audit.specs.Answers.{answer_text, cause_name, cause_text, stopped_text};
+ghost use Rattle.hotel_audit.specs.Answers.{audit_fault_text, import_fault_text};
 
 use crate::answer::LineAnswer;
+use crate::audit_file::AuditFault;
+use crate::imports::ImportFault;
 use crate::line::Cause;
 use hotel_core::{Reply, reply_text};
 use keycard_rules::{LookFault, ShortText};
+use std::error::Error;
+use std::fmt;
 
 /// The most bytes of the text of an answer, the line feed included.
 const ANSWER_BYTES: usize = 85;
@@ -49,11 +54,13 @@ pub fn answer_text(number: usize, answer: &LineAnswer) -> AnswerText
     let mut text = AnswerText::new();
     text.push_number::<20>(number as u128);
     text.push(b" ");
-    match answer.reply() {
-        Ok(reply) => push_reply(&mut text, &reply),
-        Err(cause) => {
+    match answer {
+        LineAnswer::Taken => push_reply(&mut text, &Reply::Taken),
+        LineAnswer::Seen => push_reply(&mut text, &Reply::Seen),
+        LineAnswer::Refused(why) => push_reply(&mut text, &Reply::Refused(*why)),
+        LineAnswer::Unread(cause) => {
             text.push(b"unread ");
-            text.push(cause_name(cause));
+            text.push(cause_name(*cause));
             text.push(b"\n");
         }
     }
@@ -87,3 +94,32 @@ pub fn stopped_text(answered: usize, by: LookFault) -> StoppedText
     text.push(cause_text(by));
     text
 }
+
+impl fmt::Display for AuditFault {
+    ghost output = { λ why. Some (audit_fault_text why) };
+
+    fn fmt<W: fmt::Write>(&self, f: &mut fmt::Formatter<W>) -> fmt::Result {
+        f.write_str(match self {
+            AuditFault::TooLarge => "too large",
+            AuditFault::NoHeader => "no header",
+            AuditFault::WrongHeader => "wrong header",
+            AuditFault::Memory => "memory",
+        })
+    }
+}
+
+impl Error for AuditFault {}
+
+impl fmt::Display for ImportFault {
+    ghost output = { λ why. Some (import_fault_text why) };
+
+    fn fmt<W: fmt::Write>(&self, f: &mut fmt::Formatter<W>) -> fmt::Result {
+        match self {
+            ImportFault::File(why) => write!(f, "{why}"),
+            ImportFault::Memory { answered, .. } => write!(f, "stopped after {answered}: Memory"),
+            ImportFault::Store { answered, .. } => write!(f, "stopped after {answered}: Store"),
+        }
+    }
+}
+
+impl Error for ImportFault {}

@@ -8,7 +8,7 @@ use crate::texts::answer_text;
 use hotel_lists::{IoCalls, WriteFailed, write_bytes};
 use std::io::Write;
 
-/// Writes the texts of answers, a line each, numbered from 1. After a fault the writer took a front of them.
+/// Writes the texts of answers, a line each, numbered from 1. After a fault the writer took a prefix of them.
 pub fn write_answers<W: Write>(
     writer: &mut W,
     answers: &[LineAnswer],

@@ -1,9 +1,9 @@
 //! Books in memory: commands by `run`, by `step` and by `report`, and the values of their replies.
-use crate::commands::{CODES, desk_behind, told, two_entries, two_entries_answered};
-use crate::desks::Desk;
+use crate::commands::{CODES, desk_behind, reply_to, two_entries, two_entries_answered};
 use crate::look_ups::rows_are_found;
 use crate::values::{card_number, code, entered, fit, link, note, party, room};
 use hotel_core::{Command, ListBooks, Refusal, Reply, report, run};
+use hotel_scenarios::desks::Desk;
 use keycard_rules::Act;
 use std::alloc::Global;
 use std::test::Fail;
@@ -76,13 +76,13 @@ fn replies_of_reports(rt: HostRuntime) -> Result<(), Fail> {
 fn replies_of_a_refit(rt: HostRuntime) -> Result<(), Fail> {
     let mut desk = two_entries_in_memory(rt.alloc())?;
     let refit = Command::Refit(room(101)?);
-    assert!(rt; told(&mut desk, &refit) == Reply::Refused(Refusal::RoomTaken));
-    assert!(rt; told(&mut desk, &Command::CheckOut(party(1)?)) == Reply::CheckedOut);
+    assert!(rt; reply_to(&mut desk, &refit) == Reply::Refused(Refusal::RoomTaken));
+    assert!(rt; reply_to(&mut desk, &Command::CheckOut(party(1)?)) == Reply::CheckedOut);
     let refitted = Reply::Refitted {
         code: code(0xa2)?,
         fit: fit(2)?,
     };
-    assert!(rt; told(&mut desk, &refit) == refitted);
+    assert!(rt; reply_to(&mut desk, &refit) == refitted);
     assert!(rt; report(&mut desk.books, &entered(3)?) == Reply::Refused(Refusal::OldFit));
     Ok(())
 }

@@ -1,12 +1,12 @@
 //! The commands of scenario `two-entries`, and their replies.
-use crate::desks::Desk;
 use crate::values::{code, day, entered, first_card, guest, kind, nights, party, room};
 use hotel_core::{Books, Command, Reply, step};
+use hotel_scenarios::desks::Desk;
 use std::alloc::Global;
 use std::test::Fail;
 
 /// The codes that a desk's source gives.
-pub(crate) const CODES: &[u64] = &[0xa0, 0xa1, 0xa2];
+pub(crate) const CODES: &[u64] = &[0xa0, 0xa1, 0xa2, 0xa3, 0xa4];
 
 fn begin() -> Result<Command, Fail> {
     Ok(Command::Begin(day(b"2031-05-01")?))
@@ -41,7 +41,7 @@ pub(crate) fn check_in(number: u32) -> Result<Command, Fail> {
 }
 
 /// One room of the kind DBL, and a booking of the guest.
-pub(crate) fn opening(alloc: Global, guest: &str) -> Result<Vec<Command>, Fail> {
+pub(crate) fn first_booking(alloc: Global, guest: &str) -> Result<Vec<Command>, Fail> {
     let mut commands = Vec::new(alloc);
     commands.push(begin()?)?;
     commands.push(add_kind()?)?;
@@ -52,7 +52,7 @@ pub(crate) fn opening(alloc: Global, guest: &str) -> Result<Vec<Command>, Fail> 
 
 /// The same, the guest's check-in, and two entries of her card.
 pub(crate) fn two_entries(alloc: Global) -> Result<Vec<Command>, Fail> {
-    let mut commands = opening(alloc, "Ann Lee")?;
+    let mut commands = first_booking(alloc, "Ann Lee")?;
     commands.push(check_in(1)?)?;
     commands.push(Command::Reported(entered(1)?))?;
     commands.push(Command::Reported(entered(2)?))?;
@@ -76,7 +76,7 @@ pub(crate) fn two_entries_answered() -> Result<[Reply; 7], Fail> {
 }
 
 /// The reply of the desk to a command.
-pub(crate) fn told<B: Books>(desk: &mut Desk<B>, command: &Command) -> Reply {
+pub(crate) fn reply_to<B: Books>(desk: &mut Desk<B>, command: &Command) -> Reply {
     step(&mut desk.books, &mut desk.source, command)
 }
 
@@ -88,14 +88,14 @@ pub(crate) fn desk_behind<B: Books + Drop>(
 ) -> Result<Desk<B>, Fail> {
     let mut desk = Desk::over(alloc, books, CODES)?;
     for command in commands {
-        told(&mut desk, command);
+        reply_to(&mut desk, command);
     }
     Ok(desk)
 }
 
 /// A desk over these empty books where the first party is checked in.
 pub(crate) fn checked_in<B: Books + Drop>(alloc: Global, books: B) -> Result<Desk<B>, Fail> {
-    let mut commands = opening(alloc, "Ann Lee")?;
+    let mut commands = first_booking(alloc, "Ann Lee")?;
     commands.push(check_in(1)?)?;
     desk_behind(alloc, books, commands.as_slice())
 }

@@ -1,17 +1,18 @@
-//! A client of the desk's crates, as somebody else would write it: by public names alone, with ample memory.
+//! A client of the desk's crates, as somebody else would write it: by public names alone, with ample memory. The worked
+//! scenarios run here too, over tables: worked_scenarios, tables, interrupted_walks.
 //!
 //! # A client
 //!
-//! Its line in crates.txt names the crates whose names it writes. That of a client of everything is
+//! Its line in crates.txt names the crates whose names it writes. The line of a client of everything is
 //!
 //!     my_client: keycard_rules hotel_nights hotel_core hotel_lists hotel_audit hotel_http hotel_program hotel_tables
 //!
 //! - keycard_rules, hotel_nights: values. hotel_core: commands and replies, and books in memory, `ListBooks`.
 //! - hotel_lists: the five lists, and readers and writers for tests. hotel_audit: audit files.
-//! - hotel_http: one request. hotel_program: scripts, a command line's words, connections. (The crate hotel_desk is the
-//!   program, and no crate can depend on a program.)
+//! - hotel_http: one request. hotel_program: scripts, a command line's arguments, connections. (The crate hotel_desk is
+//!   the program, and no crate can depend on a program.)
 //! - hotel_tables: books in a database. Whoever makes its connection names sqlite too; the tests here also name
-//!   sqlite_disk, for files in memory, and stopping_books.
+//!   sqlite_disk, for files in memory, hotel_scenarios and stopping_books.
 //!
 //! # Books of its own
 //!
@@ -42,9 +43,11 @@ mod books_in_memory;
 #[cfg(test)]
 mod commands;
 #[cfg(test)]
-mod desks;
+mod connections;
 #[cfg(test)]
 mod faults;
+#[cfg(test)]
+mod interrupted_walks;
 #[cfg(test)]
 mod lists;
 #[cfg(test)]
@@ -53,6 +56,8 @@ mod look_ups;
 mod met_faults;
 #[cfg(test)]
 mod named_calls;
+#[cfg(test)]
+mod printed_faults;
 #[cfg(test)]
 mod refusals;
 #[cfg(test)]
@@ -69,3 +74,5 @@ mod stored;
 mod tables;
 #[cfg(test)]
 mod values;
+#[cfg(test)]
+mod worked_scenarios;

@@ -1,6 +1,6 @@
 //! The five lists, by their own calls over books of any kind.
 use crate::books_in_memory::two_entries_in_memory;
-use crate::commands::{check_in, desk_behind, opening, reserve};
+use crate::commands::{check_in, desk_behind, first_booking, reserve};
 use crate::values::{day, party, room};
 use hotel_core::{Command, ListBooks, Walks};
 use hotel_lists::{arrivals, audit_of, chain_of, in_house, left_behind};
@@ -85,8 +85,12 @@ fn lists_behind(
 
 #[test]
 fn lists_without_notes(rt: HostRuntime) -> Result<(), Fail> {
-    lists_behind(&rt, opening(rt.alloc(), "Lee, Ann")?.as_slice(), QUOTED)?;
-    let mut commands = opening(rt.alloc(), "Ann Lee")?;
+    lists_behind(
+        &rt,
+        first_booking(rt.alloc(), "Lee, Ann")?.as_slice(),
+        QUOTED,
+    )?;
+    let mut commands = first_booking(rt.alloc(), "Ann Lee")?;
     commands.push(check_in(1)?)?;
     commands.push(Command::CheckOut(party(1)?))?;
     commands.push(reserve(rt.alloc(), "Bo")?)?;

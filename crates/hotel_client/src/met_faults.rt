@@ -1,19 +1,20 @@
 //! Faults that a client meets with ample memory, each by the call that answers it.
 use crate::books_in_memory::two_entries_in_memory;
-use crate::commands::{opening, told};
-use crate::desks::Desk;
+use crate::commands::{first_booking, reply_to};
+use crate::connections::fault_of;
 use crate::faults::{
     Name, of_audit_file, of_draw, of_guest, of_import, of_list, of_opening, of_recoding,
     of_request, of_script, of_words,
 };
 use crate::requests::{CHECK_IN, booked, serve};
-use crate::tables::{fault_of, two_entries_in_tables};
+use crate::tables::two_entries_in_tables;
 use crate::values::{code, room};
 use hotel_audit::{import, read_notes};
 use hotel_core::ListBooks;
 use hotel_lists::{FailingReader, FailingWriter, chain_of};
 use hotel_nights::Guest;
 use hotel_program::{ScriptFault, parse_words, run_script};
+use hotel_scenarios::desks::Desk;
 use keycard_rules::{Chain, draw_fresh};
 use sqlite::Connection;
 use std::alloc::Global;
@@ -33,8 +34,8 @@ fn shut(alloc: Global) -> FailingWriter<Vec<u8>> {
 #[test]
 fn no_fresh_code(rt: HostRuntime) -> Result<(), Fail> {
     let mut desk = Desk::over(rt.alloc(), ListBooks::empty(rt.alloc()), &[0xa0])?;
-    for command in opening(rt.alloc(), "Ann Lee")?.as_slice() {
-        told(&mut desk, command);
+    for command in first_booking(rt.alloc(), "Ann Lee")?.as_slice() {
+        reply_to(&mut desk, command);
     }
     let fault = draw_fresh(&mut desk.source, &mut desk.books).err();
     assert!(rt; fault.map(of_draw) == Some("no fresh code"));

@@ -4,15 +4,15 @@ ghost use Rattle.std.specs.Prelude.{◌≡◌, OnOk};
 ghost use Rattle.std.specs.Duration.{as_nanos};
 
 use crate::commands::checked_in;
-use crate::desks::Desk;
 use crate::values::{count, kind, party};
 use hotel_audit::{AuditFault, Line, read_notes};
 use hotel_core::{Command, ListBooks, Refusal, Reply, reply_text, report};
 use hotel_nights::Moment;
 use hotel_program::{
-    DeskAct, Link, ListAsk, Listener, NoClock, UsageFault, ValueName, parse_words, run_one,
+    Caller, DeskAct, ListAsk, Listener, NoClock, UsageFault, ValueName, parse_words, run_one,
     serve_connections, status_of,
 };
+use hotel_scenarios::desks::Desk;
 use keycard_rules::LockNote;
 use std::alloc::Global;
 use std::io::{self, ErrorKind, Read};
@@ -161,7 +161,7 @@ fn set(limit: Duration) -> io::Result<()>
     Ok(())
 }
 
-impl Link<Peer> for ReadSoFar {
+impl Caller<Peer> for ReadSoFar {
     ghost clock_read = { λ _ _ _. Unit {0} };
 
     ghost reads_limited = { λ _ _ _ _ _. Unit {0} };
@@ -215,11 +215,11 @@ struct Peers {
 impl Listener for Peers {
     type Stream = Peer;
 
-    type Link = ReadSoFar;
+    type Caller = ReadSoFar;
 
     ghost taken = { λ _ _ _. Unit {0} };
 
-    ghost linked = { λ _ _ _. Unit {0} };
+    ghost caller_made = { λ _ _ _. Unit {0} };
 
     ghost closed = { λ _ _ _ _ _. Unit {0} };
 
@@ -234,7 +234,7 @@ impl Listener for Peers {
         }
     }
 
-    fn link(&mut self) -> ReadSoFar {
+    fn caller(&mut self) -> ReadSoFar {
         ReadSoFar { count: 0 }
     }
 

@@ -1,8 +1,8 @@
 //! Requests that are served over bytes in memory.
-use crate::commands::{desk_behind, opening};
-use crate::desks::Desk;
+use crate::commands::{desk_behind, first_booking};
 use hotel_core::{ListBooks, Walks};
 use hotel_http::{ServeFault, Served, serve_one};
+use hotel_scenarios::desks::Desk;
 use std::alloc::Global;
 use std::io::Write;
 use std::test::Fail;
@@ -47,7 +47,7 @@ pub(crate) fn serve<B: Walks, W: Write>(
 
 /// A desk over books in memory, behind a booking of Ann Lee.
 pub(crate) fn booked(alloc: Global) -> Result<Desk, Fail> {
-    let commands = opening(alloc, "Ann Lee")?;
+    let commands = first_booking(alloc, "Ann Lee")?;
     desk_behind(alloc, ListBooks::empty(alloc), commands.as_slice())
 }
 

@@ -1,14 +1,14 @@
 //! Books of somebody else's, whose next call fails: what each call over them answers, and that a second one is carried
 //! out.
 use crate::audit_files::TWO_NOTES;
-use crate::commands::{check_in, told};
-use crate::desks::Desk;
+use crate::commands::{check_in, reply_to};
 use crate::faults::{Name, of_import, of_list, of_look_up};
 use crate::requests::booked;
 use crate::values::first_card;
 use hotel_audit::{LineAnswer, import};
 use hotel_core::{Books, Refusal, Reply};
 use hotel_lists::in_house;
+use hotel_scenarios::desks::Desk;
 use keycard_rules::LookFault;
 use std::alloc::Global;
 use std::test::Fail;
@@ -37,7 +37,7 @@ fn stopped_booking(alloc: Global, cause: LookFault) -> Result<Desk<StoppingBooks
 /// Ann Lee's party is in house, over such books.
 fn stopped_stay(alloc: Global, cause: LookFault) -> Result<Desk<StoppingBooks>, Fail> {
     let mut desk = booked(alloc)?;
-    told(&mut desk, &check_in(1)?);
+    reply_to(&mut desk, &check_in(1)?);
     Ok(stopped(desk, cause))
 }
 
@@ -57,8 +57,8 @@ fn steps(rt: HostRuntime) -> Result<(), Fail> {
     for (cause, refusal, _) in &CAUSES {
         let mut desk = stopped_booking(rt.alloc(), *cause)?;
         let command = check_in(1)?;
-        assert!(rt; told(&mut desk, &command) == Reply::Refused(*refusal));
-        assert!(rt; told(&mut desk, &command) == Reply::Issued(first_card()?));
+        assert!(rt; reply_to(&mut desk, &command) == Reply::Refused(*refusal));
+        assert!(rt; reply_to(&mut desk, &command) == Reply::Issued(first_card()?));
     }
     Ok(())
 }

@@ -1,5 +1,6 @@
 //! The tables' rows as plain data, read by queries of the client's own, and the first damaged table among them.
-use crate::tables::{fault_of, two_entries_in_tables};
+use crate::connections::fault_of;
+use crate::tables::two_entries_in_tables;
 use hotel_tables::{
     OpenFault, PlainCard, PlainCode, PlainFit, PlainInside, PlainKind, PlainNote, PlainRoom,
     PlainStay, Stored, TableName, first_damaged,

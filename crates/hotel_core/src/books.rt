@@ -1,14 +1,12 @@
 //! The books of the desk, however they are kept.
-ghost use Rattle.std.specs.Prelude.{◌≡◌, ◌-◌, Option, Some, true, false, IsOk, is_some, length, not, option_map};
-ghost use Rattle.keycard_rules.specs.Leaves.{Leaves, Rose, told_by};
-ghost use Rattle.keycard_rules.specs.{declared.issued.LookFault.TheVariants.Store};
+ghost use Rattle.std.specs.Prelude.{◌≡◌, ◌-◌, Option, true, false, is_some, length, not, option_map};
 ghost use Rattle.hotel_model.specs.{Words.is_one_of, Rows.Rows, Rows.has_kind, Rows.fit_at, Rows.rooms_of_kind};
 ghost use Rattle.hotel_model.specs.Guests.{are_none};
-ghost use Rattle.hotel_core.specs.Books.{Reads.LooksUp, Reads.is_any, Reads.placed_row, Changes.rows_after};
+ghost use Rattle.hotel_core.specs.Books.{Reads.LooksUp, Reads.is_any, Reads.placed_row, Changes.Makes};
 ghost use Rattle.hotel_model.specs.Refinement.Lookups.{room_at, codes_in, code_place, code_at, stay_at, stays_of_kind};
 ghost use Rattle.hotel_model.specs.Refinement.Lookups.{card_at, inside_at, note_at, first_full_on};
 ghost use Rattle.hotel_model.specs.Refinement.Lookups.{number_after};
-ghost use Rattle.hotel_model.specs.{Refinement.Fits.Fits, Refinement.Fits.takes_memory, Sound.IsSound};
+ghost use Rattle.hotel_model.specs.{Refinement.Fits.Fits, Sound.IsSound};
 ghost use Rattle.hotel_model.specs.{declared.change.Change.Change};
 
 pub mod walks;
@@ -141,12 +139,7 @@ pub trait Books: Issued {
     /// Makes all of a change, or nothing.
     fn apply(&mut self, change: Change) -> Result<(), LookFault>
         requires { Self.is_clean self.old → Fits change (rows self.old) }
-        ensures rows { Self.is_clean self.new → rows self.new ≡ rows_after result change (rows self.old) }
-        ensures leaves { Leaves Self.Kept self.old (told_by result) self.new }
-        ensures rose { Rose Self.Kept self.old (told_by result) self.new }
-        ensures cause { Self.is_honest self.new → told_by result ≡ Some Store → change_fails change self.old self.new }
-        ensures stop { leaves_change change self.old self.new }
-        ensures sure { Self.never_fails → takes_memory change ≡ false → IsOk result };
+        ensures { Makes Self.Kept rows leaves_change change_fails change self.old self.new result };
 
     // What a look-up leaves has the same rows, and the issued codes are those of the rows.
     ghost kept_rows: { (a b : Self) → Self.is_kept a b → rows b ≡ rows a };

@@ -3,7 +3,7 @@ ghost use Rattle.std.specs.Prelude.{◌≡◌, [], ◌++◌, ◌+◌, ◌≤◌,
 ghost use Rattle.keycard_rules.specs.Numerals.{code_text};
 ghost use Rattle.hotel_model.specs.declared.reply.Reply.TheVariants as reply;
 ghost use Rattle.hotel_core.specs.declared.reply_texts.TheConstants.{REPLY_BYTES};
-ghost use Rattle.hotel_core.specs.Texts.{refusal_name, reply_line, reply_text};
+ghost use Rattle.hotel_core.specs.Texts.{reply_line, reply_text};
 
 use hotel_model::{Refusal, Reply};
 use keycard_rules::{Card, Code, ShortText};
@@ -43,7 +43,7 @@ fn push_refusal(text: &mut ReplyText, refusal: &Refusal)
     ensures len { length text.new ≤ 60 }
 {
     text.push(b"refused ");
-    text.push(name_of(refusal));
+    text.push(refusal.name().as_bytes());
     match refusal {
         Refusal::KindFull(day) => {
             text.push(b" ");
@@ -54,48 +54,6 @@ fn push_refusal(text: &mut ReplyText, refusal: &Refusal)
             text.push_number::<10>(u128::from(*expected));
         }
         _ => {}
-    }
-}
-
-/// The number and the name of a refusal.
-const fn name_of(refusal: &Refusal) -> &'static [u8]
-    ensures same { result.now ≡ refusal_name refusal.now }
-    ensures short { length result.now ≤ 20 }
-{
-    match refusal {
-        Refusal::NotBegun => b"1 NotBegun",
-        Refusal::AlreadyBegun => b"2 AlreadyBegun",
-        Refusal::KindExists => b"3 KindExists",
-        Refusal::NoKind => b"4 NoKind",
-        Refusal::RoomExists => b"5 RoomExists",
-        Refusal::NoRoom => b"6 NoRoom",
-        Refusal::NoParty => b"7 NoParty",
-        Refusal::NotBooked => b"8 NotBooked",
-        Refusal::NotInHouse => b"9 NotInHouse",
-        Refusal::TooEarly => b"10 TooEarly",
-        Refusal::StayOver => b"11 StayOver",
-        Refusal::WrongKind => b"12 WrongKind",
-        Refusal::SameRoom => b"13 SameRoom",
-        Refusal::RoomTaken => b"14 RoomTaken",
-        Refusal::PastArrival => b"15 PastArrival",
-        Refusal::PastEnd => b"16 PastEnd",
-        Refusal::KindFull(_) => b"17 KindFull",
-        Refusal::NumbersUsedUp => b"18 NumbersUsedUp",
-        Refusal::NoFreshCode => b"19 NoFreshCode",
-        Refusal::LastDay => b"20 LastDay",
-        Refusal::Conflict => b"21 Conflict",
-        Refusal::Gap(_) => b"22 Gap",
-        Refusal::NoCard => b"23 NoCard",
-        Refusal::CardDiffers => b"24 CardDiffers",
-        Refusal::LockShut => b"25 LockShut",
-        Refusal::NotInside => b"26 NotInside",
-        Refusal::HeldDiffers => b"27 HeldDiffers",
-        Refusal::NotAwaited => b"28 NotAwaited",
-        Refusal::Memory => b"29 Memory",
-        Refusal::Store => b"30 Store",
-        Refusal::OldFit => b"31 OldFit",
-        Refusal::NoFit => b"32 NoFit",
-        Refusal::FitsUsedUp => b"33 FitsUsedUp",
     }
 }
 

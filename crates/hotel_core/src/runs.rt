@@ -1,5 +1,5 @@
 //! Commands one after the other, over any books.
-ghost use Rattle.std.specs.Prelude.{◌≡◌, IfOk, IfErr};
+ghost use Rattle.std.specs.Prelude.{◌≡◌, Some, IfOk, IfErr, codes};
 ghost use Rattle.hotel_core.specs.Books.Stepped.{RunThrough};
 
 use crate::books::Books;
@@ -7,12 +7,24 @@ use crate::steps::step;
 use hotel_model::{Command, Reply};
 use rand_core::Rng;
 use std::alloc::Global;
+use std::error::Error;
+use std::fmt;
 
 /// Lack of memory for the replies: no command was begun, and so 0 were answered.
 #[derive(Clone, Copy, Debug, PartialEq, Eq)]
 pub struct RunFault {
     pub answered: usize,
 }
+
+impl fmt::Display for RunFault {
+    ghost output = { λ _. Some (codes "memory") };
+
+    fn fmt<W: fmt::Write>(&self, f: &mut fmt::Formatter<W>) -> fmt::Result {
+        f.write_str("memory")
+    }
+}
+
+impl Error for RunFault {}
 
 /// Carries out commands in order. The memory for all replies is taken before the first command.
 pub fn run<B: Books, R: Rng>(

@@ -4,12 +4,11 @@
 ghost use Rattle.std.specs.Prelude.{◌≡◌, IfErr};
 ghost use Rattle.hotel_program.specs.declared.faults.Fault.TheVariants as fault;
 
-use crate::database::open_file;
 use hotel_lists::IoCalls;
 use hotel_program::{
     ClockedListener, Databases, Fault, FileName, SEED_BYTES, Surroundings, audit_file_in, seed_in,
 };
-use hotel_tables::{PathDisk, TableBooks, close_file};
+use hotel_tables::{FileFault, PathDisk, TableBooks, close_file, open_file};
 use sqlite::FileStore;
 use std::alloc::Global;
 use std::fs::{self, File};
@@ -93,11 +92,10 @@ impl<D: PathDisk> Surroundings for Host<D> {
 
 impl<D: PathDisk> Databases<TableBooks<FileStore<D>>> for Host<D> {
     ghost use Rattle.std.specs.Prelude.{IfOk, IfErr};
-    ghost use Rattle.hotel_tables.specs.Files.{AreOfOpening};
-    ghost use Rattle.hotel_desk.specs.Database.{IsOfFile};
+    ghost use Rattle.hotel_tables.specs.Files.{AreOfOpening, IsOfOpening};
 
     ghost books_opened = { λ _ _ opened _. IfOk opened (λ b. AreOfOpening D.PathDisk.is_part b.conn)
-        × IfErr opened (IsOfFile D.Disk D.PathDisk.is_part) };
+        × IfErr opened (IsOfOpening D.Disk D.PathDisk.is_part) };
 
     ghost books_closed = { λ _ _ _. Unit {0} };
 
@@ -105,7 +103,7 @@ impl<D: PathDisk> Databases<TableBooks<FileStore<D>>> for Host<D> {
         &mut self,
         _alloc: Global,
         name: &FileName,
-    ) -> Result<TableBooks<FileStore<D>>, Fault> {
+    ) -> Result<TableBooks<FileStore<D>>, FileFault> {
         open_file(&self.rt, name.as_str())
     }
 

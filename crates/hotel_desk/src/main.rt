@@ -1,7 +1,6 @@
 //! The hotel's front desk as a program.
 #![tactic(auto)]
 
-mod database;
 mod host;
 
 use host::{Host, words};

@@ -18,7 +18,7 @@ answers_longer i answers a text h e said =
     ap length (answers_more i answers a h e) ∙ length-append (answers_text 1 (take i answers)) (answer_text (i + 1) a)
     ∙ ap (λ (l : List ℕ). length (answers_text 1 (take i answers)) + length l) (sym said)
 
--- A front of the head of an answer, where its text is the head.
+-- A prefix of the head of an answer, where its text is the head.
 pub front_of_head : (old new : Option (List ℕ)) (head body : List ℕ) {text : List ℕ}
     → text ≡ head → AppendsFront old new text → AppendsFront old new (head ++ body)
 front_of_head old new head body is written =
@@ -32,7 +32,7 @@ then_ok (Ok a) old mid new text head body is first next =
     Appends-trans old mid new head body (subst (Appends old mid) is first) next
 then_ok (Err e) old mid new text head body is first next = tt
 
--- The head, and then a front of its body.
+-- The head, and then a prefix of its body.
 pub then_err : {A E : Type 0} (r : Result A E) (old mid new : Option (List ℕ)) (text head body : List ℕ) → text ≡ head
     → Appends old mid text → OnErr r (AppendsFront mid new body) → OnErr r (AppendsFront old new (head ++ body))
 then_err (Ok a) old mid new text head body is first next = tt

@@ -18,7 +18,7 @@ use Rattle.hotel_model.specs.declared.reply.Reply.TheVariants as reply
 use Rattle.hotel_lists.specs.{Bytes.AppendsFront, declared.calls.WriteFailed.WriteFailed}
 use Rattle.hotel_lists.proofs.{BytesLemmas.front_next, CallsLemmas.last_of}
 use Rattle.hotel_core.specs.declared.asks.Ask.TheVariants as ask
-use Rattle.hotel_lists.specs.{Listings.Listing, Lines.ListTold, Lines.LooksAt, declared.fault.ListFault.ListFault}
+use Rattle.hotel_lists.specs.{Listings.Listing, RowLines.ListTold, RowLines.LooksAt, declared.fault.ListFault.ListFault}
 use Rattle.hotel_lists.specs.declared.fault.ListFault.TheVariants as fault
 use Rattle.hotel_core.specs.declared.asks.ListAsk.{ListAsk}
 use Rattle.hotel_asks.specs.{Listings.listing_on, Listings.listing_over}

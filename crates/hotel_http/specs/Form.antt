@@ -27,7 +27,3 @@ abbrev pub only : {A : Type 0} → List A → Option A
 only [] = None
 only (text ∷ []) = Some text
 only (text ∷ other ∷ texts) = None
-
--- the text of a form's field that stands once
-abbrev pub form_text : List ℕ → List ℕ → Option (List ℕ)
-form_text name body = only (texts_named name (form_fields body))

@@ -1,9 +1,10 @@
 -- The routes: which paths there are, and what each asks for.
 use Rattle.std.specs.Prelude.{ℕ, List, [], ◌∷◌, Bool, true, false, ◌&&◌, is_none, Option, Some, None, Result, Ok, Err}
-use Rattle.std.specs.Prelude.{codes, map}
+use Rattle.std.specs.Prelude.{codes, map, if◌then◌else◌}
 use Rattle.std.specs.Borrow.{Bor}
 use Rattle.matchit.specs.{Rows.RowsOf, Order.placed, Route.parse_route, Route.Scan, Router.RouteOf, Router.nearest}
 use Rattle.matchit.specs.{Router.route_from, Seek.first, declared.error.InsertError.InsertError}
+use Rattle.hotel_asks.specs.Verbs.{is_list}
 use Rattle.hotel_asks.specs.declared.verbs.Verb.TheVariants as verb
 use Rattle.hotel_http.specs.{declared.rejection.Method.Method, declared.rejection.Method.TheVariants.Get}
 use Rattle.hotel_http.specs.{declared.rejection.Method.TheVariants.Post, declared.routes.Target.Target}
@@ -34,12 +35,7 @@ route_table =
 
 -- the method of what a path asks for: lists are got
 abbrev pub method_of : Target → Method
-method_of (Asks verb.Arrivals) = Get
-method_of (Asks verb.InHouse) = Get
-method_of (Asks verb.ChainOf) = Get
-method_of (Asks verb.LeftBehind) = Get
-method_of (Asks verb.AuditOf) = Get
-method_of (Asks _) = Post
+method_of (Asks verb) = if is_list verb then Get else Post
 method_of Audit = Post
 
 -- the rows with one more route; a text that is no route adds none

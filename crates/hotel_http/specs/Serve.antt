@@ -1,6 +1,6 @@
 -- What comes of a request: its answer, and the history of the books after it.
 use Rattle.std.specs.Prelude.{◌≡◌, ◌⊎◌, ℕ, Bool, true, false, List, [], ◌∷◌, ◌++◌, Option, Some, None, IfSome}
-use Rattle.std.specs.Prelude.{Result, Ok, Err}
+use Rattle.std.specs.Prelude.{Result, Ok, Err, codes}
 use Rattle.std.specs.{Io.KnownBytes.Appends, Option.unwrap_or}
 use Rattle.rand_core.specs.Stream.{Stream}
 use Rattle.keycard_rules.specs.{declared.issued.LookFault.LookFault, declared.kept.Kept.Ghosts as KeptOf}
@@ -13,7 +13,7 @@ use Rattle.hotel_model.specs.declared.reply.Refusal.TheVariants as refusal
 use Rattle.hotel_model.specs.Run.{Steps, Runs}
 use Rattle.hotel_lists.specs.{Bytes.AppendsFront, declared.calls.WriteFailed.WriteFailed}
 use Rattle.hotel_lists.specs.Reads.{ReadsWhile}
-use Rattle.hotel_lists.specs.{Faults.told_refusal, Lines.ListFailed, declared.fault.ListFault.ListFault}
+use Rattle.hotel_lists.specs.{Faults.told_refusal, RowLines.ListFailed, declared.fault.ListFault.ListFault}
 use Rattle.hotel_lists.specs.declared.fault.ListFault.TheVariants as fault
 use Rattle.hotel_lists.specs.Listings.{Listing, in_full}
 use Rattle.hotel_core.specs.declared.asks.Ask.{Ask}
@@ -111,7 +111,7 @@ Comes (Err why) h s out told h' s' = (out ≡ rejected why) × (told ≡ []) × 
 abbrev pub AnswerEnd : Type 0
 AnswerEnd = Result Served Cut
 
--- The answer was written behind this text, whole; or a front of both.
+-- The answer was written behind this text, whole; or a prefix of both.
 abbrev pub EndsAs : FullAnswer → List ℕ → Option (List ℕ) → Option (List ℕ) → AnswerEnd → Type 0
 EndsAs out before old new (Ok served) =
     (served.status ≡ out.status) × (served.acted ≡ out.acted) × Appends old new (before ++ out.text)
@@ -197,3 +197,10 @@ serve_fault_of unread.Closed = Closed
 serve_fault_of unread.Read = Read
 serve_fault_of unread.Memory = Memory
 serve_fault_of unread.Write = Write false
+
+-- what the fault of a request prints
+abbrev pub serve_fault_text : ServeFault → List ℕ
+serve_fault_text Closed = codes "closed"
+serve_fault_text Read = codes "read"
+serve_fault_text Memory = codes "memory"
+serve_fault_text (Write acted) = codes "write"

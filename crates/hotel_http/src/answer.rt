@@ -58,7 +58,7 @@ fn status_line(status: Status) -> HeadText
 
 /// The head of an answer whose body has so many bytes.
 #[tactic(auto, unfolding(crate::specs::Answer::head_text))]
-pub fn head_text(status: Status, media: Media, allow: Option<Method>, size: u128) -> HeadText
+pub(crate) fn head_text(status: Status, media: Media, allow: Option<Method>, size: u128) -> HeadText
     ensures same { result ≡ head_text status media allow size }
     ensures short { length result ≤ 220 }
 {
@@ -76,7 +76,7 @@ pub fn head_text(status: Status, media: Media, allow: Option<Method>, size: u128
 
 /// Writes an answer of few bytes by one write, if the writer takes them all.
 #[tactic(auto, unfolding(crate::specs::Answer::answer_text))]
-pub fn write_short<W: Write>(
+pub(crate) fn write_short<W: Write>(
     writer: &mut W,
     status: Status,
     allow: Option<Method>,
@@ -93,7 +93,7 @@ pub fn write_short<W: Write>(
 }
 
 /// The text of the reply that there was no memory.
-pub fn memory_text() -> &'static [u8]
+pub(crate) fn memory_text() -> &'static [u8]
     ensures same { result.now ≡ memory_text }
     ensures short { length result.now ≤ REPLY_BYTES }
 {
@@ -101,7 +101,7 @@ pub fn memory_text() -> &'static [u8]
 }
 
 /// The status of a rejection.
-pub fn rejection_status(why: Rejection) -> Status
+pub(crate) fn rejection_status(why: Rejection) -> Status
     ensures { result ≡ rejection_status why }
 {
     match why {
@@ -140,8 +140,8 @@ fn allowed_by(why: Rejection) -> Option<Method>
     }
 }
 
-/// Writes the answer to a request that is rejected. After a fault the writer took a front of it.
-pub fn write_rejection<W: Write>(
+/// Writes the answer to a request that is rejected. After a fault the writer took a prefix of it.
+pub(crate) fn write_rejection<W: Write>(
     writer: &mut W,
     why: Rejection,
     calls: &mut IoCalls,
@@ -159,7 +159,7 @@ pub fn write_rejection<W: Write>(
 }
 
 /// The status of the answer to a command with this reply.
-pub fn reply_status(reply: &Reply) -> Status
+pub(crate) fn reply_status(reply: &Reply) -> Status
     ensures { result ≡ reply_status reply.now }
 {
     match reply {
@@ -169,8 +169,8 @@ pub fn reply_status(reply: &Reply) -> Status
     }
 }
 
-/// Writes the answer to a command with this reply. After a fault the writer took a front of it.
-pub fn write_reply<W: Write>(
+/// Writes the answer to a command with this reply. After a fault the writer took a prefix of it.
+pub(crate) fn write_reply<W: Write>(
     writer: &mut W,
     reply: &Reply,
     calls: &mut IoCalls,
@@ -182,9 +182,9 @@ pub fn write_reply<W: Write>(
     write_short(writer, reply_status(reply), None, text.as_bytes(), calls)
 }
 
-/// Writes a list. After a fault the writer took a front of the answer.
+/// Writes a list. After a fault the writer took a prefix of the answer.
 #[tactic(auto, unfolding(crate::specs::Answer::answer_text))]
-pub fn write_csv<W: Write>(
+pub(crate) fn write_csv<W: Write>(
     writer: &mut W,
     list: &[u8],
     calls: &mut IoCalls,

@@ -25,8 +25,8 @@ fn answers_size(answers: &[LineAnswer]) -> u128
     size
 }
 
-/// Writes the answer to an audit file whose lines were all answered. After a fault the writer took a front of it.
-pub fn write_audit<W: Write>(
+/// Writes the answer to an audit file whose lines were all answered. After a fault the writer took a prefix of it.
+pub(crate) fn write_audit<W: Write>(
     writer: &mut W,
     answers: &[LineAnswer],
     calls: &mut IoCalls,
@@ -40,7 +40,7 @@ pub fn write_audit<W: Write>(
 }
 
 /// The status of an import that has no answers.
-pub fn fault_status(why: &ImportFault) -> Status
+pub(crate) fn fault_status(why: &ImportFault) -> Status
     ensures { result ≡ import_status why.now }
 {
     match why {
@@ -71,8 +71,8 @@ fn fault_body(why: &ImportFault) -> HeadText
     text
 }
 
-/// Writes the answer to an audit file whose import has no answers. After a fault the writer took a front of it.
-pub fn write_fault<W: Write>(
+/// Writes the answer to an audit file whose import has no answers. After a fault the writer took a prefix of it.
+pub(crate) fn write_fault<W: Write>(
     writer: &mut W,
     why: &ImportFault,
     calls: &mut IoCalls,

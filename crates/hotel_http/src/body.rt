@@ -10,7 +10,7 @@ use std::alloc::Global;
 use std::io::{Read, Write};
 
 /// Writes the interim answer that the client awaits before it sends the body; nothing where it awaits none.
-pub fn write_interim<W: Write>(
+pub(crate) fn write_interim<W: Write>(
     writer: &mut W,
     awaited: bool,
     calls: &mut IoCalls,
@@ -47,7 +47,7 @@ fn fill_body<R: Read>(
 
 /// Reads the body, of which the bytes that are begun came with the head. More bytes than its size may be read, and
 /// fewer where the input ends.
-pub fn read_body<R: Read>(
+pub(crate) fn read_body<R: Read>(
     alloc: Global,
     reader: &mut R,
     begun: &[u8],

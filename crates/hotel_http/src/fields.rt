@@ -105,7 +105,11 @@ fn plain_length(codings: Named<'_>, lengths: Named<'_>) -> Result<usize, Rejecti
 
 /// The length of the body that follows a head, or the first rejection. `minor` is the minor version of HTTP/1.
 #[tactic(auto, unfolding(crate::specs::Fields::framing))]
-pub fn read_framing(bytes: &[u8], headers: &[HeaderSpan], minor: u8) -> Result<usize, Rejection>
+pub(crate) fn read_framing(
+    bytes: &[u8],
+    headers: &[HeaderSpan],
+    minor: u8,
+) -> Result<usize, Rejection>
     requires { All (IsHeaderWithin (length bytes.now)) headers.now }
     ensures { result ≡ framing minor (map (header_bytes bytes.now) headers.now) }
 {
@@ -126,7 +130,7 @@ fn is_expectation(bytes: &[u8], header: &HeaderSpan) -> bool
 }
 
 /// Whether the client waits for a 100 before it sends the body.
-pub fn expects_continue(bytes: &[u8], headers: &[HeaderSpan]) -> bool
+pub(crate) fn expects_continue(bytes: &[u8], headers: &[HeaderSpan]) -> bool
     requires { All (IsHeaderWithin (length bytes.now)) headers.now }
     ensures { result ≡ expects_continue (map (header_bytes bytes.now) headers.now) }
 {

@@ -47,7 +47,7 @@ impl Form<'_> {
 }
 
 /// Reads a form.
-pub fn read_form<'b>(alloc: Global, body: &'b [u8]) -> Result<Form<'b>, AllocError>
+pub(crate) fn read_form<'b>(alloc: Global, body: &'b [u8]) -> Result<Form<'b>, AllocError>
     ensures { IfOk result (λ form. form ≡ form_fields body.now) }
 {
     let mut fields = Vec::new(alloc);

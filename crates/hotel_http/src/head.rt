@@ -36,7 +36,7 @@ pub enum Judged {
 }
 
 /// The bytes that may be those of a head: the first `HEAD_BYTES`.
-pub fn head_part(bytes: &[u8]) -> &[u8]
+pub(crate) fn head_part(bytes: &[u8]) -> &[u8]
     ensures { result.now ≡ take HEAD_BYTES bytes.now }
 {
     if bytes.len() <= HEAD_BYTES {
@@ -102,7 +102,7 @@ fn judge(bytes: &[u8], at_end: bool, headers: &mut [HeaderSpan]) -> Judged
 }
 
 /// Reads until the head is judged. Bytes after the head may be read with it.
-pub fn read_head<R: Read>(
+pub(crate) fn read_head<R: Read>(
     reader: &mut R,
     bytes: &mut Vec<u8>,
     headers: &mut [HeaderSpan],

@@ -1,4 +1,4 @@
-//! One HTTP request, one answer. No port and no connection is known here.
+//! One HTTP request, one answer. The crate knows no port and no connection.
 //!
 //! - src: requests reads and judges, and has no books: what is left of a request is a `Request`, or a `Rejection` with
 //!   its own status and text. serve asks the books. All answers but a list's text are written from buffers of fixed

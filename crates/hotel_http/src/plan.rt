@@ -23,7 +23,7 @@ pub struct Plan {
 }
 
 /// The path of a target: what stands before the first question mark.
-pub fn path_part(target: &str) -> &str
+pub(crate) fn path_part(target: &str) -> &str
     ensures { result.now ≡ path_of target.now }
 {
     match target.split_once('?') {
@@ -85,7 +85,7 @@ fn is_awaited(minor: u8, size: usize, bytes: &[u8], headers: &[HeaderSpan]) -> b
 /// What a head asks for, or the first rejection. The headers are those of the head that the bytes begin with, `minor`
 /// is its minor version of HTTP/1.
 #[tactic(auto, unfolding(crate::specs::Plan::planned))]
-pub fn make_plan(
+pub(crate) fn make_plan(
     routes: &Routes,
     minor: u8,
     method: &[u8],

@@ -210,7 +210,7 @@ fn read_behind_head<R: Read, W: Write>(
 
 /// Reads a request, and writes the interim answer where the client awaits it before it sends the body.
 #[tactic(auto, using(crate::proofs::RequestLemmas::head_read))]
-pub fn read_request<R: Read, W: Write>(
+pub(crate) fn read_request<R: Read, W: Write>(
     alloc: Global,
     routes: &Routes,
     reader: &mut R,

@@ -98,7 +98,7 @@ pub fn make_routes(alloc: Global) -> Result<Routes, InsertError>
 
 /// What a path asks for.
 #[tactic(auto, unfolding(crate::specs::Routes::target_of))]
-pub fn find_target(routes: &Routes, path: &str) -> Option<Target>
+pub(crate) fn find_target(routes: &Routes, path: &str) -> Option<Target>
     ensures { result ≡ target_of path.now }
 {
     match routes.router.at(path) {
@@ -108,14 +108,11 @@ pub fn find_target(routes: &Routes, path: &str) -> Option<Target>
 }
 
 /// The method of what a path asks for.
-pub fn method_of(target: Target) -> Method
+pub(crate) fn method_of(target: Target) -> Method
     ensures { result ≡ method_of target }
 {
     match target {
-        Target::Asks(
-            Verb::Arrivals | Verb::InHouse | Verb::ChainOf | Verb::LeftBehind | Verb::AuditOf,
-        ) => Method::Get,
-        Target::Asks(_) => Method::Post,
-        Target::Audit => Method::Post,
+        Target::Asks(verb) if verb.is_list() => Method::Get,
+        _ => Method::Post,
     }
 }

@@ -1,6 +1,6 @@
 //! One request, one answer.
 
-ghost use Rattle.std.specs.Prelude.{◌≡◌, [], true, IfOk, IfSome, OnErr};
+ghost use Rattle.std.specs.Prelude.{◌≡◌, [], true, Some, IfOk, IfSome, OnErr};
 ghost use Rattle.rand_core.specs.Stream.{Stream};
 ghost use Rattle.hotel_lists.specs.Calls.{CountsCalls, CountsWrites, OnErrOf};
 ghost use Rattle.hotel_asks.specs.Listings.{listing_on};
@@ -10,9 +10,10 @@ ghost use Rattle.hotel_core.specs.declared.asks.Ask.TheVariants as ask;
 ghost use Rattle.hotel_http.specs.declared.serve.ServeFault.TheVariants.{Read, Write};
 ghost use Rattle.hotel_http.specs.Serve.{rejected, replied, is_accepted, taken_before_fault, AskComes};
 ghost use Rattle.hotel_core.specs.Books.Happens.{HappensBy};
-ghost use Rattle.hotel_lists.specs.Lines.{LooksAt};
+ghost use Rattle.hotel_lists.specs.RowLines.{LooksAt};
 ghost use Rattle.hotel_http.specs.Serve.{FileComes, TaskComes, EndsAs, Answered, ended, end_of, IsListText};
 ghost use Rattle.hotel_http.specs.Serve.{list_refusal, text_in, ServesOver, IfUnwritten, serve_fault_of, served_in};
+ghost use Rattle.hotel_http.specs.Serve.{serve_fault_text};
 
 use crate::answer::{rejection_status, reply_status, write_csv, write_rejection, write_reply};
 use crate::audit_answer::{fault_status, write_audit, write_fault};
@@ -27,6 +28,8 @@ use hotel_core::{Books, Command, Refusal, Reply, Walks, step};
 use hotel_lists::{IoCalls, ListFault, WriteFailed};
 use rand_core::Rng;
 use std::alloc::Global;
+use std::error::Error;
+use std::fmt;
 use std::io::{Read, Write};
 
 /// A request that was answered.
@@ -55,12 +58,27 @@ pub enum ServeFault {
     Read,
     /// A growth of memory was refused; nothing was begun, and nothing but an interim answer was written.
     Memory,
-    /// A write failed. The writer took a front of the answer, or of the interim answer, after which nothing was begun.
+    /// A write failed. The writer took a prefix of the answer, or of the interim answer, after which nothing was begun.
     Write {
         /// What the request asked for stands: its command was accepted, or its audit file had a line that was Taken.
         acted: bool,
     },
 }
+
+impl fmt::Display for ServeFault {
+    ghost output = { λ why. Some (serve_fault_text why) };
+
+    fn fmt<W: fmt::Write>(&self, f: &mut fmt::Formatter<W>) -> fmt::Result {
+        f.write_str(match self {
+            ServeFault::Closed => "closed",
+            ServeFault::Read => "read",
+            ServeFault::Memory => "memory",
+            ServeFault::Write { .. } => "write",
+        })
+    }
+}
+
+impl Error for ServeFault {}
 
 /// An answer that was not written whole.
 #[derive(Clone, Copy, Debug)]

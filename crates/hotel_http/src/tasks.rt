@@ -1,14 +1,13 @@
 //! What a route asks for, by its path and the form behind the head.
 
-ghost use Rattle.std.specs.Prelude.{◌≡◌, true, [], ◌∷◌, map, IfOk, OnErr};
-ghost use Rattle.hotel_asks.specs.{Asks.ask_of, Asks.ask_copies, Values.IsCopy};
-ghost use Rattle.hotel_http.specs.Tasks.{after_slash, before_slash, second_part, asked_by, of_field, of_part};
-ghost use Rattle.hotel_http.specs.Tasks.{of_part_and_room, of_room_and_kind, of_reservation, ask_of_request};
-ghost use Rattle.hotel_http.specs.Tasks.{has_fields, task_in, reads_form};
+ghost use Rattle.std.specs.Prelude.{◌≡◌, ◌≤◌, ◌<◌, true, length, map, IfOk, OnErr};
+ghost use Rattle.hotel_asks.specs.declared.texts.TheConstants.{MOST_VALUES};
+ghost use Rattle.hotel_http.specs.Tasks.{after_slash, before_slash, second_part, fields_of, part_of, texts_of};
+ghost use Rattle.hotel_http.specs.Tasks.{ask_of_request, has_fields, task_in, reads_form};
 
-use crate::form::read_form;
+use crate::form::{Form, read_form};
 use crate::routes::Target;
-use hotel_asks::{Ask, AskFault, Verb, read_ask};
+use hotel_asks::{Ask, ValueTexts, Verb, accept_ask};
 use std::alloc::{AllocError, Global};
 
 /// What a request asks of the desk.
@@ -45,120 +44,45 @@ fn second_part(path: &str) -> &str
     before_slash(after_slash(after_slash(path)))
 }
 
-/// What a verb and its values ask for. None where one of them is refused.
-fn ask(alloc: Global, verb: Verb, values: &[&[u8]]) -> Result<Option<Ask>, AllocError>
-    ensures read { IfOk result (λ given. given ≡ asked_by verb (map (λ v. v.now) values.now)) }
-    ensures memory { OnErr result (IsCopy ask_copies (ask_of verb (map (λ v. v.now) values.now))) }
+/// The names of the form's fields that a verb's route has for its values, in their order.
+fn fields_of<'a>(verb: Verb) -> &'a [&'a str]
+    ensures names { map (λ name. name.now) result.now ≡ fields_of verb }
+    ensures few { length result.now < MOST_VALUES }
 {
-    match read_ask(alloc, verb, values) {
-        Ok(given) => Ok(Some(given)),
-        Err(AskFault::Values(_)) => Ok(None),
-        Err(AskFault::Memory) => Err(AllocError),
+    match verb {
+        Verb::Begin => &["day"],
+        Verb::AddKind => &["kind"],
+        Verb::AddRoom => &["room", "kind"],
+        Verb::Reserve => &["kind", "arrive", "nights", "guest"],
+        Verb::CheckIn | Verb::Transfer => &["room"],
+        _ => &[],
     }
 }
 
-fn ask_one(alloc: Global, verb: Verb, value: &[u8]) -> Result<Option<Ask>, AllocError>
-    ensures read { IfOk result (λ given. given ≡ asked_by verb (value.now ∷ [])) }
-    ensures memory { OnErr result (IsCopy ask_copies (ask_of verb (value.now ∷ []))) }
+/// The text of the value that is no field of the form, if the verb has one: the second part of the path.
+fn part_of<'p>(verb: Verb, path: &'p str) -> ValueTexts<'p>
+    ensures texts { result ≡ part_of verb path.now }
+    ensures few { length result ≤ 1 }
 {
-    ask(alloc, verb, &[value])
+    let mut texts = ValueTexts::new();
+    if fields_of(verb).len() < verb.values().len() {
+        texts.push(second_part(path).as_bytes());
+    }
+    texts
 }
 
-fn ask_two<'v>(
-    alloc: Global,
-    verb: Verb,
-    first: &'v [u8],
-    second: &'v [u8],
-) -> Result<Option<Ask>, AllocError>
-    ensures { IfOk result (λ given. given ≡ asked_by verb (first.now ∷ second.now ∷ [])) }
+/// The texts of a verb's values, from the path and the form. None where one is missing or stands twice.
+fn texts_of<'t>(verb: Verb, path: &'t str, form: &'t Form<'_>) -> Option<ValueTexts<'t>>
+    ensures { result ≡ texts_of verb path.now form.now }
 {
-    ask(alloc, verb, &[first, second])
+    let mut texts = part_of(verb, path);
+    for name in fields_of(verb) {
+        texts.push(form.text(name)?.as_bytes());
+    }
+    Some(texts)
 }
 
-fn ask_four<'v>(
-    alloc: Global,
-    verb: Verb,
-    kind: &'v [u8],
-    arrive: &'v [u8],
-    nights: &'v [u8],
-    guest: &'v [u8],
-) -> Result<Option<Ask>, AllocError>
-    ensures { IfOk result (λ given. given ≡ asked_by verb (kind.now ∷ arrive.now ∷ nights.now ∷ guest.now ∷ [])) }
-{
-    ask(alloc, verb, &[kind, arrive, nights, guest])
-}
-
-/// What a verb asks for whose value is a field of the form.
-fn ask_field(alloc: Global, verb: Verb, name: &str, body: &[u8]) -> Result<Option<Ask>, AllocError>
-    ensures { IfOk result (λ given. given ≡ of_field verb name.now body.now) }
-{
-    let form = read_form(alloc, body)?;
-    let Some(value) = form.text(name) else {
-        return Ok(None);
-    };
-    ask_one(alloc, verb, value.as_bytes())
-}
-
-/// What a verb asks for whose value stands in the path.
-fn ask_part(alloc: Global, verb: Verb, path: &str) -> Result<Option<Ask>, AllocError>
-    ensures read { IfOk result (λ given. given ≡ of_part verb path.now) }
-    ensures sure { OnErr result (IsCopy ask_copies (ask_of verb (second_part path.now ∷ []))) }
-{
-    ask_one(alloc, verb, second_part(path).as_bytes())
-}
-
-/// What a verb asks for whose values are the party in the path and a room.
-fn ask_part_and_room(
-    alloc: Global,
-    verb: Verb,
-    path: &str,
-    body: &[u8],
-) -> Result<Option<Ask>, AllocError>
-    ensures { IfOk result (λ given. given ≡ of_part_and_room verb path.now body.now) }
-{
-    let form = read_form(alloc, body)?;
-    let Some(room) = form.text("room") else {
-        return Ok(None);
-    };
-    ask_two(alloc, verb, second_part(path).as_bytes(), room.as_bytes())
-}
-
-/// What a verb asks for whose values are a room and a kind.
-fn ask_room_and_kind(alloc: Global, verb: Verb, body: &[u8]) -> Result<Option<Ask>, AllocError>
-    ensures { IfOk result (λ given. given ≡ of_room_and_kind verb body.now) }
-{
-    let form = read_form(alloc, body)?;
-    let (Some(room), Some(kind)) = (form.text("room"), form.text("kind")) else {
-        return Ok(None);
-    };
-    ask_two(alloc, verb, room.as_bytes(), kind.as_bytes())
-}
-
-/// What a verb asks for whose values are those of a reservation.
-fn ask_reservation(alloc: Global, verb: Verb, body: &[u8]) -> Result<Option<Ask>, AllocError>
-    ensures { IfOk result (λ given. given ≡ of_reservation verb body.now) }
-{
-    let form = read_form(alloc, body)?;
-    let (Some(kind), Some(arrive), Some(nights), Some(guest)) = (
-        form.text("kind"),
-        form.text("arrive"),
-        form.text("nights"),
-        form.text("guest"),
-    ) else {
-        return Ok(None);
-    };
-    ask_four(
-        alloc,
-        verb,
-        kind.as_bytes(),
-        arrive.as_bytes(),
-        nights.as_bytes(),
-        guest.as_bytes(),
-    )
-}
-
-/// What a route's verb asks for, its values from the path or the form. None where one of them is missing, stands twice
-/// or is refused.
+/// What a route's verb asks for. No form is read for a verb that has no fields.
 fn ask_by_verb(
     alloc: Global,
     verb: Verb,
@@ -168,21 +92,18 @@ fn ask_by_verb(
     ensures read { IfOk result (λ given. given ≡ ask_of_request verb path.now body.now) }
     ensures memory { OnErr result (has_fields verb ≡ true) }
 {
-    match verb {
-        Verb::Begin => ask_field(alloc, verb, "day", body),
-        Verb::AddKind => ask_field(alloc, verb, "kind", body),
-        Verb::AddRoom => ask_room_and_kind(alloc, verb, body),
-        Verb::Reserve => ask_reservation(alloc, verb, body),
-        Verb::Cancel | Verb::Spare | Verb::Reissue | Verb::CheckOut => ask_part(alloc, verb, path),
-        Verb::Refit | Verb::Arrivals | Verb::ChainOf | Verb::AuditOf => ask_part(alloc, verb, path),
-        Verb::CheckIn | Verb::Transfer => ask_part_and_room(alloc, verb, path, body),
-        Verb::NextDay | Verb::InHouse | Verb::LeftBehind => ask(alloc, verb, &[]),
-        Verb::Entered | Verb::Left | Verb::Recoded => Ok(None),
+    if fields_of(verb).is_empty() {
+        return accept_ask(alloc, verb, &part_of(verb, path));
+    }
+    let form = read_form(alloc, body)?;
+    match texts_of(verb, path, &form) {
+        Some(texts) => accept_ask(alloc, verb, &texts),
+        None => Ok(None),
     }
 }
 
 /// What a route asks for, by its path and its body. None where a value is missing, stands twice or is refused.
-pub fn read_task(
+pub(crate) fn read_task(
     alloc: Global,
     target: Target,
     path: &str,

@@ -12,7 +12,7 @@ use Rattle.std.specs.Io.KnownBytes.{Appends}
 use Rattle.std.proofs.KnownBytes.{Appends-trans}
 use lib.Seq.{take-add}
 
--- first the front of a text, then more of it
+-- first a prefix of a text, then more of it
 pub appended_next : (a b c : Option (List ℕ)) (bs : List ℕ) (n m : ℕ) → n ≤ length bs
     → Appends a b (take n bs) → m ≤ length (take (length bs - n) (drop n bs))
     → Appends b c (take m (take (length bs - n) (drop n bs)))
@@ -29,7 +29,7 @@ pub on_err : {A E P : Type 0} (r : Result A E) → P → OnErr r P
 on_err (Ok a) p = tt
 on_err (Err e) p = p
 
--- parts that went, and then a front of the next one
+-- parts that went, and then a prefix of the next one
 pub front_next : (a b c : Option (List ℕ)) (done part rest : List ℕ)
     → Appends a b done → AppendsFront b c part → AppendsFront a c ((done ++ part) ++ rest)
 front_next a b c done part rest first (n, within, next) =

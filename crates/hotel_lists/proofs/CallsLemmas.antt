@@ -15,7 +15,8 @@ use Rattle.keycard_rules.specs.{Calls.Told, Calls.all_answer, Calls.last_answers
 use Rattle.keycard_rules.specs.Calls.{Passes}
 use Rattle.keycard_rules.proofs.CallsTogether.{passes_push, together}
 use Rattle.hotel_core.proofs.Names.{RoomRow, false≢true}
-use Rattle.hotel_lists.specs.{Lines.FindsRoom, Lines.ListTold, Lines.LooksAt, declared.fault.ListFault.ListFault}
+use Rattle.hotel_lists.specs.RowLines.{FindsRoom, ListTold, LooksAt}
+use Rattle.hotel_lists.specs.declared.fault.ListFault.{ListFault}
 use Rattle.hotel_lists.specs.declared.fault.ListFault.TheVariants as fault
 use Rattle.hotel_lists.specs.{Asked.Interrupts, Calls.Calls, Calls.NoneForgotten}
 use Rattle.hotel_lists.specs.declared.calls.TheConstants.{LAST_INTERRUPTION}

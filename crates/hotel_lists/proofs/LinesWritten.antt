@@ -12,13 +12,14 @@ use Rattle.std.proofs.KnownBytes.{Appends-trans, Appends-kept}
 use Rattle.hotel_core.specs.declared.books.walks.WalkFault.{WalkFault}
 use Rattle.hotel_core.specs.declared.books.walks.WalkFault.TheVariants as walk
 use Rattle.hotel_lists.specs.{Bytes.AppendsFront, LineSink.SameEnds, LineSink.Gathers, LineSink.StopsAtWrite}
-use Rattle.hotel_lists.specs.{LineSink.Finishes, declared.lines.Lines.Lines}
-use Rattle.hotel_lists.specs.{declared.fault.ListFault.ListFault, Lines.ListTold, Lines.StopsAtLine, Lines.list_result}
+use Rattle.hotel_lists.specs.{LineSink.Finishes, declared.line_sink.LineSink.LineSink}
+use Rattle.hotel_lists.specs.RowLines.{ListTold, StopsAtLine, list_result}
+use Rattle.hotel_lists.specs.declared.fault.ListFault.{ListFault}
 use Rattle.hotel_lists.specs.{Listings.IsListFront, Listings.ListEnds, Listings.listing}
 use Rattle.hotel_lists.specs.declared.fault.ListFault.TheVariants as fault
 use Rattle.hotel_lists.proofs.{BytesLemmas.front_next, CallsLemmas.none_forgotten, CallsLemmas.then_none_forgotten}
 
--- a front of the first of two texts is a front of both
+-- a prefix of the first of two texts is a prefix of both
 pub front_of_first : (a b : Option (List ℕ)) (bs cs : List ℕ) → AppendsFront a b bs → AppendsFront a b (bs ++ cs)
 front_of_first a b bs cs (n, within, h) =
     (n, simp length-append (omega arith), subst (Appends a b) (sym (take-append-le n bs cs within)) h)
@@ -28,10 +29,10 @@ stopped_for_write : (failed : Bool) → list_result (Err walk.Stopped) failed �
 stopped_for_write true e = refl
 stopped_for_write false e = cc
 
-same_sink : {W : Type 0} (s : Lines W) → SameEnds s s
+same_sink : {W : Type 0} (s : LineSink W) → SameEnds s s
 same_sink s = record { writer = refl; calls = refl; none_forgotten = none_forgotten s.calls.now }
 
-then_same : {W : Type 0} (a b c : Lines W) → SameEnds a b → SameEnds b c → SameEnds a c
+then_same : {W : Type 0} (a b c : LineSink W) → SameEnds a b → SameEnds b c → SameEnds a c
 then_same a b c h k = record {
   writer = k.writer ∙ h.writer;
   calls = k.calls ∙ h.calls;
@@ -39,7 +40,7 @@ then_same a b c h k = record {
 }
 
 -- a list reported what its walk did
-pub walk_told : {W : Type 0} (contents : W → Option (List ℕ)) (b c : Lines W)
+pub walk_told : {W : Type 0} (contents : W → Option (List ℕ)) (b c : LineSink W)
     (end result : Result (Unit {0}) WalkFault) (last : Result (Unit {0}) ListFault)
     → Finishes contents b c end result → last ≡ list_result result c.write_failed → ListTold last (failure_of end ∷ [])
 walk_told contents b c end result last f same =
@@ -105,14 +106,14 @@ module _ {R : Type 0} (line : R → List ℕ) (old new : Option (List ℕ)) (hea
   )
 
 module _ {W R : Type 0} (contents : W → Option (List ℕ)) (line : R → List ℕ) where
-  abbrev pub Wrote : Lines W → R → Lines W → Type 0
+  abbrev pub Wrote : LineSink W → R → LineSink W → Type 0
   Wrote old row new = SameEnds old new × Gathers contents old new (line row)
 
-  abbrev pub Stopped : Lines W → R → Lines W → Type 0
+  abbrev pub Stopped : LineSink W → R → LineSink W → Type 0
   Stopped old row new = SameEnds old new × StopsAtWrite contents old new (old.gathered.now ++ line row)
 
-  -- of the list of these rows a front of whole rows is written, and the lines of the others are gathered
-  abbrev pub Stands : Option (List ℕ) → List ℕ → List R → Lines W → Type 0
+  -- of the list of these rows a prefix of whole rows is written, and the lines of the others are gathered
+  abbrev pub Stands : Option (List ℕ) → List ℕ → List R → LineSink W → Type 0
   Stands w header rows s = (sent : List R) × (held : List R) × (rows ≡ sent ++ held)
       × Appends w (contents s.writer.now) (list_text header line sent) × (s.gathered.now ≡ flat_map line held)
 
@@ -125,7 +126,7 @@ module _ {W R : Type 0} (contents : W → Option (List ℕ)) (line : R → List 
   text_of_both header sent held = append_assoc header (flat_map line sent) (flat_map line held)
       ∙ ap (λ l. header ++ l) (sym (flat_map-append line sent held))
 
-  step : (w : Option (List ℕ)) (header : List ℕ) (rows : List R) (row : R) (old new : Lines W)
+  step : (w : Option (List ℕ)) (header : List ℕ) (rows : List R) (row : R) (old new : LineSink W)
       → Stands w header rows old → Gathers contents old new (line row) → Stands w header (rows ++ row ∷ []) new
   step w header rows row old new (sent, held, all, written, gathered) (inl (kept, more)) = (
     sent,
@@ -148,26 +149,26 @@ module _ {W R : Type 0} (contents : W → Option (List ℕ)) (line : R → List 
         none,
       )
 
-  took_same : (rows : List R) (a b : Lines W) → Passes Wrote a rows b → SameEnds a b
-  took_same [] a b t = subst (λ (s : Lines W). SameEnds a s) (sym t) (same_sink a)
+  took_same : (rows : List R) (a b : LineSink W) → Passes Wrote a rows b → SameEnds a b
+  took_same [] a b t = subst (λ (s : LineSink W). SameEnds a s) (sym t) (same_sink a)
   took_same (row ∷ rows) a b t = then_same a t.0 b t.1.0 (took_same rows t.0 b t.2)
 
-  took : (w : Option (List ℕ)) (header : List ℕ) (before rows : List R) (a b : Lines W)
+  took : (w : Option (List ℕ)) (header : List ℕ) (before rows : List R) (a b : LineSink W)
       → Stands w header before a → Passes Wrote a rows b → Stands w header (before ++ rows) b
-  took w header before [] a b s t = subst (λ (c : Lines W). Stands w header (before ++ []) c) (sym t)
+  took w header before [] a b s t = subst (λ (c : LineSink W). Stands w header (before ++ []) c) (sym t)
       (subst (λ rs. Stands w header rs a) (sym (append-nil before)) s)
   took w header before (row ∷ rows) a b s t =
       subst (λ rs. Stands w header rs b) (append_assoc before (row ∷ []) rows)
       (took w header (before ++ row ∷ []) rows t.0 b (step w header before row a t.0 s t.1.1) t.2)
 
   -- after the header, and rows that the sink took
-  from_header : (w : Option (List ℕ)) (header : List ℕ) (rows : List R) (a b : Lines W)
+  from_header : (w : Option (List ℕ)) (header : List ℕ) (rows : List R) (a b : LineSink W)
       → Appends w (contents a.writer.now) header → a.gathered.now ≡ [] → Passes Wrote a rows b → Stands w header rows b
   from_header w header rows a b first none t = took w header [] rows a b
       ([], [], refl, subst (Appends w (contents a.writer.now)) (sym (append-nil header)) first, none) t
 
   -- the sink's writer and calls are the same ones at the end of the walk
-  same_ends : (rows : List R) (a b : Lines W) (end : Result (Unit {0}) WalkFault)
+  same_ends : (rows : List R) (a b : LineSink W) (end : Result (Unit {0}) WalkFault)
       → Hands Wrote Stopped rows a b end → SameEnds a b
   same_ends rows a b (Ok done) h = took_same rows a b h
   same_ends rows a b (Err walk.Stopped) h = then_same a h.4 b (took_same h.0 a h.4 h.5) h.6.0
@@ -175,14 +176,14 @@ module _ {W R : Type 0} (contents : W → Option (List ℕ)) (line : R → List 
   same_ends rows a b (Err walk.Store) h = took_same h.0 a b h.3
 
   -- a list ends with Write only after a write that failed
-  write_had_failed : (rows : List R) (a b c : Lines W) (end result : Result (Unit {0}) WalkFault)
+  write_had_failed : (rows : List R) (a b c : LineSink W) (end result : Result (Unit {0}) WalkFault)
       → Hands Wrote Stopped rows a b end → Finishes contents b c end result
       → list_result result c.write_failed ≡ Err fault.Write → c.calls.now.write_failed ≡ true
   write_had_failed rows a b c (Err walk.Stopped) result h f e =
       let here : list_result (Err walk.Stopped) b.write_failed ≡ Err fault.Write =
-      subst (λ (s : Lines W). list_result (Err walk.Stopped) s.write_failed ≡ Err fault.Write) f.1
+      subst (λ (s : LineSink W). list_result (Err walk.Stopped) s.write_failed ≡ Err fault.Write) f.1
       (subst (λ r. list_result r c.write_failed ≡ Err fault.Write) f.0 e) in
-      subst (λ (s : Lines W). s.calls.now.write_failed ≡ true) (sym f.1)
+      subst (λ (s : LineSink W). s.calls.now.write_failed ≡ true) (sym f.1)
       (h.6.1.1 (stopped_for_write b.write_failed here))
   write_had_failed rows a b c (Ok done) (Err walk.Stopped) h f e = f.1 (stopped_for_write c.write_failed e)
   write_had_failed rows a b c (Ok done) (Ok ended) h f e = cc
@@ -194,7 +195,7 @@ module _ {W R : Type 0} (contents : W → Option (List ℕ)) (line : R → List 
       let k = subst (λ r. list_result r c.write_failed ≡ Err fault.Write) f.0 e in cc
 
   -- a list was written at the same writer and calls, and ends with Write only after a write that failed
-  pub list_ended : (rows : List R) (a b c : Lines W)
+  pub list_ended : (rows : List R) (a b c : LineSink W)
       (end result : Result (Unit {0}) WalkFault) (last : Result (Unit {0}) ListFault)
       → Hands Wrote Stopped rows a b end → SameEnds b c → Finishes contents b c end result
       → last ≡ list_result result c.write_failed
@@ -221,7 +222,7 @@ module _ {W R : Type 0} (contents : W → Option (List ℕ)) (line : R → List 
       (Appends-kept w old new _ first stop)
 
   -- the rest of the rows wasn't written, or the rest of them was
-  rest_stopped : (w : Option (List ℕ)) (header : List ℕ) (rows taken rest : List R) (b c : Lines W)
+  rest_stopped : (w : Option (List ℕ)) (header : List ℕ) (rows taken rest : List R) (b c : LineSink W)
       → rows ≡ taken ++ rest → Stands w header taken b → StopsAtWrite contents b c b.gathered.now
       → Ends line w (contents c.writer.now) header rows (list_result (Err walk.Stopped) c.write_failed)
   rest_stopped w header rows taken rest b c e (sent, held, all, written, gathered) f =
@@ -229,16 +230,16 @@ module _ {W R : Type 0} (contents : W → Option (List ℕ)) (line : R → List 
       (e ∙ ap (λ l. l ++ rest) all) gathered written f.0
 
   -- what was gathered before the walk failed isn't written
-  walk_failed : (w : Option (List ℕ)) (header : List ℕ) (rows taken rest : List R) (b c : Lines W)
+  walk_failed : (w : Option (List ℕ)) (header : List ℕ) (rows taken rest : List R) (b c : LineSink W)
       → rows ≡ taken ++ rest → Stands w header taken b → c ≡ b
       → (front : List ℕ) × IsListFront (Some (listing header line rows)) front × Appends w (contents c.writer.now) front
   walk_failed w header rows taken rest b c e (sent, held, all, written, gathered) same =
-      subst (λ (s : Lines W). (front : List ℕ) × IsListFront (Some (listing header line rows)) front
+      subst (λ (s : LineSink W). (front : List ℕ) × IsListFront (Some (listing header line rows)) front
       × Appends w (contents s.writer.now) front) (sym same)
       (front_ends line w (contents b.writer.now) header rows sent (held ++ rest)
       (e ∙ ap (λ l. l ++ rest) all ∙ append_assoc sent held rest) written)
 
-  rest_written : (w : Option (List ℕ)) (header : List ℕ) (rows : List R) (b c : Lines W)
+  rest_written : (w : Option (List ℕ)) (header : List ℕ) (rows : List R) (b c : LineSink W)
       → Stands w header rows b → Appends (contents b.writer.now) (contents c.writer.now) b.gathered.now
       → Appends w (contents c.writer.now) (list_text header line rows)
   rest_written w header rows b c (sent, held, all, written, gathered) f =
@@ -250,7 +251,7 @@ module _ {W R : Type 0} (contents : W → Option (List ℕ)) (line : R → List 
 
   -- the sink stopped at a row of the walk
   walk_stopped : (w : Option (List ℕ)) (header : List ℕ) (rows taken : List R) (row : R) (rest : List R)
-      (last b : Lines W) → rows ≡ taken ++ row ∷ rest → Stands w header taken last
+      (last b : LineSink W) → rows ≡ taken ++ row ∷ rest → Stands w header taken last
       → StopsAtWrite contents last b (last.gathered.now ++ line row)
       → Ends line w (contents b.writer.now) header rows (list_result (Err walk.Stopped) b.write_failed)
   walk_stopped w header rows taken row rest last b e (sent, held, all, written, gathered) f =
@@ -260,7 +261,7 @@ module _ {W R : Type 0} (contents : W → Option (List ℕ)) (line : R → List 
       (ap (λ l. l ++ line row) gathered ∙ one_more held row) written f.0
 
   -- after the header, the walk and its end, the list is written as its end says
-  pub list_written : (w : Option (List ℕ)) (header : List ℕ) (rows handed : List R) (a b c : Lines W)
+  pub list_written : (w : Option (List ℕ)) (header : List ℕ) (rows handed : List R) (a b c : LineSink W)
       (end result : Result (Unit {0}) WalkFault) → Appends w (contents a.writer.now) header → a.gathered.now ≡ []
       → handed ≡ rows → Hands Wrote Stopped handed a b end → Finishes contents b c end result
       → Ends line w (contents c.writer.now) header rows (list_result result c.write_failed)
@@ -268,7 +269,7 @@ module _ {W R : Type 0} (contents : W → Option (List ℕ)) (line : R → List 
       let here = walk_stopped w header rows h.0 h.1 h.2 h.4 b (sym e ∙ h.3)
       (from_header w header h.0 a h.4 first none h.5) h.6.1 in
       subst (λ r. Ends line w (contents c.writer.now) header rows (list_result r c.write_failed)) (sym f.0)
-      (subst (λ (s : Lines W). Ends line w (contents s.writer.now) header rows
+      (subst (λ (s : LineSink W). Ends line w (contents s.writer.now) header rows
       (list_result (Err walk.Stopped) s.write_failed)) (sym f.1) here)
   list_written w header rows handed a b c (Ok done) (Err walk.Stopped) first none e h f = rest_stopped w header rows
       handed [] b c (sym e ∙ sym (append-nil handed)) (from_header w header handed a b first none h) f

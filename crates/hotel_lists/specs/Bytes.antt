@@ -8,11 +8,11 @@ use Rattle.hotel_lists.specs.{declared.bytes.ReadFault.ReadFault, declared.bytes
 use Rattle.hotel_lists.specs.declared.bytes.ReadFault.TheVariants as more
 use Rattle.hotel_lists.specs.declared.bytes.WholeFault.TheVariants as whole
 
--- A writer took a front of the bytes: all of them, some or none.
+-- A writer took a prefix of the bytes: all of them, some or none.
 abbrev pub AppendsFront : Option (List ℕ) → Option (List ℕ) → List ℕ → Type 0
 AppendsFront old new bytes = (n : ℕ) × (n ≤ length bytes) × Appends old new (take n bytes)
 
--- A text was written: all of it, or a front of it until a write failed.
+-- A text was written: all of it, or a prefix of it until a write failed.
 pub record Writes {A E : Type 0} (old new : Option (List ℕ)) (text : List ℕ) (before after : Calls)
     (result : Result A E) : Type 0 where
   pub ok : OnOk result (Appends old new text)

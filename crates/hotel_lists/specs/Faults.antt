@@ -1,9 +1,16 @@
--- The faults of lists, as refusals.
-use Rattle.std.specs.Prelude.{Option, Some, None}
+-- The faults of lists, as texts and as refusals.
+use Rattle.std.specs.Prelude.{ℕ, List, Option, Some, None, codes}
 use Rattle.hotel_model.specs.declared.reply.Refusal.{Refusal}
 use Rattle.hotel_model.specs.declared.reply.Refusal.TheVariants as refusal
 use Rattle.hotel_lists.specs.declared.fault.ListFault.{ListFault}
 use Rattle.hotel_lists.specs.declared.fault.ListFault.TheVariants as fault
+
+-- what a list's fault prints
+abbrev pub fault_text : ListFault → List ℕ
+fault_text fault.NoRoom = codes "refused 6 NoRoom"
+fault_text fault.Memory = codes "memory"
+fault_text fault.Store = codes "store"
+fault_text fault.Write = codes "write"
 
 -- The refusal that a list's fault is answered by; none where the writer itself failed.
 abbrev pub told_refusal : ListFault → Option Refusal

@@ -6,8 +6,8 @@ use Rattle.std.specs.Io.KnownBytes.{Appends}
 use Rattle.hotel_model.specs.{Rows.Rows, Rows.notes_at, Refinement.Lookups.room_at}
 use Rattle.hotel_model.specs.Refinement.ListsOnRows.{arrivals_on, in_house_on, chain_on, left_behind_on}
 use Rattle.hotel_lists.specs.{Bytes.AppendsFront, declared.fault.ListFault.ListFault}
-use Rattle.hotel_lists.specs.Lines.{arrivals_header, in_house_header, chain_header, left_behind_header, audit_header}
-use Rattle.hotel_lists.specs.Lines.{arrival_line, house_line, chain_line, behind_line, note_line}
+use Rattle.hotel_lists.specs.RowLines.{arrivals_header, in_house_header, chain_header, left_behind_header, audit_header}
+use Rattle.hotel_lists.specs.RowLines.{arrival_line, house_line, chain_line, behind_line, note_line}
 use Rattle.hotel_lists.specs.declared.fault.ListFault.TheVariants as fault
 
 -- A list's header and its lines.

@@ -1,5 +1,5 @@
--- When a reader is read.
-use Rattle.std.specs.Prelude.{◌≤◌, ℕ, ◌++◌, List, length, Option}
+-- When a reader is read, and what came of it.
+use Rattle.std.specs.Prelude.{◌≡◌, ◌≤◌, ℕ, [], ◌++◌, List, length, Option}
 use Rattle.std.specs.Io.KnownBytes.{Consumes}
 use Rattle.hotel_lists.specs.declared.bytes.TheConstants.{READ_BYTES}
 
@@ -8,3 +8,7 @@ use Rattle.hotel_lists.specs.declared.bytes.TheConstants.{READ_BYTES}
 abbrev pub ReadsWhile : (List ℕ → Type 0) → Option (List ℕ) → Option (List ℕ) → Type 0
 ReadsWhile wants old new =
     (before : List ℕ) × (last : List ℕ) × (length last ≤ READ_BYTES) × Consumes old new (before ++ last) × wants before
+
+-- The bytes are the input; or, where they are more than `most`, a prefix of it.
+abbrev pub IsFrontUpTo : ℕ → List ℕ → List ℕ → Type 0
+IsFrontUpTo most bytes input = (rest : List ℕ) × (input ≡ bytes ++ rest) × (length bytes ≤ most → rest ≡ [])

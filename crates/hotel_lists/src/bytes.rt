@@ -1,8 +1,8 @@
 //! Loops over one reader or one writer.
 
-ghost use Rattle.std.specs.Prelude.{◌≡◌, IfSome, IsErrOf, ◌<◌, ◌≤◌, length, IfOk, OnOk, OnErr};
+ghost use Rattle.std.specs.Prelude.{◌≡◌, IfSome, IsErrOf, ◌<◌, ◌≤◌, ◌+◌, length, IfOk, OnOk, OnErr};
 ghost use Rattle.std.specs.Io.KnownBytes.{IsAtEnd};
-ghost use Rattle.hotel_lists.specs.Reads.{ReadsWhile};
+ghost use Rattle.hotel_lists.specs.Reads.{IsFrontUpTo, ReadsWhile};
 ghost use Rattle.hotel_lists.specs.Calls.{CountsReads, OnErrOf};
 ghost use Rattle.hotel_lists.specs.Bytes.{Writes, joined, ReadsOnto, ConsumesAtMost, whole_fault};
 ghost use Rattle.hotel_lists.specs.declared.bytes.ReadFault.TheVariants.{Read, Memory};
@@ -12,7 +12,7 @@ use crate::calls::{IoCalls, ReadFailed, WriteFailed, read_some, write_some};
 use std::alloc::{AllocError, Global};
 use std::io::{Read, Write};
 
-/// Writes all the bytes, by as many writes as it takes. After a fault the writer took a front of
+/// Writes all the bytes, by as many writes as it takes. After a fault the writer took a prefix of
 /// them. It fails where a write fails or takes no byte, and at the last interruption.
 pub fn write_bytes<W: Write>(
     writer: &mut W,
@@ -29,7 +29,7 @@ pub fn write_bytes<W: Write>(
     Ok(())
 }
 
-/// Writes parts, one after the other. After a fault the writer took a front of them joined. It
+/// Writes parts, one after the other. After a fault the writer took a prefix of them joined. It
 /// fails where `write_bytes` does.
 pub fn write_parts<W: Write>(
     writer: &mut W,
@@ -92,6 +92,30 @@ pub fn read_more<R: Read>(
     Ok(got)
 }
 
+/// Reads all the bytes that the reader has; or, where it has more than `most`, more than `most` of them. It stops with
+/// Read or Memory as `read_more` does.
+pub fn read_front<R: Read>(
+    alloc: Global,
+    reader: &mut R,
+    most: usize,
+    calls: &mut IoCalls,
+) -> Result<Vec<u8>, ReadFault>
+    ensures front { IfOk result (λ bytes. IfSome (R.remaining reader.old) (IsFrontUpTo most bytes.items)) }
+    ensures few { IfOk result (λ bytes. length bytes.items ≤ most + READ_BYTES) }
+    ensures end { IfOk result (λ bytes. length bytes.items ≤ most → IsAtEnd (R.remaining reader.new)) }
+    ensures wanted { ReadsWhile (λ came. length came ≤ most) (R.remaining reader.old) (R.remaining reader.new) }
+    ensures calls { CountsReads calls.old calls.new (OnErrOf result Read) }
+{
+    let mut bytes = Vec::new(alloc);
+    while bytes.len() <= most {
+        let got = read_more(reader, &mut bytes, calls)?;
+        if got == 0 {
+            return Ok(bytes);
+        }
+    }
+    Ok(bytes)
+}
+
 /// Why an input was not read whole: a read failed, it has more bytes than the limit, or memory for them was refused.
 #[derive(Debug, Drop)]
 pub enum WholeFault {
@@ -127,12 +151,9 @@ pub fn read_whole<R: Read>(
     ensures wanted { ReadsWhile (λ came. length came ≤ limit) (R.remaining reader.old) (R.remaining reader.new) }
     ensures calls { CountsReads calls.old calls.new (OnErrOf result WholeFault.Read) }
 {
-    let mut bytes = Vec::new(alloc);
-    while bytes.len() <= limit {
-        let got = read_more(reader, &mut bytes, calls)?;
-        if got == 0 {
-            return Ok(bytes);
-        }
+    let bytes = read_front(alloc, reader, limit, calls)?;
+    if bytes.len() > limit {
+        return Err(WholeFault::TooLarge);
     }
-    Err(WholeFault::TooLarge)
+    Ok(bytes)
 }

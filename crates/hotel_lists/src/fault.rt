@@ -1,9 +1,12 @@
 //! Why a list was not written whole.
-ghost use Rattle.std.specs.Prelude.{◌≡◌};
-ghost use Rattle.hotel_lists.specs.{Faults.told_refusal, declared.fault.ListFault.TheVariants.Write};
+ghost use Rattle.std.specs.Prelude.{◌≡◌, Some};
+ghost use Rattle.hotel_lists.specs.{Faults.fault_text, Faults.told_refusal};
+ghost use Rattle.hotel_lists.specs.{declared.fault.ListFault.TheVariants.Write};
 
 use crate::calls::WriteFailed;
 use hotel_core::Refusal;
+use std::error::Error;
+use std::fmt;
 
 /// Why a list was not written whole.
 #[derive(Clone, Copy, PartialEq, Eq, Debug)]
@@ -17,6 +20,21 @@ pub enum ListFault {
     /// A write failed, took no byte, or was the last interrupted one.
     Write,
 }
+
+impl fmt::Display for ListFault {
+    ghost output = { λ why. Some (fault_text why) };
+
+    fn fmt<W: fmt::Write>(&self, f: &mut fmt::Formatter<W>) -> fmt::Result {
+        f.write_str(match self {
+            ListFault::NoRoom => "refused 6 NoRoom",
+            ListFault::Memory => "memory",
+            ListFault::Store => "store",
+            ListFault::Write => "write",
+        })
+    }
+}
+
+impl Error for ListFault {}
 
 impl ListFault {
     /// The refusal that it is answered by. None where the writer itself failed.

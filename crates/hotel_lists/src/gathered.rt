@@ -1,6 +1,6 @@
 //! Lines of rows, gathered as text of a CSV file before they are written.
 ghost use Rattle.std.specs.Prelude.{◌≡◌, [], ◌++◌, map, IfOk, OnOk, OnErr};
-ghost use Rattle.hotel_lists.specs.Lines.{line_of};
+ghost use Rattle.hotel_lists.specs.RowLines.{line_of};
 
 use csv::{Writer, WriterBuilder};
 use keycard_rules::Memory;

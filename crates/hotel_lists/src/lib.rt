@@ -1,10 +1,11 @@
-//! The lists of the desk as text, and the loops over one reader or writer that carry texts. Neither verbs nor tables
-//! are known here.
+//! The lists of the desk as text, and the loops over one reader or writer that carry texts. The crate knows neither
+//! verbs nor tables.
 //!
-//! - src: bytes, calls; specs: Bytes, Calls, Reads: a writer took all of some bytes or a front of them; the reads and
+//! - src: bytes, calls; specs: Bytes, Calls, Reads: a writer took all of some bytes or a prefix of them; the reads and
 //!   writes of one call; when a reader is read.
-//! - src: line, lines, gathered, listing, lists, write_lists; Lines, Gathered, LineSink, Listings: the line of each
-//!   row, by `csv`'s row text; what a list wrote, and which faults its calls reported, by how it ended.
+//! - src: row_lines, gathered, line_sink, walked_lists, lists, write_lists; specs: RowLines, Gathered, LineSink,
+//!   Listings: the line of each row, by `csv`'s row text; what a list wrote, and which faults its calls reported, by
+//!   how it ended.
 //! - src: fault; Faults: the refusal that a list's fault is answered by.
 //! - src: test_streams; TestStreams: readers and writers for tests, of which a call goes wrong.
 #![tactic(auto)]
@@ -13,15 +14,15 @@ mod bytes;
 mod calls;
 mod fault;
 mod gathered;
-mod line;
-mod lines;
-mod listing;
+mod line_sink;
 mod lists;
+mod row_lines;
 mod test_streams;
+mod walked_lists;
 mod write_lists;
 
 pub use bytes::{
-    READ_BYTES, ReadFault, WholeFault, read_more, read_whole, write_bytes, write_parts,
+    READ_BYTES, ReadFault, WholeFault, read_front, read_more, read_whole, write_bytes, write_parts,
 };
 pub use calls::{IoCalls, LAST_INTERRUPTION, ReadFailed, WriteFailed};
 pub use fault::ListFault;

@@ -1,7 +1,7 @@
 //! The five lists as text: a header, and a line for each row.
 ghost use Rattle.std.specs.Prelude.{◌≡◌, [], Err};
 ghost use Rattle.hotel_lists.specs.Listings.{ListEnds, arrivals_listing, in_house_listing, chain_listing};
-ghost use Rattle.hotel_lists.specs.{Listings.left_behind_listing, Listings.audit_listing, Lines.LooksAt};
+ghost use Rattle.hotel_lists.specs.{Listings.left_behind_listing, Listings.audit_listing, RowLines.LooksAt};
 ghost use Rattle.hotel_lists.specs.declared.fault.ListFault.TheVariants.{NoRoom};
 
 use crate::calls::IoCalls;

@@ -5,14 +5,14 @@ ghost use Rattle.hotel_lists.specs.Calls.{CountsWrites, OnErrOf};
 ghost use Rattle.hotel_lists.specs.declared.fault.ListFault.TheVariants.{NoRoom, Write};
 ghost use Rattle.hotel_lists.specs.Listings.{ListEnds, listing, of_room, arrivals_listing, in_house_listing};
 ghost use Rattle.hotel_lists.specs.Listings.{chain_listing, left_behind_listing, audit_listing};
-ghost use Rattle.hotel_lists.specs.Lines.{LooksAt, FindsRoom};
+ghost use Rattle.hotel_lists.specs.RowLines.{LooksAt, FindsRoom};
 
 use crate::bytes::write_bytes;
 use crate::calls::IoCalls;
 use crate::fault::ListFault;
 use crate::gathered::Gathered;
-use crate::lines::{Lines, listed};
-use crate::listing::{Arrivals, AuditOf, ChainOf, InHouse, LeftBehind, Listing};
+use crate::line_sink::{LineSink, listed};
+use crate::walked_lists::{Arrivals, AuditOf, ChainOf, InHouse, LeftBehind, WalkedList};
 use hotel_core::Walks;
 use hotel_nights::Day;
 use keycard_rules::{LookFault, RoomNo};
@@ -45,7 +45,7 @@ fn find_room<B: Walks>(books: &mut B, room: RoomNo) -> Result<(), ListFault>
 }
 
 /// Writes the header of a list and the lines of its rows.
-fn write_rows<B: Walks, L: Listing<B>, W: Write>(
+fn write_rows<B: Walks, L: WalkedList<B>, W: Write>(
     alloc: Global,
     books: &mut B,
     list: &L,
@@ -62,14 +62,14 @@ fn write_rows<B: Walks, L: Listing<B>, W: Write>(
 {
     write_bytes(writer, header, calls)?;
     let mut gathered = Gathered::none(alloc);
-    let mut lines = Lines::new(writer, calls, &mut gathered);
+    let mut lines = LineSink::new(writer, calls, &mut gathered);
     let walked = list.walk(books, &mut lines);
     let end = lines.finish(walked);
     listed(end, lines.write_failed)
 }
 
 /// Writes a list of a room, where the room is there.
-fn write_room_rows<B: Walks, L: Listing<B>, W: Write>(
+fn write_room_rows<B: Walks, L: WalkedList<B>, W: Write>(
     alloc: Global,
     books: &mut B,
     room: RoomNo,

@@ -35,6 +35,8 @@ pub mod Cases
 pub mod Outcome
 -- The answer to each command: the first of its checks that refuses it, else its effect.
 pub mod Answer
+-- The texts of refusals.
+pub mod RefusalTexts
 -- What a note may be answered.
 pub mod NoteReplies
 -- The ranges of the values in commands, replies and events.

@@ -7,6 +7,7 @@ ghost use Rattle.keycard_rules.specs.{Numerals.fixed_text, declared.note.TheCons
 use jiff::civil::Date;
 use jiff_core::civil::Date as PlainDate;
 use keycard_rules::{LAST_DAY, read_numeral, write_fixed};
+use std::fmt;
 use std::marker::Model;
 
 /// A day from 2000-01-01 to 2099-12-31 of the Gregorian calendar.
@@ -116,5 +117,17 @@ impl Day {
     {
         let number = self.number.checked_add(days)?;
         Day::new(number)
+    }
+}
+
+/// As `print`: `YYYY-MM-DD`.
+impl fmt::Display for Day {
+    ghost output = { λ d. Some (day_text d) };
+
+    fn fmt<W: fmt::Write>(&self, f: &mut fmt::Formatter<W>) -> fmt::Result {
+        match std::str::from_utf8(&self.print()) {
+            Ok(text) => f.write_str(text),
+            Err(_) => Err(fmt::Error),
+        }
     }
 }

@@ -34,7 +34,8 @@ fn first_of_blocks(
 /// take.
 ///
 /// `None` where no night of these is full, and where `depart` isn't after `arrive`. With no rooms each night is full.
-/// It takes no memory, and goes over the stays once for each 90 nights.
+/// It takes no memory, and goes over the stays once for each 90 nights. No command calls it: a client shows by it which
+/// night keeps a stay out.
 pub fn first_full_night(
     stays: &[Stay],
     kind: &KindCode,

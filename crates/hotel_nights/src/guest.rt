@@ -1,14 +1,16 @@
 //! Names of guests.
 
-ghost use Rattle.std.specs.Prelude.{◌≡◌, ◌↔◌, ℕ, List, true, false, IfOk, string_bytes, not};
+ghost use Rattle.std.specs.Prelude.{◌≡◌, ◌↔◌, ℕ, List, Some, true, false, IfOk, string_bytes, not};
 ghost use Rattle.std.specs.List.{list_all};
 ghost use Rattle.std.specs.Char.{is_control};
 ghost use Rattle.std.specs.Cmp.Rules.{comparing};
 ghost use Rattle.std.specs.Str.{chars, bytes_eq};
 ghost use Rattle.std.proofs.Common.{rules};
-ghost use Rattle.hotel_nights.specs.Guests.{is_guest};
+ghost use Rattle.hotel_nights.specs.Guests.{fault_text, is_guest};
 
 use std::alloc::Global;
+use std::error::Error;
+use std::fmt;
 use std::marker::Model;
 
 /// Why a text gives no guest.
@@ -19,6 +21,19 @@ pub enum GuestFault {
     /// The memory for a copy of the text was refused.
     Memory,
 }
+
+impl fmt::Display for GuestFault {
+    ghost output = { λ why. Some (fault_text why) };
+
+    fn fmt<W: fmt::Write>(&self, f: &mut fmt::Formatter<W>) -> fmt::Result {
+        f.write_str(match self {
+            GuestFault::Unread => "unread",
+            GuestFault::Memory => "memory",
+        })
+    }
+}
+
+impl Error for GuestFault {}
 
 /// The name of a guest: 1 to 60 bytes of UTF-8 with no control character (U+0000 to U+001F and U+007F to U+009F) and no
 /// space (U+0020) first or last.

@@ -1,5 +1,5 @@
-//! Days, moments, kinds of rooms, guests, stays, and the first night on which a kind of rooms is full. No lock is known
-//! here.
+//! Days, moments, kinds of rooms, guests, stays, and the first night on which a kind of rooms is full. The crate knows
+//! no lock.
 //!
 //! Contracts see a day and a number of nights as numbers, a moment as a pair of numbers, and a kind and a guest as
 //! bytes. Each reader of bytes answers the value that one function of `specs/` gives for them, so it takes exactly that

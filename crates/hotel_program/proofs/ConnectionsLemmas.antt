@@ -19,7 +19,7 @@ use Rattle.hotel_http.specs.{Body.interim_where, Serve.ServesOver, Serve.served_
 use Rattle.hotel_program.specs.Faults.{ReportsAll}
 use Rattle.hotel_program.specs.Connections.{AllCame, AskedEnds, ConnectionCame, ConnectionEnd, ConnectionHappens}
 use Rattle.hotel_program.specs.Connections.{Connects, LimitedEnds, ReadsBehind, ServersFollow, Sockets}
-use Rattle.hotel_program.specs.declared.listener.Link.{Ghosts as LinkOf}
+use Rattle.hotel_program.specs.declared.listener.Caller.{Ghosts as CallerOf}
 use Rattle.hotel_program.specs.Timed.{Reads}
 use Rattle.hotel_program.specs.Connections.{connection_end, faults_at, faults_of}
 use Rattle.hotel_program.specs.declared.faults.Fault.{Fault}
@@ -115,16 +115,18 @@ module _ {S R : Type 0} (v : Sockets) (K : KeptOf S) (rows : S → Rows) (words 
   -- nothing was asked of the books
   none_happened : (end : ConnectionEnd) (old new : S × R) → end ≡ None → new.0 ≡ old.0 → new.1 ≡ old.1
       → ConnectionHappens K rows words old end new
-  none_happened end old new none e f = subst (λ (o : ConnectionEnd). ConnectionHappens K rows words old o new) (sym none)
+  none_happened end old new none e f =
+      subst (λ (o : ConnectionEnd). ConnectionHappens K rows words old o new) (sym none)
       (idle_served K rows words None old new (λ h s. (refl, refl, refl)) e f)
 
-  limited_happened : (stream : v.Stream) (both : Bool) (links links' : v.Link × v.Link) (old new : S × R)
-      (end : ConnectionEnd) → LimitedEnds v.calls K rows words stream both links old end links' new
+  limited_happened : (stream : v.Stream) (both : Bool) (callers callers' : v.Caller × v.Caller) (old new : S × R)
+      (end : ConnectionEnd) → LimitedEnds v.calls K rows words stream both callers old end callers' new
       → ConnectionHappens K rows words old end new
-  limited_happened stream true links links' old new end (exchange, is, served) =
+  limited_happened stream true callers callers' old new end (exchange, is, served) =
       subst (λ (o : ConnectionEnd). ConnectionHappens K rows words old o new) (sym is)
       (stream_served K rows words old new _ _ _ _ (served_in exchange) served.serves)
-  limited_happened stream false links links' old new end (none, same, same', e, f) = none_happened end old new none e f
+  limited_happened stream false callers callers' old new end (none, same, same', e, f) =
+      none_happened end old new none e f
 
   asked_happened : (got : Result v.Stream Error) (mid listener : v.Listener) (old new : S × R) (end : ConnectionEnd)
       → AskedEnds v K rows words got mid old end listener new → ConnectionHappens K rows words old end new
@@ -142,7 +144,7 @@ module _ {S R : Type 0} (v : Sockets) (K : KeptOf S) (rows : S → Rows) (words 
     all_happened p.0 new ends p.2,
   )
 
-module _ {S L : Type 0} (calls : LinkOf L S) where
+module _ {S L : Type 0} (calls : CallerOf L S) where
   -- what was read behind an answer
   pub lingered_behind : (stream its : S) (follows : Bool) (read : Reads L) (new : L) → its ≡ stream → follows ≡ true
       → ReadsBehind calls its true read new → ReadsBehind calls stream follows read new
@@ -150,7 +152,7 @@ module _ {S L : Type 0} (calls : LinkOf L S) where
       subst (λ (s : S). ReadsBehind calls s follows read new) same
       (subst (λ (b : Bool). ReadsBehind calls its b read new) (sym e) lingers)
 
-  pub none_behind : (stream : S) (follows : Bool) (read : Reads L) (new : L) → follows ≡ false → new ≡ read.link
+  pub none_behind : (stream : S) (follows : Bool) (read : Reads L) (new : L) → follows ≡ false → new ≡ read.caller
       → ReadsBehind calls stream follows read new
   none_behind stream follows read new e same =
       subst (λ (b : Bool). ReadsBehind calls stream b read new) (sym e) same

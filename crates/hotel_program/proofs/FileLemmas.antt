@@ -1,8 +1,8 @@
--- What was read of a file is a front of it.
+-- What was read of a file is a prefix of it.
 use Rattle.std.proofs.Common.{◌≡◌, ◌∙◌, ◌≤◌, ℕ, List, length, take, Option, Some, None, sym, ap}
 use Rattle.std.proofs.lemmas.List.{take-append-le}
 use Rattle.std.specs.Prelude.{IfSome}
-use Rattle.hotel_program.specs.Files.{IsFrontUpTo}
+use Rattle.hotel_lists.specs.Reads.{IsFrontUpTo}
 
 -- the first bytes of a front are those of the whole
 pub seed_taken : (known : Option (List ℕ)) (bytes seed : List ℕ) → IfSome known (IsFrontUpTo 31 bytes)

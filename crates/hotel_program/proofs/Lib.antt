@@ -5,6 +5,7 @@ pub mod ProgramLemmas
 pub mod CommandLineLemmas
 pub mod CommandLineScenes
 pub mod WordsLemmas
+pub mod StatusLemmas
 pub mod PlanLemmas
 pub mod ConnectionsLemmas
 pub mod ShutLemmas

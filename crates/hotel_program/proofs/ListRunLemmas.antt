@@ -37,7 +37,7 @@ pub is_write : (r : Result (Unit {0}) ListFault) → IsErrAnd r (λ e. e ≡ fau
 is_write (Ok done) p = absurd p
 is_write (Err e) p = ap (λ (f : ListFault). Err f) p
 
--- a front of it was written
+-- a prefix of it was written
 pub cut_no_room : (listing : Option Listing) (old mid new : Option (List ℕ))
     → ListEnds [] listing old mid (Err fault.NoRoom) → AppendsFront mid new (refusal_text refusal.NoRoom)
     → AnswerEnds listing old new (Err fault.Write)

@@ -1,11 +1,12 @@
 -- What is read and written, a call more at a time.
-use Rattle.std.proofs.Common.{◌≡◌, ◌∙◌, ◌<◌, ◌+◌, ◌++◌, ℕ, List, [], ◌∷◌, Option, Some, Result, Ok, Err, arith, true, false}
+use Rattle.std.proofs.Common.{◌≡◌, ◌<◌, ◌+◌, ◌++◌, ℕ, List, [], ◌∷◌, Option, Some, Result, Ok, Err}
+use Rattle.std.proofs.Common.{arith, true, false}
 use Rattle.std.proofs.Common.{Bool, refl, sym, subst}
 use Rattle.std.specs.Prelude.{if◌then◌else◌}
 use Rattle.std.specs.Prelude.{is_err}
 use Rattle.std.specs.declared.io.Error.{Error}
 use Rattle.keycard_rules.proofs.CallsTogether.{passes_push}
-use Rattle.hotel_program.specs.declared.listener.Link.{Ghosts as LinkOf}
+use Rattle.hotel_program.specs.declared.listener.Caller.{Ghosts as CallerOf}
 use Rattle.hotel_program.specs.Timed.{AreRead, AreWritten, LeavesTime, LingersOn, ReadSince, Reading, Reads}
 use Rattle.hotel_program.specs.Timed.{ReadsInTime, ReadsOn, Writing, WritesInTime, WrittenSince, all_brought, brought}
 use Rattle.hotel_program.specs.Timed.{is_first}
@@ -44,43 +45,44 @@ leaves_other waits got left is =
     subst (λ (b : Bool). (left ≡ (if b then PATIENCE else left)) × (waits ≡ (if b then false else waits))) (sym is)
     (refl, refl)
 
-module _ {S L : Type 0} (calls : LinkOf L S) {its_stream : Option S} {its_link : Option L} where
+module _ {S L : Type 0} (calls : CallerOf L S) {its_stream : Option S} {its_caller : Option L} where
   -- one read more
   pub read_more : (stream : S) (old new : Reads L) (reading : Reading) → ReadsInTime calls stream old reading new
-      → ReadSince calls its_stream its_link stream old → ReadSince calls its_stream its_link stream new
+      → ReadSince calls its_stream its_caller stream old → ReadSince calls its_stream its_caller stream new
   read_more stream old new reading read (of, first, is, readings, were) =
       (of, first, is, readings ++ reading ∷ [], passes_push (ReadsInTime calls stream) _ readings were read)
 
   -- one write more
   pub written_more : (stream : S) (old new : L × ℕ) (writing : Writing) → WritesInTime calls stream old writing new
-      → WrittenSince calls its_stream its_link stream old → WrittenSince calls its_stream its_link stream new
+      → WrittenSince calls its_stream its_caller stream old → WrittenSince calls its_stream its_caller stream new
   written_more stream old new writing written (of, first, is, writings, were) =
       (of, first, is, writings ++ writing ∷ [], passes_push (WritesInTime calls stream) _ writings were written)
 
   -- it is the same connection
   pub same_read : (stream its : S) (now : Reads L) → its_stream ≡ Some stream
-      → ReadSince calls its_stream its_link its now → its ≡ stream
+      → ReadSince calls its_stream its_caller its now → its ≡ stream
   same_read stream its now e since = let of = since.0 in cc
 
   pub same_written : (stream its : S) (now : L × ℕ) → its_stream ≡ Some stream
-      → WrittenSince calls its_stream its_link its now → its ≡ stream
+      → WrittenSince calls its_stream its_caller its now → its ≡ stream
   same_written stream its now e since = let of = since.0 in cc
 
-  -- all reads were made since this link
-  pub since_read : (stream its : S) (first : L) (now : Reads L) → its_link ≡ Some first → its ≡ stream
-      → ReadSince calls its_stream its_link its now → (readings : List Reading) × AreRead calls stream first readings now
-  since_read stream its first now e same (of, link, is, readings, were) =
-      let begun : link ≡ first = cc in (
+  -- all reads were made since this caller
+  pub since_read : (stream its : S) (first : L) (now : Reads L) → its_caller ≡ Some first → its ≡ stream
+      → ReadSince calls its_stream its_caller its now
+      → (readings : List Reading) × AreRead calls stream first readings now
+  since_read stream its first now e same (of, caller, is, readings, were) =
+      let begun : caller ≡ first = cc in (
         readings,
         subst (λ (s : S). AreRead calls s first readings now) same
             (subst (λ (l : L). AreRead calls its l readings now) begun were),
       )
 
-  pub since_written : (stream its : S) (first : L) (now : L × ℕ) → its_link ≡ Some first → its ≡ stream
-      → WrittenSince calls its_stream its_link its now
+  pub since_written : (stream its : S) (first : L) (now : L × ℕ) → its_caller ≡ Some first → its ≡ stream
+      → WrittenSince calls its_stream its_caller its now
       → (writings : List Writing) × AreWritten calls stream first writings now
-  since_written stream its first now e same (of, link, is, writings, were) =
-      let begun : link ≡ first = cc in (
+  since_written stream its first now e same (of, caller, is, writings, were) =
+      let begun : caller ≡ first = cc in (
         writings,
         subst (λ (s : S). AreWritten calls s first writings now) same
             (subst (λ (l : L). AreWritten calls its l writings now) begun were),

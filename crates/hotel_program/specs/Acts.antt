@@ -9,7 +9,7 @@ use Rattle.hotel_model.specs.Rows.{Rows}
 use Rattle.hotel_model.specs.declared.command.Command.{Command}
 use Rattle.hotel_model.specs.declared.reply.Reply.{Reply}
 use Rattle.hotel_lists.specs.Bytes.{AppendsFront}
-use Rattle.hotel_lists.specs.Lines.{LooksAt}
+use Rattle.hotel_lists.specs.RowLines.{LooksAt}
 use Rattle.hotel_lists.specs.declared.fault.ListFault.{ListFault}
 use Rattle.hotel_core.specs.declared.asks.ListAsk.{ListAsk}
 use Rattle.hotel_audit.specs.declared.answer.LineAnswer.{LineAnswer}
@@ -29,118 +29,84 @@ use Rattle.hotel_program.specs.declared.faults.Fault.TheVariants as fault
 use Rattle.hotel_program.specs.declared.script.ScriptEnd.{ScriptEnd}
 use Rattle.hotel_program.specs.declared.script.ScriptFault.{ScriptFault}
 
--- What an act has to do with: books, a source, a writer, a taker of faults, and what is around the program.
-pub record Desk (S R W F E : Type 0) : Type 0 where
-  pub books : S
-  pub source : R
+-- What is outside: a reader, a writer, a taker of faults, and what is around the program.
+pub record Outer (I W F E : Type 0) : Type 0 where
+  pub reader : I
   pub writer : W
   pub faults : F
   pub around : E
-
--- What contracts see of these.
-pub record Views (S R W F E : Type 0) : Type 1 where
-  pub kept : KeptOf S
-  pub rows : S → Rows
-  pub stream : R → Stream
-  pub contents : W → Option (List ℕ)
-  pub told : F → Fault → F → Type 0
-  pub port : Sockets
-  pub bound : E → ℕ → Result port.Listener Fault → E → Type 0
-
-abbrev pub desk : {S R W F E : Type 0} → S → R → W → F → E → Desk S R W F E
-desk books source writer faults around =
-    record { books = books; source = source; writer = writer; faults = faults; around = around }
-
-abbrev pub views : {S R W F E : Type 0} → KeptOf S → (S → Rows) → (R → Stream) → (W → Option (List ℕ))
-    → (F → Fault → F → Type 0) → (port : Sockets) → (E → ℕ → Result port.Listener Fault → E → Type 0)
-    → Views S R W F E
-views kept rows stream contents told port bound = record {
-  kept = kept;
-  rows = rows;
-  stream = stream;
-  contents = contents;
-  told = told;
-  port = port;
-  bound = bound;
-}
-
--- An act ended by this status, or by this fault, which was reported.
-abbrev pub EndsBy : {S R W F E : Type 0} → Views S R W F E → Result ℕ Fault → ℕ → Desk S R W F E → Desk S R W F E
-    → Type 0
-EndsBy v end status old new = (status ≡ end_status end) × Reports v.told old.faults end new.faults
-
--- One command: a step of the model, and its reply.
-abbrev pub OneEnds : {S R W F E : Type 0} → Views S R W F E → Command → ℕ → Desk S R W F E → Desk S R W F E → Type 0
-OneEnds v command status old new =
-    (reply : Reply) × (write_failed : Bool) × EndsBy v (command_end reply write_failed) status old new
-    × WritesReply (v.contents old.writer) (v.contents new.writer) reply write_failed
-    × Stepped v.kept v.rows (old.books, v.stream old.source) (command, reply) (new.books, v.stream new.source)
-    × (new.around ≡ old.around)
-
--- A list: its text over the history.
-abbrev pub AListEnds : {S R W F E : Type 0} → Views S R W F E → ListAsk → ℕ → Desk S R W F E → Desk S R W F E → Type 0
-AListEnds v its_list status old new = (end : Result (Unit {0}) ListFault) × EndsBy v (list_end end) status old new
-    × (v.kept.is_honest new.books → AnswerEndsFor (v.rows old.books) its_list (v.contents old.writer)
-    (v.contents new.writer) end)
-    × LooksAt v.kept old.books new.books end
-    × (new.source ≡ old.source) × (new.around ≡ old.around)
-
--- An audit file of these bytes: its lines one after the other, and their answers.
-abbrev pub AuditEnds : {S R W F E : Type 0} → Views S R W F E → List ℕ → ℕ → Desk S R W F E → Desk S R W F E → Type 0
-AuditEnds v bytes status old new = (outcome : Result (List LineAnswer) ImportFault) × (write_failed : Bool)
-    × EndsBy v (audit_end outcome write_failed) status old new
-    × WritesAnswers v.contents old.writer new.writer outcome write_failed
-    × Imports v.kept v.rows (audit_lines bytes) old.books new.books outcome
-    × (new.source ≡ old.source) × (new.around ≡ old.around)
-
--- A script: its lines one after the other, each answered before the next.
-abbrev pub ScriptEnds : {S R W F E : Type 0} → Views S R W F E → Option (List ℕ) → ℕ → Desk S R W F E → Desk S R W F E
-    → Type 0
-ScriptEnds v known status old new = (end : Result ScriptEnd ScriptFault) × EndsBy v (script_end end) status old new
-    × ScriptRan v.kept v.rows v.stream v.contents known (old.books, old.source, old.writer) end
-    (new.books, new.source, new.writer) × (new.around ≡ old.around)
 
 -- The line that says where connections are taken.
 abbrev pub listening_text : ℕ → List ℕ
 listening_text port = codes "listening on 127.0.0.1:" ++ decimal port ++ codes "\n"
 
--- So many connections of a listener were served, each to its end, and the faults of these ends were reported.
-abbrev pub ServesConnections : {S R W F E : Type 0} → (v : Views S R W F E) → ℕ → v.port.Listener → Desk S R W F E
-    → Desk S R W F E → Type 0
-ServesConnections v count listener old new = ServesEach v.port v.kept v.rows v.stream v.told count listener
-    (old.books, old.source) old.faults (new.books, new.source) new.faults
+-- An act ended by this status, or by this fault, which was reported.
+abbrev pub EndsBy : {F : Type 0} → (F → Fault → F → Type 0) → Result ℕ Fault → ℕ → F → F → Type 0
+EndsBy told end status old new = (status ≡ end_status end) × Reports told old end new
 
--- Books and source are as they were.
-abbrev pub Untouched : {S R W F E : Type 0} → Desk S R W F E → Desk S R W F E → Type 0
-Untouched old new = (new.books ≡ old.books) × (new.source ≡ old.source)
+-- What acts come to over books and a source, by what contracts see of these and of what is outside.
+module _ {S R W F E : Type 0} (K : KeptOf S) (rows : S → Rows) (words : R → Stream) (contents : W → Option (List ℕ))
+    (told : F → Fault → F → Type 0) (port : Sockets) (bound : E → ℕ → Result port.Listener Fault → E → Type 0) where
+  -- The line was written and so many connections were served, each to its end, with the faults of these ends reported;
+  -- or a write of it failed, and none was.
+  abbrev pub ListensTo : ℕ → ℕ → port.Listener → Bool → ℕ → S × R → W × F → S × R → W × F → Type 0
+  ListensTo number count listener false status old out new out' = (status ≡ 0)
+      × Appends (contents out.0) (contents out'.0) (listening_text number)
+      × ServesEach port K rows words told count listener old out.1 new out'.1
+  ListensTo number count listener true status old out new out' = EndsBy told (Err fault.Write) status out.1 out'.1
+      × AppendsFront (contents out.0) (contents out'.0) (listening_text number)
+      × (new.0 ≡ old.0) × (new.1 ≡ old.1)
 
--- The line was written and connections were served; or a write of it failed, and none was.
-abbrev pub ListensTo : {S R W F E : Type 0} → (v : Views S R W F E) → ℕ → ℕ → v.port.Listener → Bool → ℕ
-    → Desk S R W F E → Desk S R W F E → Type 0
-ListensTo v port count listener false status old new = (status ≡ 0)
-    × Appends (v.contents old.writer) (v.contents new.writer) (listening_text port)
-    × ServesConnections v count listener old new
-ListensTo v port count listener true status old new = EndsBy v (Err fault.Write) status old new
-    × AppendsFront (v.contents old.writer) (v.contents new.writer) (listening_text port) × Untouched old new
+  -- What comes of a port that was asked for: a listener, or why there is none.
+  abbrev pub PortEnds : ℕ → ℕ → Result port.Listener Fault → ℕ → S × R → W × F → S × R → W × F → Type 0
+  PortEnds number count (Ok listener) status old out new out' =
+      (write_failed : Bool) × ListensTo number count listener write_failed status old out new out'
+  PortEnds number count (Err why) status old out new out' = EndsBy told (Err why) status out.1 out'.1
+      × (new.0 ≡ old.0) × (new.1 ≡ old.1) × (out'.0 ≡ out.0)
 
--- What comes of a port that was asked for: a listener, or why there is none.
-abbrev pub PortEnds : {S R W F E : Type 0} → (v : Views S R W F E) → ℕ → ℕ → Result v.port.Listener Fault → ℕ
-    → Desk S R W F E → Desk S R W F E → Type 0
-PortEnds v port count (Ok listener) status old new =
-    (write_failed : Bool) × ListensTo v port count listener write_failed status old new
-PortEnds v port count (Err why) status old new =
-    EndsBy v (Err why) status old new × Untouched old new × (new.writer ≡ old.writer)
+  -- Connections on a port.
+  abbrev pub ServeEnds : ℕ → ℕ → ℕ → S × R → W × F → E → S × R → W × F → E → Type 0
+  ServeEnds number count status old out around new out' around' = (got : Result port.Listener Fault)
+      × bound around number got around' × PortEnds number count got status old out new out'
 
--- Connections on a port.
-abbrev pub ServeEnds : {S R W F E : Type 0} → Views S R W F E → ℕ → ℕ → ℕ → Desk S R W F E → Desk S R W F E → Type 0
-ServeEnds v port count status old new = (got : Result v.port.Listener Fault) × v.bound old.around port got new.around
-    × PortEnds v port count got status old new
+  module _ {I : Type 0} (remaining : I → Option (List ℕ)) where
+    -- One command: a step of the model, and its reply.
+    abbrev pub OneEnds : Command → ℕ → S × R → Outer I W F E → S × R → Outer I W F E → Type 0
+    OneEnds command status old out new out' = (reply : Reply) × (write_failed : Bool)
+        × EndsBy told (command_end reply write_failed) status out.faults out'.faults
+        × WritesReply (contents out.writer) (contents out'.writer) reply write_failed
+        × Stepped K rows (old.0, words old.1) (command, reply) (new.0, words new.1)
+        × (out'.reader ≡ out.reader) × (out'.around ≡ out.around)
 
--- An act, with the bytes of its audit file, and what is known of the script.
-abbrev pub ActEnds : {S R W F E : Type 0} → Views S R W F E → Option (List ℕ) → List ℕ → DeskAct → ℕ → Desk S R W F E
-    → Desk S R W F E → Type 0
-ActEnds v known bytes (One command) = OneEnds v command
-ActEnds v known bytes (AList its_list) = AListEnds v its_list
-ActEnds v known bytes (Audit name) = AuditEnds v bytes
-ActEnds v known bytes Script = ScriptEnds v known
-ActEnds v known bytes (Serve port count) = ServeEnds v port count
+    -- A list: its text over the history.
+    abbrev pub AListEnds : ListAsk → ℕ → S × R → Outer I W F E → S × R → Outer I W F E → Type 0
+    AListEnds its_list status old out new out' = (end : Result (Unit {0}) ListFault)
+        × EndsBy told (list_end end) status out.faults out'.faults
+        × (K.is_honest new.0 → AnswerEndsFor (rows old.0) its_list (contents out.writer) (contents out'.writer) end)
+        × LooksAt K old.0 new.0 end
+        × (new.1 ≡ old.1) × (out'.reader ≡ out.reader) × (out'.around ≡ out.around)
+
+    -- An audit file of these bytes: its lines one after the other, and their answers.
+    abbrev pub AuditEnds : List ℕ → ℕ → S × R → Outer I W F E → S × R → Outer I W F E → Type 0
+    AuditEnds bytes status old out new out' = (outcome : Result (List LineAnswer) ImportFault) × (write_failed : Bool)
+        × EndsBy told (audit_end outcome write_failed) status out.faults out'.faults
+        × WritesAnswers contents out.writer out'.writer outcome write_failed
+        × Imports K rows (audit_lines bytes) old.0 new.0 outcome
+        × (new.1 ≡ old.1) × (out'.reader ≡ out.reader) × (out'.around ≡ out.around)
+
+    -- A script, which alone reads what the reader has: its lines one after the other, each answered before the next.
+    abbrev pub ScriptEnds : ℕ → S × R → Outer I W F E → S × R → Outer I W F E → Type 0
+    ScriptEnds status old out new out' = (end : Result ScriptEnd ScriptFault)
+        × EndsBy told (script_end end) status out.faults out'.faults
+        × ScriptRan K rows words contents (remaining out.reader) (old.0, old.1, out.writer) end
+        (new.0, new.1, out'.writer) × (out'.around ≡ out.around)
+
+    -- An act, with the bytes of its audit file.
+    abbrev pub ActEnds : List ℕ → DeskAct → ℕ → S × R → Outer I W F E → S × R → Outer I W F E → Type 0
+    ActEnds bytes (One command) = OneEnds command
+    ActEnds bytes (AList its_list) = AListEnds its_list
+    ActEnds bytes (Audit name) = AuditEnds bytes
+    ActEnds bytes Script = ScriptEnds
+    ActEnds bytes (Serve number count) = λ status old out new out'.
+        ServeEnds number count status old (out.writer, out.faults) out.around new (out'.writer, out'.faults) out'.around
+        × (out'.reader ≡ out.reader)

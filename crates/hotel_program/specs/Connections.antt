@@ -1,6 +1,6 @@
 -- Connections that are answered one after the other.
-use Rattle.std.specs.Prelude.{◌≡◌, ◌⊎◌, ℕ, Bool, true, false, List, [], ◌∷◌, ◌++◌, length, Option, Some, None, Result, Ok}
-use Rattle.std.specs.Prelude.{Err, IfOk, IfSome}
+use Rattle.std.specs.Prelude.{◌≡◌, ◌⊎◌, ℕ, Bool, true, false, List, [], ◌∷◌, ◌++◌, length, Option, Some, None, Result}
+use Rattle.std.specs.Prelude.{Ok, Err, IfOk, IfSome}
 use Rattle.std.specs.List.{flat_map}
 use Rattle.std.specs.declared.io.Error.{Error}
 use Rattle.rand_core.specs.Stream.{Stream}
@@ -17,7 +17,7 @@ use Rattle.hotel_lists.specs.Reads.{ReadsWhile}
 use Rattle.hotel_http.specs.Request.{MayFollow, WantsMore}
 use Rattle.hotel_http.specs.Serve.{Comes, FullAnswer, ServesOver, served_in}
 use Rattle.hotel_http.specs.declared.serve.Exchange.{Exchange}
-use Rattle.hotel_program.specs.declared.listener.Link.{Ghosts as LinkOf}
+use Rattle.hotel_program.specs.declared.listener.Caller.{Ghosts as CallerOf}
 use Rattle.hotel_program.specs.declared.listener.Listener.{Ghosts as ListenerOf}
 use Rattle.hotel_program.specs.Timed.{AreRead, AreWritten, LingersOn, Reading, Reads, ReadsRest, SecondSet, Writing}
 use Rattle.hotel_program.specs.declared.connections.TheConstants.{PAUSE}
@@ -68,17 +68,17 @@ abbrev pub ServersFollow : {S R : Type 0} → KeptOf S → (S → Rows) → (R �
 ServersFollow {S = S} {R = R} K rows stream = (old new : S × R) (ends : List ConnectionEnd)
     → Passes (ConnectionHappens K rows stream) old ends new → ServesAll K rows stream old ends new
 
--- What contracts see of a listener: the types of its connections and links, and what is asked of it and of these.
+-- What contracts see of a listener: the types of its connections and callers, and what is asked of it and of these.
 pub record Sockets : Type 1 where
   pub Listener : Type 0
   pub Stream : Type 0
-  pub Link : Type 0
-  pub listens : ListenerOf Listener Stream Link
-  pub calls : LinkOf Link Stream
+  pub Caller : Type 0
+  pub listens : ListenerOf Listener Stream Caller
+  pub calls : CallerOf Caller Stream
 
-abbrev pub sockets : {L S K : Type 0} → ListenerOf L S K → LinkOf K S → Sockets
+abbrev pub sockets : {L S K : Type 0} → ListenerOf L S K → CallerOf K S → Sockets
 sockets {L} {S} {K} listens calls =
-    record { Listener = L; Stream = S; Link = K; listens = listens; calls = calls }
+    record { Listener = L; Stream = S; Caller = K; listens = listens; calls = calls }
 
 -- Whether more of a request may follow what was read.
 abbrev pub follows_in : Result Exchange ServeFault → Bool
@@ -86,55 +86,56 @@ follows_in (Ok done) = done.follows
 follows_in (Err why) = false
 
 -- What is read behind an answer: where more may follow, the writing side is shut, and what comes is thrown away.
-abbrev pub ReadsBehind : {S L : Type 0} → LinkOf L S → S → Bool → Reads L → L → Type 0
+abbrev pub ReadsBehind : {S L : Type 0} → CallerOf L S → S → Bool → Reads L → L → Type 0
 ReadsBehind {L = L} calls stream true old new = (shut : Result (Unit {0}) Error) × (mid : L) × (left : ℕ)
-    × calls.writes_shut stream old.link shut mid
+    × calls.writes_shut stream old.caller shut mid
     × LingersOn (ReadsRest (calls.reads_limited stream) calls.clock_read (calls.was_read stream)) shut (mid, old.left)
     (new, left)
-ReadsBehind calls stream false old new = new ≡ old.link
+ReadsBehind calls stream false old new = new ≡ old.caller
 
--- The request of a connection was served, by a link that read it and one that wrote to it: the bytes of the request are
--- those that the connection had, and those of the answer it was given; each read and write was made in the time that
--- was left for it, and no more was read than is wanted.
-pub record Serves {S L B R : Type 0} (calls : LinkOf L S) (K : KeptOf B) (rows : B → Rows) (words : R → Stream)
+-- The request of a connection was served, by a caller that read it and one that wrote to it: the bytes of the request
+-- are those that the connection had, and those of the answer it was given; each read and write was made in the time
+-- that was left for it, and no more was read than is wanted.
+pub record Serves {S L B R : Type 0} (calls : CallerOf L S) (K : KeptOf B) (rows : B → Rows) (words : R → Stream)
     (stream : S) (reads writes : L) (old : B × R) (end : Result Exchange ServeFault) (reads' writes' : L)
     (new : B × R) : Type 0 where
   pub read : Reads L
   pub left : ℕ
   pub reads_in_time : ∥ ((readings : List Reading) × AreRead calls stream reads readings read) ∥₁
   pub writes_in_time : ∥ ((writings : List Writing) × AreWritten calls stream writes writings (writes', left)) ∥₁
-  pub serves : ServesOver K rows words (calls.remaining stream reads) (calls.remaining stream read.link)
+  pub serves : ServesOver K rows words (calls.remaining stream reads) (calls.remaining stream read.caller)
       (calls.contents stream writes) (calls.contents stream writes') old new (served_in end)
-  pub wanted : ReadsWhile WantsMore (calls.remaining stream reads) (calls.remaining stream read.link)
+  pub wanted : ReadsWhile WantsMore (calls.remaining stream reads) (calls.remaining stream read.caller)
   pub follows : IfOk end (λ done. IfSome (calls.remaining stream reads) (λ input. MayFollow input done.follows))
   pub behind : ReadsBehind calls stream (follows_in end) read reads'
 
--- The limits of a connection were asked for, of both links, and this is whether both were set.
-abbrev pub Limits : {S L : Type 0} → LinkOf L S → S → L × L → Bool → L × L → Type 0
-Limits calls stream old both new = (first : Result (Unit {0}) Error) × calls.reads_limited stream old.0 PATIENCE first new.0
+-- The limits of a connection were asked for, of both callers, and this is whether both were set.
+abbrev pub Limits : {S L : Type 0} → CallerOf L S → S → L × L → Bool → L × L → Type 0
+Limits calls stream old both new = (first : Result (Unit {0}) Error)
+    × calls.reads_limited stream old.0 PATIENCE first new.0
     × SecondSet (λ l set l'. calls.writes_limited stream l PATIENCE set l') first old.1 new.1 both
     × (calls.remaining stream new.0 ≡ calls.remaining stream old.0)
     × (calls.contents stream new.1 ≡ calls.contents stream old.1)
 
 -- How a connection ended that was taken, by whether its limits were set: its request was served; or it wasn't, and
 -- nothing was asked of it or of the books.
-abbrev pub LimitedEnds : {S L B R : Type 0} → LinkOf L S → KeptOf B → (B → Rows) → (R → Stream) → S → Bool → L × L
+abbrev pub LimitedEnds : {S L B R : Type 0} → CallerOf L S → KeptOf B → (B → Rows) → (R → Stream) → S → Bool → L × L
     → B × R → ConnectionEnd → L × L → B × R → Type 0
-LimitedEnds calls K rows words stream true links old end links' new = (exchange : Result Exchange ServeFault)
+LimitedEnds calls K rows words stream true callers old end callers' new = (exchange : Result Exchange ServeFault)
     × (end ≡ Some (served_in exchange))
-    × Serves calls K rows words stream links.0 links.1 old exchange links'.0 links'.1 new
-LimitedEnds calls K rows words stream false links old end links' new =
-    (end ≡ None) × (links'.0 ≡ links.0) × (links'.1 ≡ links.1) × (new.0 ≡ old.0) × (new.1 ≡ old.1)
+    × Serves calls K rows words stream callers.0 callers.1 old exchange callers'.0 callers'.1 new
+LimitedEnds calls K rows words stream false callers old end callers' new =
+    (end ≡ None) × (callers'.0 ≡ callers.0) × (callers'.1 ≡ callers.1) × (new.0 ≡ old.0) × (new.1 ≡ old.1)
 
--- A connection that was taken ended so: two links were made, its limits were asked for, and at last it was closed.
+-- A connection that was taken ended so: two callers were made, its limits were asked for, and at last it was closed.
 abbrev pub TakenEnds : {B R : Type 0} → (v : Sockets) → KeptOf B → (B → Rows) → (R → Stream) → v.Stream
     → v.Listener → B × R → ConnectionEnd → v.Listener → B × R → Type 0
 TakenEnds v K rows words stream listener old end listener' new =
-    (reads writes : v.Link) × (mid ready : v.Listener) × v.listens.linked listener reads mid
-    × v.listens.linked mid writes ready
-    × (both : Bool) × (links links' : v.Link × v.Link) × Limits v.calls stream (reads, writes) both links
-    × LimitedEnds v.calls K rows words stream both links old end links' new
-    × v.listens.closed ready stream links'.0 links'.1 listener'
+    (reads writes : v.Caller) × (mid ready : v.Listener) × v.listens.caller_made listener reads mid
+    × v.listens.caller_made mid writes ready
+    × (both : Bool) × (callers callers' : v.Caller × v.Caller) × Limits v.calls stream (reads, writes) both callers
+    × LimitedEnds v.calls K rows words stream both callers old end callers' new
+    × v.listens.closed ready stream callers'.0 callers'.1 listener'
 
 -- What comes of a connection that was asked for: where it couldn't be taken, `PAUSE` was waited for, and nothing was
 -- served.

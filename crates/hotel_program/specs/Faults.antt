@@ -1,14 +1,16 @@
 -- What is said of a fault, and the exit status that goes with it.
-use Rattle.std.specs.Prelude.{ℕ, ◌≡◌, ◌≢◌, List, [], ◌∷◌, ◌++◌, codes, Result, Ok, Err}
+use Rattle.std.specs.Prelude.{ℕ, ◌≡◌, List, [], ◌∷◌, ◌++◌, codes, Result, Ok, Err}
 use Rattle.hotel_asks.specs.Names.{name_text}
+use Rattle.hotel_asks.specs.declared.values.ValueName.{ValueName}
 use Rattle.hotel_audit.specs.Answers.{stopped_text}
 use Rattle.hotel_lists.specs.Calls.{Calls}
+use Rattle.hotel_rows.specs.declared.open_fault.FileFault.TheVariants as books
+use Rattle.hotel_rows.specs.declared.open_fault.OpenFault.TheVariants as desk
 use Rattle.hotel_rows.specs.declared.stored.TableName.{TableName}
 use Rattle.hotel_rows.specs.declared.stored.TableName.TheVariants as table
 use Rattle.hotel_program.specs.declared.faults.Fault.{Fault}
-use Rattle.hotel_program.specs.declared.faults.Fault.TheVariants.{Usage, Unread, Memory, Store, Read, Write, TooLarge}
-use Rattle.hotel_program.specs.declared.faults.Fault.TheVariants.{NoHeader, WrongHeader, Stopped, NotADesk, Damaged}
-use Rattle.hotel_program.specs.declared.faults.Fault.TheVariants.{Seed, File, Port, Closed}
+use Rattle.hotel_program.specs.declared.faults.Fault.TheVariants.{Memory, Store, Read, Write, TooLarge, NoHeader}
+use Rattle.hotel_program.specs.declared.faults.Fault.TheVariants.{WrongHeader, Stopped, Books, Seed, File, Port, Closed}
 
 -- The name of a table, and the end of the line.
 abbrev pub table_text : TableName → List ℕ
@@ -24,8 +26,6 @@ table_text table.Fit = codes "fit\n"
 
 -- The line that is said of a fault.
 abbrev pub fault_text : Fault → List ℕ
-fault_text Usage = codes "usage\n"
-fault_text (Unread name) = codes "unread " ++ name_text name ++ codes "\n"
 fault_text Memory = codes "memory\n"
 fault_text Store = codes "store\n"
 fault_text Read = codes "read\n"
@@ -34,26 +34,28 @@ fault_text TooLarge = codes "too large\n"
 fault_text NoHeader = codes "no header\n"
 fault_text WrongHeader = codes "wrong header\n"
 fault_text (Stopped answered by) = stopped_text answered by
-fault_text NotADesk = codes "not a desk\n"
-fault_text (Damaged its_table) = codes "damaged " ++ table_text its_table
+fault_text (Books books.File) = codes "file\n"
+fault_text (Books (books.Desk desk.Memory)) = codes "memory\n"
+fault_text (Books (books.Desk desk.Store)) = codes "store\n"
+fault_text (Books (books.Desk desk.NotADesk)) = codes "not a desk\n"
+fault_text (Books (books.Desk (desk.Damaged its_table))) = codes "damaged " ++ table_text its_table
 fault_text Seed = codes "seed\n"
 fault_text File = codes "file\n"
 fault_text Port = codes "port\n"
 fault_text Closed = codes "closed\n"
 
--- The exit status: 2 where the program was given words that it doesn't take, 4 where memory or the store failed, else
--- 5.
+-- The exit status: 4 where memory or the store failed, else 5.
 abbrev pub fault_status : Fault → ℕ
-fault_status Usage = 2
-fault_status (Unread name) = 2
 fault_status Memory = 4
 fault_status Store = 4
 fault_status (Stopped answered by) = 4
+fault_status (Books (books.Desk desk.Memory)) = 4
+fault_status (Books (books.Desk desk.Store)) = 4
 fault_status _ = 5
 
--- A fault of what is around the program, and not of words.
-abbrev pub IsOfFiles : Fault → Type 0
-IsOfFiles why = fault_status why ≢ 2
+-- The line that is said of a value of the command line that its reader refuses.
+abbrev pub refused_text : ValueName → List ℕ
+refused_text name = codes "unread " ++ name_text name ++ codes "\n"
 
 -- A fault of a file that is read: it can't be had, or memory runs out.
 abbrev pub IsOfReading : Fault → Type 0
@@ -65,13 +67,6 @@ IsOfReading _ = ⊥
 abbrev pub IsOfSeed : Fault → Type 0
 IsOfSeed Seed = Unit {0}
 IsOfSeed why = IsOfReading why
-
--- A fault of a database: the same as of a file; or its store fails, or it is no sound desk.
-abbrev pub IsOfDatabase : Fault → Type 0
-IsOfDatabase Store = Unit {0}
-IsOfDatabase NotADesk = Unit {0}
-IsOfDatabase (Damaged its_table) = Unit {0}
-IsOfDatabase why = IsOfReading why
 
 -- The exit status of a call that came to a status, or to a fault.
 abbrev pub end_status : Result ℕ Fault → ℕ

@@ -1,6 +1,6 @@
 -- What the words of a call ask for.
 use Rattle.std.specs.Prelude.{◌≡◌, ◌⊎◌, ℕ, List, [], ◌∷◌, Option, Some, None, Result, Ok, Err, codes, if◌then◌else◌}
-use Rattle.std.specs.Prelude.{option_map}
+use Rattle.std.specs.Prelude.{◌++◌, option_map, string_bytes}
 use Rattle.std.specs.Option.{ok_or}
 use Rattle.std.specs.Str.{bytes_eq}
 use Rattle.clap.specs.Words.{Row, Text, first_of}
@@ -135,3 +135,10 @@ IsToldBy kinds (Shown text) = HasOne IsShown kinds
 IsToldBy kinds (Usage text) = HasOne IsWrong kinds
 IsToldBy kinds (Value name) = kinds ≡ []
 IsToldBy kinds Memory = Unit {0}
+
+-- What a fault of the words prints.
+abbrev pub usage_text : UsageFault → List ℕ
+usage_text (Shown text) = string_bytes text
+usage_text (Usage text) = string_bytes text
+usage_text (Value name) = codes "unread " ++ name_text name
+usage_text Memory = codes "memory"

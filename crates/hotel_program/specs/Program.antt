@@ -7,7 +7,7 @@ use Rattle.std.specs.declared.io.Error.{Error}
 use Rattle.std.specs.declared.io.ErrorKind.TheVariants.{OutOfMemory}
 use Rattle.rand_core.specs.Stream.{Stream}
 use Rattle.rand_core.specs.Steps.{steps_u32, stream_of}
-use Rattle.rand_chacha.specs.ChaCha.{of_seed, next_word}
+use Rattle.rand_chacha.specs.ChaCha.{ChaCha, of_seed, next_word}
 use Rattle.keycard_rules.specs.Calls.{Told}
 use Rattle.keycard_rules.specs.Rise.{times}
 use Rattle.keycard_rules.specs.declared.issued.LookFault.TheVariants as look
@@ -44,9 +44,13 @@ abbrev pub IsNoText : Result (Vec (String Global) Global) Error → Type 0
 IsNoText (Ok words) = ⊥
 IsNoText (Err why) = error_kind why ≢ OutOfMemory
 
+-- The words that a source draws.
+abbrev pub drawn : ChaCha → Stream
+drawn = stream_of (steps_u32 (next_word 10))
+
 -- The words of the source whose seed is all zero bytes.
 abbrev pub zero_seeded : Stream
-zero_seeded = stream_of (steps_u32 (next_word 10)) (of_seed (replicate SEED_BYTES 0))
+zero_seeded = drawn (of_seed (replicate SEED_BYTES 0))
 
 -- This went over a new desk in memory: from no rows and a source of zeros to a history of which what is assured holds,
 -- by calls none of which reported that the store failed.

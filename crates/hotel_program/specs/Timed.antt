@@ -6,7 +6,7 @@ use Rattle.std.specs.Time.{instant_nanos}
 use Rattle.std.specs.declared.io.Error.{Error}
 use Rattle.std.specs.declared.time.Instant.{Instant}
 use Rattle.keycard_rules.specs.Calls.{Passes}
-use Rattle.hotel_program.specs.declared.listener.Link.{Ghosts as LinkOf}
+use Rattle.hotel_program.specs.declared.listener.Caller.{Ghosts as CallerOf}
 use Rattle.hotel_program.specs.declared.timed.TheConstants.{FIRST_PATIENCE, PATIENCE, REST_BYTES, SILENCE}
 
 -- What is left of a time after what passed between two readings of the clock.
@@ -63,9 +63,9 @@ abbrev pub LeavesTime : Bool → Result ℕ Error → ℕ → ℕ → Bool → T
 LeavesTime waits got left new waits' =
     (new ≡ (if is_first waits got then PATIENCE else left)) × (waits' ≡ (if is_first waits got then false else waits))
 
--- Where the reads of a connection stand: its link, what is left of their time, and whether no byte has come.
+-- Where the reads of a connection stand: its caller, what is left of their time, and whether no byte has come.
 pub record Reads (L : Type 0) : Type 0 where
-  pub link : L
+  pub caller : L
   pub left : ℕ
   pub waits : Bool
 
@@ -74,40 +74,40 @@ abbrev pub Reading : Type 0
 Reading = Result ℕ Error × List ℕ
 
 -- A read was made in the time that was left.
-abbrev pub ReadsInTime : {S L : Type 0} → LinkOf L S → S → Reads L → Reading → Reads L → Type 0
+abbrev pub ReadsInTime : {S L : Type 0} → CallerOf L S → S → Reads L → Reading → Reads L → Type 0
 ReadsInTime calls stream old reading new =
     (left : ℕ)
     × CallInTime (calls.reads_limited stream) calls.clock_read (λ l got l'. calls.was_read stream l got reading.1 l')
-    old.link old.left reading.0 left new.link × LeavesTime old.waits reading.0 left new.left new.waits
+    old.caller old.left reading.0 left new.caller × LeavesTime old.waits reading.0 left new.left new.waits
 
--- From the first link on, all reads were made in the time that was left.
-abbrev pub AreRead : {S L : Type 0} → LinkOf L S → S → L → List Reading → Reads L → Type 0
+-- From the first caller on, all reads were made in the time that was left.
+abbrev pub AreRead : {S L : Type 0} → CallerOf L S → S → L → List Reading → Reads L → Type 0
 AreRead calls stream first readings now =
-    Passes (ReadsInTime calls stream) (record { link = first; left = FIRST_PATIENCE; waits = true }) readings now
+    Passes (ReadsInTime calls stream) (record { caller = first; left = FIRST_PATIENCE; waits = true }) readings now
 
 -- A write: its bytes, and how many it took.
 abbrev pub Writing : Type 0
 Writing = List ℕ × Result ℕ Error
 
--- From a link and what was left of the time of its writes to these behind it, a write was made in that time.
-abbrev pub WritesInTime : {S L : Type 0} → LinkOf L S → S → L × ℕ → Writing → L × ℕ → Type 0
+-- From a caller and what was left of the time of its writes to these behind it, a write was made in that time.
+abbrev pub WritesInTime : {S L : Type 0} → CallerOf L S → S → L × ℕ → Writing → L × ℕ → Type 0
 WritesInTime calls stream old writing new =
     CallInTime (calls.writes_limited stream) calls.clock_read (λ l. calls.was_written stream l writing.0)
     old.0 old.1 writing.1 new.1 new.0
 
--- From the first link on, all writes were made in the time that was left.
-abbrev pub AreWritten : {S L : Type 0} → LinkOf L S → S → L → List Writing → L × ℕ → Type 0
+-- From the first caller on, all writes were made in the time that was left.
+abbrev pub AreWritten : {S L : Type 0} → CallerOf L S → S → L → List Writing → L × ℕ → Type 0
 AreWritten calls stream first writings now = Passes (WritesInTime calls stream) (first, PATIENCE) writings now
 
--- So all reads were made of this connection since the link that reads it began.
-abbrev pub ReadSince : {S L : Type 0} → LinkOf L S → Option S → Option L → S → Reads L → Type 0
-ReadSince {L = L} calls its_stream its_link stream now = (its_stream ≡ Some stream) × (first : L)
-    × (its_link ≡ Some first) × (readings : List Reading) × AreRead calls stream first readings now
+-- So all reads were made of this connection since the caller that reads it began.
+abbrev pub ReadSince : {S L : Type 0} → CallerOf L S → Option S → Option L → S → Reads L → Type 0
+ReadSince {L = L} calls its_stream its_caller stream now = (its_stream ≡ Some stream) × (first : L)
+    × (its_caller ≡ Some first) × (readings : List Reading) × AreRead calls stream first readings now
 
 -- So all writes were made.
-abbrev pub WrittenSince : {S L : Type 0} → LinkOf L S → Option S → Option L → S → L × ℕ → Type 0
-WrittenSince {L = L} calls its_stream its_link stream now = (its_stream ≡ Some stream) × (first : L)
-    × (its_link ≡ Some first) × (writings : List Writing) × AreWritten calls stream first writings now
+abbrev pub WrittenSince : {S L : Type 0} → CallerOf L S → Option S → Option L → S → L × ℕ → Type 0
+WrittenSince {L = L} calls its_stream its_caller stream now = (its_stream ≡ Some stream) × (first : L)
+    × (its_caller ≡ Some first) × (writings : List Writing) × AreWritten calls stream first writings now
 
 -- The shorter of two times.
 abbrev pub shorter : ℕ → ℕ → ℕ

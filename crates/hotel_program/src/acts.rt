@@ -1,11 +1,9 @@
 //! What the program is asked for, carried out over any books.
 
-ghost use Rattle.std.specs.Prelude.{◌≡◌, ◌≢◌};
-ghost use Rattle.hotel_program.specs.Acts.{ActEnds, desk, views};
+ghost use Rattle.std.specs.Prelude.{◌≡◌};
+ghost use Rattle.hotel_program.specs.Acts.{ActEnds};
 ghost use Rattle.hotel_program.specs.Connections.{sockets};
-ghost use Rattle.hotel_program.specs.Faults.{end_status};
 ghost use Rattle.hotel_program.specs.Program.{script_end};
-ghost use Rattle.hotel_program.specs.declared.command_line.plan.DeskAct.TheVariants.{Script};
 
 use crate::alone::{run_audit, run_list, run_one};
 use crate::command_line::DeskAct;
@@ -21,9 +19,8 @@ use std::alloc::Global;
 use std::io::{Read, Write};
 
 /// The exit status of a script that ended so, or the fault that is reported.
-pub fn end_of_script(end: Result<ScriptEnd, ScriptFault>) -> Result<u8, Fault>
+pub(crate) fn end_of_script(end: Result<ScriptEnd, ScriptFault>) -> Result<u8, Fault>
     ensures end { result ≡ script_end end }
-    ensures no_usage { end_status result ≢ 2 }
 {
     match end {
         Ok(_) => Ok(DONE),
@@ -36,7 +33,7 @@ pub fn end_of_script(end: Result<ScriptEnd, ScriptFault>) -> Result<u8, Fault>
 
 /// Carries out an act over books, and reports the fault that came instead. `file` has the bytes of an audit file where
 /// that is what is asked for. It answers the exit status.
-pub fn run_act<B: Walks, R: Rng, I: Read, W: Write, F: FaultSink, E: Surroundings>(
+pub(crate) fn run_act<B: Walks, R: Rng, I: Read, W: Write, F: FaultSink, E: Surroundings>(
     alloc: Global,
     act: &DeskAct,
     file: &[u8],
@@ -47,13 +44,12 @@ pub fn run_act<B: Walks, R: Rng, I: Read, W: Write, F: FaultSink, E: Surrounding
     faults: &mut F,
     around: &mut E,
 ) -> u8
-    ensures ends { ActEnds (views B.Kept B.rows R.stream W.contents F.told (sockets E.Port.Listener E.Port.Link.Link)
-        E.port_bound)
-        (I.remaining reader.old) file.now act.now result
-        (desk books.old source.old writer.old faults.old around.old)
-        (desk books.new source.new writer.new faults.new around.new) }
-    ensures unread { act.now ≢ Script → reader.new ≡ reader.old }
-    ensures no_usage { result ≢ 2 }
+    ensures ends { ActEnds B.Kept B.rows R.stream W.contents F.told (sockets E.Port.Listener E.Port.Caller.Caller)
+        E.port_bound I.remaining file.now act.now result
+        (books.old, source.old)
+        (record { reader = reader.old; writer = writer.old; faults = faults.old; around = around.old })
+        (books.new, source.new)
+        (record { reader = reader.new; writer = writer.new; faults = faults.new; around = around.new }) }
 {
     match act {
         DeskAct::One(command) => run_one(command, books, source, writer, faults),

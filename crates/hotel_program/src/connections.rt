@@ -5,7 +5,8 @@ ghost use Rattle.std.specs.Duration.{as_nanos};
 ghost use Rattle.keycard_rules.specs.Calls.{Passes};
 ghost use Rattle.hotel_lists.specs.Calls.{CountsCalls, NoneForgotten, OnErrOf};
 ghost use Rattle.hotel_lists.specs.Reads.{ReadsWhile};
-ghost use Rattle.hotel_http.specs.{Request.MayFollow, Request.WantsMore, Serve.IfUnwritten, Serve.ServesOver, Serve.served_in};
+ghost use Rattle.hotel_http.specs.{Request.MayFollow, Request.WantsMore};
+ghost use Rattle.hotel_http.specs.Serve.{IfUnwritten, ServesOver, served_in};
 ghost use Rattle.hotel_http.specs.declared.serve.ServeFault.TheVariants as serve;
 ghost use Rattle.hotel_program.specs.Faults.{ReportsAll};
 ghost use Rattle.hotel_program.specs.declared.faults.Fault.TheVariants.{Read, Write};
@@ -13,9 +14,9 @@ ghost use Rattle.hotel_program.specs.Connections.{ConnectionEnd, Connects, Serve
 ghost use Rattle.hotel_program.specs.Connections.{connection_end, connection_fault, faults_of, follows_in, sockets};
 
 use crate::faults::{Fault, FaultSink};
-use crate::listener::{Link, Listener};
+use crate::listener::{Caller, Listener};
 use crate::statuses::DONE;
-use crate::timed::{Begun, TimedReader, TimedWriter, has_limits};
+use crate::timed::{Begun, TimedReader, TimedWriter, set_limits};
 use hotel_core::Walks;
 use hotel_http::{Exchange, Routes, ServeFault, make_routes, serve_by};
 use hotel_lists::IoCalls;
@@ -68,7 +69,7 @@ fn serve_stream<I: Read, W: Write, B: Walks, R: Rng>(
     }
 }
 
-/// A connection whose request was served, or not, and its links.
+/// A connection whose request was served, or not, and its callers.
 #[derive(Drop)]
 struct Finished<L> {
     end: Result<Exchange, ServeFault>,
@@ -78,7 +79,7 @@ struct Finished<L> {
 
 /// Answers the request of a connection whose limits are set. Where more of the request may follow its answer, what
 /// comes is thrown away for a while, so that the answer isn't lost.
-fn serve_limited<S, L: Link<S>, K: Begun<S, L>, B: Walks, R: Rng>(
+fn serve_limited<S, L: Caller<S>, K: Begun<S, L>, B: Walks, R: Rng>(
     alloc: Global,
     routes: Option<&Routes>,
     stream: &S,
@@ -91,7 +92,7 @@ fn serve_limited<S, L: Link<S>, K: Begun<S, L>, B: Walks, R: Rng>(
     requires stream { K.stream ≡ Some stream.now }
     requires reads { K.reads ≡ Some reads }
     requires writes { K.writes ≡ Some writes }
-    ensures served { Serves L.Link B.Kept B.rows R.stream stream.now reads writes (books.old, source.old) result.end
+    ensures served { Serves L.Caller B.Kept B.rows R.stream stream.now reads writes (books.old, source.old) result.end
         result.reads result.writes (books.new, source.new) }
     ensures calls { CountsCalls calls.old calls.new (OnErrOf result.end serve.Read)
         (IfUnwritten (served_in result.end)) }
@@ -110,9 +111,9 @@ fn serve_limited<S, L: Link<S>, K: Begun<S, L>, B: Walks, R: Rng>(
     let reads = if follows_in(&end) {
         reader.linger()
     } else {
-        reader.into_link()
+        reader.into_caller()
     };
-    let writes = writer.into_link();
+    let writes = writer.into_caller();
     Finished { end, reads, writes }
 }
 /// Whether more of a request may follow what was read.
@@ -136,17 +137,17 @@ fn serve_taken<L: Listener, B: Walks, R: Rng>(
     calls: &mut IoCalls,
 ) -> Result<(), Fault>
     ensures ends { (end : ConnectionEnd) × (result ≡ connection_end end)
-        × TakenEnds (sockets L.Listener L.Link.Link) B.Kept B.rows R.stream stream listener.old
+        × TakenEnds (sockets L.Listener L.Caller.Caller) B.Kept B.rows R.stream stream listener.old
         (books.old, source.old) end listener.new (books.new, source.new) }
     ensures calls { CountsCalls calls.old calls.new (OnErrOf result Read) (OnErrOf result Write) }
 {
-    let mut reads = listener.link();
-    let mut writes = listener.link();
-    if !has_limits(&stream, &mut reads, &mut writes) {
+    let mut reads = listener.caller();
+    let mut writes = listener.caller();
+    if !set_limits(&stream, &mut reads, &mut writes) {
         listener.close(stream, reads, writes);
         return Err(Fault::Closed);
     }
-    let Finished { end, reads, writes } = serve_limited::<L::Stream, L::Link, Brand, B, R>(
+    let Finished { end, reads, writes } = serve_limited::<L::Stream, L::Caller, Brand, B, R>(
         alloc, routes, &stream, reads, writes, books, source, calls,
     );
     listener.close(stream, reads, writes);
@@ -167,7 +168,7 @@ fn serve_connection<L: Listener, B: Walks, R: Rng>(
     calls: &mut IoCalls,
 ) -> Result<(), Fault>
     ensures ends { (end : ConnectionEnd) × (result ≡ connection_end end)
-        × Connects (sockets L.Listener L.Link.Link) B.Kept B.rows R.stream
+        × Connects (sockets L.Listener L.Caller.Caller) B.Kept B.rows R.stream
         (listener.old, (books.old, source.old)) end (listener.new, (books.new, source.new)) }
     ensures calls { CountsCalls calls.old calls.new (OnErrOf result Read) (OnErrOf result Write) }
 {
@@ -191,7 +192,7 @@ fn serve_and_tell<L: Listener, B: Walks, R: Rng, F: FaultSink>(
     calls: &mut IoCalls,
 )
     ensures ends { (end : ConnectionEnd) × ReportsAll F.told faults.old (faults_of (end ∷ [])) faults.new
-        × Connects (sockets L.Listener L.Link.Link) B.Kept B.rows R.stream
+        × Connects (sockets L.Listener L.Caller.Caller) B.Kept B.rows R.stream
         (listener.old, (books.old, source.old)) end (listener.new, (books.new, source.new)) }
     ensures calls { NoneForgotten calls.old calls.new }
 {
@@ -216,7 +217,7 @@ pub fn serve_connections<L: Listener + Drop, B: Walks, R: Rng, F: FaultSink>(
     faults: &mut F,
 ) -> u8
     ensures status { result ≡ 0 }
-    ensures ends { ServesEach (sockets L.Listener L.Link.Link) B.Kept B.rows R.stream F.told count listener
+    ensures ends { ServesEach (sockets L.Listener L.Caller.Caller) B.Kept B.rows R.stream F.told count listener
         (books.old, source.old) faults.old (books.new, source.new) faults.new }
 {
     let mut listener = listener;

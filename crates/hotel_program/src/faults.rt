@@ -3,23 +3,20 @@
 ghost use Rattle.std.specs.Prelude.{◌≡◌, ◌≤◌, length};
 ghost use Rattle.hotel_lists.specs.Calls.{NoneForgotten};
 ghost use Rattle.hotel_lists.specs.Bytes.{Writes};
-ghost use Rattle.hotel_program.specs.Faults.{table_text, fault_text, fault_status, end_status, IsHeard, Reports};
+ghost use Rattle.hotel_program.specs.Faults.{table_text, fault_text, fault_status, refused_text};
+ghost use Rattle.hotel_program.specs.Faults.{end_status, IsHeard, Reports};
 
-use crate::statuses::{BROKEN, FAILED, USAGE};
+use crate::statuses::{BROKEN, FAILED};
 use hotel_asks::ValueName;
 use hotel_audit::stopped_text;
 use hotel_lists::{IoCalls, WriteFailed, write_bytes};
-use hotel_rows::TableName;
+use hotel_rows::{FileFault, OpenFault, TableName};
 use keycard_rules::{LookFault, ShortText};
 use std::io::Write;
 
-/// Why the program or a call of it didn't do its work to the end.
+/// Why the program or a call of it didn't do its work to the end. Words that ask for nothing are a `UsageFault`.
 #[derive(Clone, Copy, Debug, PartialEq, Eq)]
 pub enum Fault {
-    /// The program was given a word that isn't text.
-    Usage,
-    /// The first value of the command line that its reader refuses.
-    Unread(ValueName),
     /// A growth of memory was refused.
     Memory,
     /// A call of the store failed.
@@ -36,13 +33,11 @@ pub enum Fault {
     WrongHeader,
     /// An import was stopped after so many lines.
     Stopped { answered: usize, by: LookFault },
-    /// The database isn't a desk's.
-    NotADesk,
-    /// The first table of a desk of which a rule fails.
-    Damaged(TableName),
+    /// The file of a database gave no books.
+    Books(FileFault),
     /// The seed has fewer than 32 bytes.
     Seed,
-    /// A file couldn't be opened or read.
+    /// An audit file couldn't be opened or read, or the seed's couldn't be read.
     File,
     /// The port couldn't be listened on.
     Port,
@@ -56,8 +51,8 @@ impl Fault {
         ensures { result ≡ fault_status self.now }
     {
         match self {
-            Fault::Usage | Fault::Unread(_) => USAGE,
             Fault::Memory | Fault::Store | Fault::Stopped { .. } => FAILED,
+            Fault::Books(FileFault::Desk(OpenFault::Memory | OpenFault::Store)) => FAILED,
             _ => BROKEN,
         }
     }
@@ -81,8 +76,8 @@ fn table_text(table: TableName) -> &'static [u8]
     }
 }
 
-/// The line of a fault: at most 43 bytes, the line feed included.
-type FaultText = ShortText<43>;
+/// The line of a fault, or of a refused value: at most 43 bytes, the line feed included.
+pub type FaultText = ShortText<43>;
 
 /// The line of a fault.
 fn fault_text(fault: &Fault) -> FaultText
@@ -90,30 +85,35 @@ fn fault_text(fault: &Fault) -> FaultText
 {
     let mut text = FaultText::new();
     match fault {
-        Fault::Usage => text.push(b"usage\n"),
-        Fault::Unread(name) => {
-            text.push(b"unread ");
-            text.push(name.text().as_bytes());
-            text.push(b"\n");
-        }
-        Fault::Memory => text.push(b"memory\n"),
-        Fault::Store => text.push(b"store\n"),
+        Fault::Memory | Fault::Books(FileFault::Desk(OpenFault::Memory)) => text.push(b"memory\n"),
+        Fault::Store | Fault::Books(FileFault::Desk(OpenFault::Store)) => text.push(b"store\n"),
         Fault::Read => text.push(b"read\n"),
         Fault::Write => text.push(b"write\n"),
         Fault::TooLarge => text.push(b"too large\n"),
         Fault::NoHeader => text.push(b"no header\n"),
         Fault::WrongHeader => text.push(b"wrong header\n"),
         Fault::Stopped { answered, by } => text.push(stopped_text(*answered, *by).as_bytes()),
-        Fault::NotADesk => text.push(b"not a desk\n"),
-        Fault::Damaged(table) => {
+        Fault::Books(FileFault::Desk(OpenFault::NotADesk)) => text.push(b"not a desk\n"),
+        Fault::Books(FileFault::Desk(OpenFault::Damaged(table))) => {
             text.push(b"damaged ");
             text.push(table_text(*table));
         }
         Fault::Seed => text.push(b"seed\n"),
-        Fault::File => text.push(b"file\n"),
+        Fault::File | Fault::Books(FileFault::File) => text.push(b"file\n"),
         Fault::Port => text.push(b"port\n"),
         Fault::Closed => text.push(b"closed\n"),
     }
+    text
+}
+
+/// The line of a value of the command line that its reader refuses.
+pub(crate) fn refused_text(name: ValueName) -> FaultText
+    ensures { result ≡ refused_text name }
+{
+    let mut text = FaultText::new();
+    text.push(b"unread ");
+    text.push(name.text().as_bytes());
+    text.push(b"\n");
     text
 }
 
@@ -129,7 +129,7 @@ fn write_fault<W: Write>(
     write_bytes(writer, fault_text(fault).as_bytes(), calls)
 }
 
-/// Takes the faults that calls tell. Each writer is one.
+/// Takes the faults that calls tell, and what is said of words that ask for nothing. Each writer is one.
 pub trait FaultSink {
     ghost use Rattle.std.specs.Prelude.{ℕ, List};
     ghost use Rattle.hotel_lists.specs.Calls.{Calls, NoneForgotten};
@@ -139,14 +139,14 @@ pub trait FaultSink {
     /// The meanings that may follow one after a fault was reported.
     ghost told: { Self → Fault → Self → Type 0 };
 
-    /// The meanings that may follow one after a text of usage was shown.
+    /// The meanings that may follow one after a text on the words was shown.
     ghost shown: { Self → List ℕ → Self → Type 0 };
 
     /// The meanings that may follow one after a text, where the call's reads and writes went so.
     ghost heard: { Self → List ℕ → Calls → Self → Type 0 };
 
-    /// Takes a text that says how the program is called. Where that goes wrong, nobody hears of it.
-    fn show(&mut self, text: &str, calls: &mut IoCalls)
+    /// Takes a text that says what is wrong with the words. Where that goes wrong, nobody hears of it.
+    fn show(&mut self, text: &[u8], calls: &mut IoCalls)
         ensures shown { shown self.old text.now self.new }
         ensures heard { heard self.old text.now calls.new self.new }
         ensures calls { NoneForgotten calls.old calls.new };
@@ -170,8 +170,8 @@ impl<W: Write> FaultSink for W {
 
     ghost heard = { λ old text calls new. calls.write_failed ≡ false → Appends (W.contents old) (W.contents new) text };
 
-    fn show(&mut self, text: &str, calls: &mut IoCalls) {
-        let _ = write_bytes(self, text.as_bytes(), calls);
+    fn show(&mut self, text: &[u8], calls: &mut IoCalls) {
+        let _ = write_bytes(self, text, calls);
     }
 
     fn tell(&mut self, fault: &Fault, calls: &mut IoCalls) {
@@ -180,7 +180,11 @@ impl<W: Write> FaultSink for W {
 }
 
 /// The exit status of a call that came to this end. A fault is reported first.
-pub fn finish<F: FaultSink>(end: Result<u8, Fault>, faults: &mut F, calls: &mut IoCalls) -> u8
+pub(crate) fn finish<F: FaultSink>(
+    end: Result<u8, Fault>,
+    faults: &mut F,
+    calls: &mut IoCalls,
+) -> u8
     ensures status { result ≡ end_status end }
     ensures told { Reports F.told faults.old end faults.new }
     ensures heard { IsHeard F.heard faults.old end calls.new faults.new }

@@ -3,42 +3,19 @@
 ghost use Rattle.std.specs.Prelude.{◌≡◌, ◌<◌, ◌≤◌, ◌+◌, ◌-◌, length, take, Err, IfOk, IfErr, IfSome};
 ghost use Rattle.hotel_lists.specs.declared.bytes.TheConstants.{READ_BYTES};
 ghost use Rattle.hotel_lists.specs.Calls.{CountsReads, OnErrOf};
-ghost use Rattle.hotel_lists.specs.Reads.{ReadsWhile};
-ghost use Rattle.hotel_program.specs.Faults.{IsOfFiles, IsOfReading, IsOfSeed};
-ghost use Rattle.hotel_program.specs.Files.{IsFrontUpTo, read_fault};
+ghost use Rattle.hotel_lists.specs.Reads.{IsFrontUpTo, ReadsWhile};
+ghost use Rattle.hotel_program.specs.Faults.{IsOfReading, IsOfSeed};
+ghost use Rattle.hotel_program.specs.Files.{read_fault};
 ghost use Rattle.hotel_program.specs.declared.faults.Fault.TheVariants.{File, Seed};
 
 use crate::faults::Fault;
 use hotel_audit::AUDIT_BYTES;
-use hotel_lists::{IoCalls, ReadFault, read_more};
+use hotel_lists::{IoCalls, ReadFault, read_front};
 use std::alloc::Global;
 use std::io::Read;
 
 /// How many bytes a seed has.
 pub const SEED_BYTES: usize = 32;
-
-/// Reads all the bytes that the reader has; or, where it has more than `most`, more than `most` of them. The reads are
-/// added to the calls.
-fn read_front<R: Read>(
-    alloc: Global,
-    reader: &mut R,
-    most: usize,
-    calls: &mut IoCalls,
-) -> Result<Vec<u8>, ReadFault>
-    ensures front { IfOk result (λ bytes. IfSome (R.remaining reader.old) (IsFrontUpTo most bytes.items)) }
-    ensures few { IfOk result (λ bytes. length bytes.items ≤ most + READ_BYTES) }
-    ensures wanted { ReadsWhile (λ came. length came ≤ most) (R.remaining reader.old) (R.remaining reader.new) }
-    ensures counted { CountsReads calls.old calls.new (OnErrOf result ReadFault.Read) }
-{
-    let mut bytes = Vec::new(alloc);
-    while bytes.len() <= most {
-        let got = read_more(reader, &mut bytes, calls)?;
-        if got == 0 {
-            return Ok(bytes);
-        }
-    }
-    Ok(bytes)
-}
 
 /// The fault of a file that couldn't be read.
 fn read_fault(fault: ReadFault) -> Fault
@@ -60,7 +37,6 @@ pub fn seed_in<R: Read>(
     ensures short { result ≡ Err Seed → IfSome (R.remaining reader.old) (λ input. length input < SEED_BYTES) }
     ensures wanted { ReadsWhile (λ came. length came ≤ SEED_BYTES - 1) (R.remaining reader.old)
         (R.remaining reader.new) }
-    ensures fault { IfErr result IsOfFiles }
     ensures which { IfErr result IsOfSeed }
     ensures counted { CountsReads calls.old calls.new (OnErrOf result File) }
 {
@@ -83,7 +59,6 @@ pub fn audit_file_in<R: Read>(
     ensures bytes { IfOk result (λ bytes. IfSome (R.remaining reader.old) (IsFrontUpTo AUDIT_BYTES bytes.items)) }
     ensures few { IfOk result (λ bytes. length bytes.items ≤ AUDIT_BYTES + READ_BYTES) }
     ensures wanted { ReadsWhile (λ came. length came ≤ AUDIT_BYTES) (R.remaining reader.old) (R.remaining reader.new) }
-    ensures fault { IfErr result IsOfFiles }
     ensures which { IfErr result IsOfReading }
     ensures counted { CountsReads calls.old calls.new (OnErrOf result File) }
 {

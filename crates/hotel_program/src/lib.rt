@@ -1,10 +1,10 @@
-//! The program of the front desk, over any reader, writers, words and surroundings. The books of a database are a
-//! parameter, so all is checked without `sqlite`; of `hotel_rows` it has the names of tables alone.
+//! The program of the front desk, over any reader, writers, arguments and surroundings. The books of a database are a
+//! parameter, so all is checked without `sqlite`; of `hotel_rows` it has the names of tables and faults alone.
 //!
 //! - script of src and specs: a script's lines, what they ask for, their answers; a script is a run of its commands.
 //! - alone: one command, list or audit file that is asked for alone, with its exit status.
-//! - src: command_line; specs: CommandLine, Plans: the command line, its help, and the plan that its words give.
-//! - src: program, acts; Program, Plan, Acts: the program's course by its words.
+//! - src: command_line; specs: CommandLine, Plans: the command line, its help, and the plan that its arguments give.
+//! - src: program, acts; Program, Plan, Acts: the program's course by its arguments.
 //! - src: server, connections, listener, timed; Connections, Timed: a port, the connections on it, and how long calls
 //!   of them may take.
 //! - src: surroundings, files, faults, statuses; Files, Faults, Statuses: what is around the program; faults and exit
@@ -34,10 +34,11 @@ pub use faults::{Fault, FaultSink};
 pub use files::{SEED_BYTES, audit_file_in, seed_in};
 pub use hotel_asks::{ListAsk, ValueName};
 pub use hotel_lists::IoCalls;
+pub use hotel_rows::{FileFault, OpenFault, TableName};
 pub use laws::{
     scripts_happen, servers_follow, shut_script_answers_nothing, shut_server_answers_nothing,
 };
-pub use listener::{ClockedListener, Link, Listener, NoClock, SystemLink};
+pub use listener::{Caller, ClockedListener, Listener, NoClock, SystemCaller};
 pub use program::run_program;
 pub use script::{ScriptEnd, ScriptFault, run_script, run_script_by};
 pub use statuses::status_of;

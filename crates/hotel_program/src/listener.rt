@@ -12,7 +12,7 @@ use std::time::{Clock, Duration, Instant};
 
 /// What calls connections of the type `S`, and reads the clock. What comes of a limit and what the clock shows is not
 /// known to contracts: they say what was asked, in which order, and what the answers were.
-pub trait Link<S> {
+pub trait Caller<S> {
     ghost use Rattle.std.specs.Prelude.{ℕ, List, Option, None, Result};
     ghost use Rattle.std.specs.declared.io.Error.{Error};
     ghost use Rattle.std.specs.declared.time.Instant.{Instant};
@@ -80,17 +80,17 @@ pub trait Listener {
     /// A connection.
     type Stream: Drop;
 
-    /// What calls one: one link reads it, another writes to it.
-    type Link: Link<Self::Stream> + Drop;
+    /// What calls one: one caller reads it, another writes to it.
+    type Caller: Caller<Self::Stream> + Drop;
 
     /// The states that may follow one after a connection was asked for, and was taken or not.
     ghost taken: { Self → Result Self.Stream Error → Self → Type 0 };
 
-    /// The same after a link was made.
-    ghost linked: { Self → Self.Link → Self → Type 0 };
+    /// The same after a caller was made.
+    ghost caller_made: { Self → Self.Caller → Self → Type 0 };
 
-    /// The same after a connection was closed, with the link that read it and the one that wrote to it.
-    ghost closed: { Self → Self.Stream → Self.Link → Self.Link → Self → Type 0 };
+    /// The same after a connection was closed, with the caller that read it and the one that wrote to it.
+    ghost closed: { Self → Self.Stream → Self.Caller → Self.Caller → Self → Type 0 };
 
     /// The same after so many nanoseconds were waited for.
     ghost waited: { Self → ℕ → Self → Type 0 };
@@ -98,10 +98,10 @@ pub trait Listener {
     fn accept(&mut self) -> io::Result<Self::Stream>
         ensures taken { taken self.old result self.new };
 
-    fn link(&mut self) -> Self::Link
-        ensures linked { linked self.old result self.new };
+    fn caller(&mut self) -> Self::Caller
+        ensures caller_made { caller_made self.old result self.new };
 
-    fn close(&mut self, stream: Self::Stream, reads: Self::Link, writes: Self::Link)
+    fn close(&mut self, stream: Self::Stream, reads: Self::Caller, writes: Self::Caller)
         ensures closed { closed self.old stream reads writes self.new };
 
     fn wait(&mut self, time: Duration)
@@ -110,11 +110,11 @@ pub trait Listener {
 
 /// Calls connections of the system, with a clock.
 #[derive(Drop)]
-pub struct SystemLink<C> {
+pub struct SystemCaller<C> {
     clock: C,
 }
 
-impl<C: Clock> Link<TcpStream> for SystemLink<C> {
+impl<C: Clock> Caller<TcpStream> for SystemCaller<C> {
     ghost clock_read = { λ _ _ _. Unit {0} };
 
     ghost reads_limited = { λ _ _ _ _ _. Unit {0} };
@@ -173,11 +173,11 @@ impl Clock for NoClock {
 impl Listener for &TcpListener {
     type Stream = TcpStream;
 
-    type Link = SystemLink<NoClock>;
+    type Caller = SystemCaller<NoClock>;
 
     ghost taken = { λ _ _ _. Unit {0} };
 
-    ghost linked = { λ _ _ _. Unit {0} };
+    ghost caller_made = { λ _ _ _. Unit {0} };
 
     ghost closed = { λ _ _ _ _ _. Unit {0} };
 
@@ -188,15 +188,15 @@ impl Listener for &TcpListener {
         Ok(stream)
     }
 
-    fn link(&mut self) -> SystemLink<NoClock> {
-        SystemLink { clock: NoClock }
+    fn caller(&mut self) -> SystemCaller<NoClock> {
+        SystemCaller { clock: NoClock }
     }
 
     fn close(
         &mut self,
         _stream: TcpStream,
-        _reads: SystemLink<NoClock>,
-        _writes: SystemLink<NoClock>,
+        _reads: SystemCaller<NoClock>,
+        _writes: SystemCaller<NoClock>,
     ) {}
 
     fn wait(&mut self, _time: Duration) {}
@@ -218,11 +218,11 @@ impl<C: Clock + Copy> ClockedListener<C> {
 impl<C: Clock + Copy> Listener for ClockedListener<C> {
     type Stream = TcpStream;
 
-    type Link = SystemLink<C>;
+    type Caller = SystemCaller<C>;
 
     ghost taken = { λ _ _ _. Unit {0} };
 
-    ghost linked = { λ _ _ _. Unit {0} };
+    ghost caller_made = { λ _ _ _. Unit {0} };
 
     ghost closed = { λ _ _ _ _ _. Unit {0} };
 
@@ -233,11 +233,11 @@ impl<C: Clock + Copy> Listener for ClockedListener<C> {
         Ok(stream)
     }
 
-    fn link(&mut self) -> SystemLink<C> {
-        SystemLink { clock: self.clock }
+    fn caller(&mut self) -> SystemCaller<C> {
+        SystemCaller { clock: self.clock }
     }
 
-    fn close(&mut self, _stream: TcpStream, _reads: SystemLink<C>, _writes: SystemLink<C>) {}
+    fn close(&mut self, _stream: TcpStream, _reads: SystemCaller<C>, _writes: SystemCaller<C>) {}
 
     fn wait(&mut self, time: Duration) {
         thread::sleep(&self.clock, time);

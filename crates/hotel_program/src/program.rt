@@ -1,22 +1,20 @@
 //! What the program does, and its exit status.
 
-ghost use Rattle.std.specs.Prelude.{◌≡◌, ◌≢◌, Some, IfErr, Result, map, string_bytes};
+ghost use Rattle.std.specs.Prelude.{◌≡◌, ◌≢◌, Result, codes, map, string_bytes};
 ghost use Rattle.std.specs.IoError.{error_kind};
 ghost use Rattle.std.specs.Result.{result_map_both};
 ghost use Rattle.hotel_lists.specs.Calls.{CountsCalls, OnErrOf};
-ghost use Rattle.hotel_program.specs.declared.faults.Fault.TheVariants.{Usage, Memory, Read, Write};
-ghost use Rattle.hotel_program.specs.declared.command_line.plan.DeskAct.TheVariants.{Script};
+ghost use Rattle.hotel_program.specs.declared.faults.Fault.TheVariants.{Memory, Read, Write};
 ghost use Rattle.hotel_program.specs.declared.script.ScriptEnd.{ScriptEnd};
 ghost use Rattle.hotel_program.specs.declared.script.ScriptFault.{ScriptFault};
 ghost use Rattle.hotel_program.specs.Connections.{sockets};
-ghost use Rattle.hotel_program.specs.Faults.{end_status, IsOfFiles, Reports};
-ghost use Rattle.hotel_program.specs.Plan.{outer_views, AskForScript, FileIsRead, InMemory, OverBooks, PlanEnds};
-ghost use Rattle.hotel_program.specs.Plan.{UsageSaid, WordsEnd};
+ghost use Rattle.hotel_program.specs.Faults.{end_status, Reports};
+ghost use Rattle.hotel_program.specs.Plan.{FileIsRead, OverBooks, PlanEnds, UsageSaid, WordsEnd};
 ghost use Rattle.hotel_program.specs.Program.{HasNoWords, IfWords, IsNoText, LacksMemory, EndsOverNewDesk, script_end};
 
 use crate::acts::{end_of_script, run_act};
-use crate::command_line::{DeskAct, FileName, Plan, UsageFault, parse_words};
-use crate::faults::{Fault, FaultSink, finish};
+use crate::command_line::{DeskAct, Plan, UsageFault, parse_words};
+use crate::faults::{Fault, FaultSink, finish, refused_text};
 use crate::files::SEED_BYTES;
 use crate::script::run_script_by;
 use crate::statuses::{DONE, USAGE};
@@ -47,64 +45,6 @@ fn answer_script<I: Read, W: Write>(
     end_of_script(end)
 }
 
-/// Carries out an act over empty books in memory.
-fn run_in_memory<I: Read, W: Write, F: FaultSink, B: Walks + Drop, E: Databases<B>>(
-    alloc: Global,
-    act: &DeskAct,
-    file: &[u8],
-    source: &mut ChaCha20Rng,
-    reader: &mut I,
-    writer: &mut W,
-    faults: &mut F,
-    around: &mut E,
-) -> u8
-    ensures ends { InMemory (outer_views W.contents F.told F.shown E.seed_read E.file_read
-        E.books_opened E.books_closed (sockets E.Port.Listener E.Port.Link.Link) E.port_bound
-        ⟦<ListBooks as Kept>⟧ B.Kept B.rows)
-        (I.remaining reader.old) act.now file.now source.old around.old result
-        (record { writer = writer.old; faults = faults.old; around = around.old })
-        (record { writer = writer.new; faults = faults.new; around = around.new }) }
-    ensures unread { act.now ≢ Script → reader.new ≡ reader.old }
-    ensures no_usage { result ≢ 2 }
-{
-    let mut books = ListBooks::empty(alloc);
-    run_act(
-        alloc, act, file, &mut books, source, reader, writer, faults, around,
-    )
-}
-
-/// Carries out an act over the books of a database.
-fn run_on_database<I: Read, W: Write, F: FaultSink, B: Walks + Drop, E: Databases<B>>(
-    alloc: Global,
-    name: &FileName,
-    act: &DeskAct,
-    file: &[u8],
-    source: &mut ChaCha20Rng,
-    reader: &mut I,
-    writer: &mut W,
-    faults: &mut F,
-    around: &mut E,
-) -> u8
-    ensures ends { OverBooks (outer_views W.contents F.told F.shown E.seed_read E.file_read
-        E.books_opened E.books_closed (sockets E.Port.Listener E.Port.Link.Link) E.port_bound
-        ⟦<ListBooks as Kept>⟧ B.Kept B.rows)
-        (I.remaining reader.old) act.now file.now source.old (Some name.now) around.old result
-        (record { writer = writer.old; faults = faults.old; around = around.old })
-        (record { writer = writer.new; faults = faults.new; around = around.new }) }
-    ensures unread { act.now ≢ Script → reader.new ≡ reader.old }
-    ensures no_usage { result ≢ 2 }
-{
-    let mut books = match around.open_books(alloc, name) {
-        Ok(books) => books,
-        Err(why) => return finish(Err(why), faults, &mut IoCalls::none()),
-    };
-    let status = run_act(
-        alloc, act, file, &mut books, source, reader, writer, faults, around,
-    );
-    around.close_books(books);
-    status
-}
-
 /// Carries out an act over the books that are asked for: those of a database, or empty ones in memory.
 fn run_over_books<I: Read, W: Write, F: FaultSink, B: Walks + Drop, E: Databases<B>>(
     alloc: Global,
@@ -116,24 +56,27 @@ fn run_over_books<I: Read, W: Write, F: FaultSink, B: Walks + Drop, E: Databases
     faults: &mut F,
     around: &mut E,
 ) -> u8
-    ensures ends { OverBooks (outer_views W.contents F.told F.shown E.seed_read E.file_read
-        E.books_opened E.books_closed (sockets E.Port.Listener E.Port.Link.Link) E.port_bound
-        ⟦<ListBooks as Kept>⟧ B.Kept B.rows)
-        (I.remaining reader.old) plan.now.act file.now source.old plan.now.db around.old result
-        (record { writer = writer.old; faults = faults.old; around = around.old })
-        (record { writer = writer.new; faults = faults.new; around = around.new }) }
-    ensures unread { plan.now.act ≢ Script → reader.new ≡ reader.old }
-    ensures no_usage { result ≢ 2 }
+    ensures { OverBooks I.remaining W.contents F.FaultSink (sockets E.Port.Listener E.Port.Caller.Caller) E.Surroundings
+        E.Databases.own ⟦<ListBooks as Kept>⟧ B.Kept B.rows plan.now.act file.now source.old plan.now.db result
+        (record { reader = reader.old; writer = writer.old; faults = faults.old; around = around.old })
+        (record { reader = reader.new; writer = writer.new; faults = faults.new; around = around.new }) }
 {
     let act = &plan.act;
-    match &plan.db {
-        None => run_in_memory(alloc, act, file, source, reader, writer, faults, around),
-        Some(name) => {
-            run_on_database(
-                alloc, name, act, file, source, reader, writer, faults, around,
-            )
-        }
-    }
+    let Some(name) = &plan.db else {
+        let mut books = ListBooks::empty(alloc);
+        return run_act(
+            alloc, act, file, &mut books, source, reader, writer, faults, around,
+        );
+    };
+    let mut books = match around.open_books(alloc, name) {
+        Ok(books) => books,
+        Err(why) => return finish(Err(Fault::Books(why)), faults, &mut IoCalls::none()),
+    };
+    let status = run_act(
+        alloc, act, file, &mut books, source, reader, writer, faults, around,
+    );
+    around.close_books(books);
+    status
 }
 
 /// The bytes of the audit file, where one is asked for.
@@ -144,7 +87,6 @@ fn audit_file<E: Surroundings>(
 ) -> Result<Vec<u8>, Fault>
     ensures read { FileIsRead E.file_read act.now around.old
         (result_map_both (λ bytes. bytes.items) (λ why. why) result) around.new }
-    ensures fault { IfErr result IsOfFiles }
 {
     match act {
         DeskAct::Audit(name) => around.read_file(alloc, name),
@@ -162,14 +104,10 @@ fn run_plan<I: Read, W: Write, F: FaultSink, B: Walks + Drop, E: Databases<B>>(
     faults: &mut F,
     around: &mut E,
 ) -> u8
-    ensures ends { PlanEnds (outer_views W.contents F.told F.shown E.seed_read E.file_read
-        E.books_opened E.books_closed (sockets E.Port.Listener E.Port.Link.Link) E.port_bound
-        ⟦<ListBooks as Kept>⟧ B.Kept B.rows)
-        (I.remaining reader.old) plan.now result
-        (record { writer = writer.old; faults = faults.old; around = around.old })
-        (record { writer = writer.new; faults = faults.new; around = around.new }) }
-    ensures unread { plan.now.act ≢ Script → reader.new ≡ reader.old }
-    ensures no_usage { result ≢ 2 }
+    ensures { PlanEnds I.remaining W.contents F.FaultSink (sockets E.Port.Listener E.Port.Caller.Caller) E.Surroundings
+        E.Databases.own ⟦<ListBooks as Kept>⟧ B.Kept B.rows plan.now result
+        (record { reader = reader.old; writer = writer.old; faults = faults.old; around = around.old })
+        (record { reader = reader.new; writer = writer.new; faults = faults.new; around = around.new }) }
 {
     let seed = match around.read_seed(alloc, plan.seed_file.as_ref()) {
         Ok(seed) => seed,
@@ -203,10 +141,13 @@ fn say_usage<W: Write, F: FaultSink>(why: &UsageFault, writer: &mut W, faults: &
             Err(WriteFailed) => finish(Err(Fault::Write), faults, &mut calls),
         },
         UsageFault::Usage(text) => {
-            faults.show(text, &mut calls);
+            faults.show(text.as_bytes(), &mut calls);
             USAGE
         }
-        UsageFault::Value(name) => finish(Err(Fault::Unread(*name)), faults, &mut calls),
+        UsageFault::Value(name) => {
+            faults.show(refused_text(*name).as_bytes(), &mut calls);
+            USAGE
+        }
         UsageFault::Memory => finish(Err(Fault::Memory), faults, &mut calls),
     }
 }
@@ -220,13 +161,10 @@ fn run_words<I: Read, W: Write, F: FaultSink, B: Walks + Drop, E: Databases<B>>(
     faults: &mut F,
     around: &mut E,
 ) -> u8
-    ensures ends { WordsEnd (outer_views W.contents F.told F.shown E.seed_read E.file_read
-        E.books_opened E.books_closed (sockets E.Port.Listener E.Port.Link.Link) E.port_bound
-        ⟦<ListBooks as Kept>⟧ B.Kept B.rows)
-        (I.remaining reader.old) (map string_bytes words.now) result
-        (record { writer = writer.old; faults = faults.old; around = around.old })
-        (record { writer = writer.new; faults = faults.new; around = around.new }) }
-    ensures unread { ¬ (AskForScript (map string_bytes words.now)) → reader.new ≡ reader.old }
+    ensures { WordsEnd I.remaining W.contents F.FaultSink (sockets E.Port.Listener E.Port.Caller.Caller) E.Surroundings
+        E.Databases.own ⟦<ListBooks as Kept>⟧ B.Kept B.rows (map string_bytes words.now) result
+        (record { reader = reader.old; writer = writer.old; faults = faults.old; around = around.old })
+        (record { reader = reader.new; writer = writer.new; faults = faults.new; around = around.new }) }
 {
     match parse_words(alloc, words) {
         Ok(plan) => run_plan(alloc, &plan, reader, writer, faults, around),
@@ -234,14 +172,19 @@ fn run_words<I: Read, W: Write, F: FaultSink, B: Walks + Drop, E: Databases<B>>(
     }
 }
 
-/// The fault of words that couldn't be read.
-fn words_fault(why: &io::Error) -> Fault
-    ensures memory { error_kind why.now ≡ ErrorKind.OutOfMemory → result ≡ Memory }
-    ensures no_text { error_kind why.now ≢ ErrorKind.OutOfMemory → result ≡ Usage }
+/// Says why words couldn't be read. It answers the exit status.
+fn say_unread<F: FaultSink>(why: &io::Error, faults: &mut F) -> u8
+    ensures memory { error_kind why.now ≡ ErrorKind.OutOfMemory → (result ≡ 4) × F.told faults.old Memory faults.new }
+    ensures no_text { error_kind why.now ≢ ErrorKind.OutOfMemory
+        → (result ≡ 2) × F.shown faults.old (codes "usage\n") faults.new }
 {
+    let mut calls = IoCalls::none();
     match why.kind() {
-        ErrorKind::OutOfMemory => Fault::Memory,
-        _ => Fault::Usage,
+        ErrorKind::OutOfMemory => finish(Err(Fault::Memory), faults, &mut calls),
+        _ => {
+            faults.show(b"usage\n", &mut calls);
+            USAGE
+        }
     }
 }
 
@@ -257,24 +200,22 @@ pub fn run_program<I: Read, W: Write, F: FaultSink, B: Walks + Drop, E: Database
     faults: &mut F,
     around: &mut E,
 ) -> u8
-    ensures no_text { IsNoText words → (result ≡ 2) × F.told faults.old Usage faults.new × (reader.new ≡ reader.old)
-        × (writer.new ≡ writer.old) × (around.new ≡ around.old) }
+    ensures no_text { IsNoText words → (result ≡ 2) × F.shown faults.old (codes "usage\n") faults.new
+        × (reader.new ≡ reader.old) × (writer.new ≡ writer.old) × (around.new ≡ around.old) }
     ensures memory { LacksMemory words → (result ≡ 4) × F.told faults.old Memory faults.new × (reader.new ≡ reader.old)
         × (writer.new ≡ writer.old) × (around.new ≡ around.old) }
     ensures script { HasNoWords words → (end : Result ScriptEnd ScriptFault) × (result ≡ end_status (script_end end))
         × Reports F.told faults.old (script_end end) faults.new
         × EndsOverNewDesk W.contents (I.remaining reader.old) writer.old writer.new end × (around.new ≡ around.old) }
-    ensures words { IfWords words (λ texts. WordsEnd (outer_views W.contents F.told F.shown E.seed_read E.file_read
-        E.books_opened E.books_closed (sockets E.Port.Listener E.Port.Link.Link) E.port_bound
-        ⟦<ListBooks as Kept>⟧ B.Kept B.rows)
-        (I.remaining reader.old) texts result
-        (record { writer = writer.old; faults = faults.old; around = around.old })
-        (record { writer = writer.new; faults = faults.new; around = around.new })) }
-    ensures unread { IfWords words (λ texts. ¬ (AskForScript texts) → reader.new ≡ reader.old) }
+    ensures words { IfWords words (λ texts. WordsEnd I.remaining W.contents F.FaultSink
+        (sockets E.Port.Listener E.Port.Caller.Caller) E.Surroundings
+        E.Databases.own ⟦<ListBooks as Kept>⟧ B.Kept B.rows texts result
+        (record { reader = reader.old; writer = writer.old; faults = faults.old; around = around.old })
+        (record { reader = reader.new; writer = writer.new; faults = faults.new; around = around.new })) }
 {
     let words = match words {
         Ok(words) => words,
-        Err(why) => return finish(Err(words_fault(&why)), faults, &mut IoCalls::none()),
+        Err(why) => return say_unread(&why, faults),
     };
     if words.is_empty() {
         let mut calls = IoCalls::none();

@@ -1,15 +1,14 @@
 //! Scripts: lines of commands and lists, each answered before the next.
 
-ghost use Rattle.std.specs.Prelude.{◌≡◌, ◌≤◌, length, take, IfOk, OnOk, OnErr};
+ghost use Rattle.std.specs.Prelude.{◌≡◌, ◌≤◌, length, take, Some, IfOk, OnOk, OnErr};
 ghost use Rattle.hotel_lists.specs.{Calls.CountsCalls, Calls.CountsWrites, Calls.OnErrOf, Reads.ReadsWhile};
 ghost use Rattle.hotel_program.specs.declared.script.ScriptFault.TheVariants.{Read};
 ghost use Rattle.hotel_program.specs.Script.Lines.{answered_lines};
 ghost use Rattle.hotel_program.specs.Script.WholeScript.{IfCut, IfUnbegun, LinesAnswered, LinesCut, ScriptRan};
-ghost use Rattle.hotel_program.specs.Script.WholeScript.{fault_of_script};
+ghost use Rattle.hotel_program.specs.Script.WholeScript.{fault_of_script, script_fault_text};
 
 mod asks;
 mod line_answers;
-mod line_values;
 mod lines;
 mod list_answers;
 mod script_run;
@@ -21,6 +20,8 @@ use hotel_core::Walks;
 use hotel_lists::{IoCalls, WholeFault, read_whole};
 use rand_core::Rng;
 use std::alloc::Global;
+use std::error::Error;
+use std::fmt;
 use std::io::{Read, Write};
 
 /// The most bytes of a script.
@@ -49,6 +50,21 @@ pub enum ScriptFault {
         done: u32,
     },
 }
+
+impl fmt::Display for ScriptFault {
+    ghost output = { λ why. Some (script_fault_text why) };
+
+    fn fmt<W: fmt::Write>(&self, f: &mut fmt::Formatter<W>) -> fmt::Result {
+        f.write_str(match self {
+            ScriptFault::Read => "read",
+            ScriptFault::TooLarge => "too large",
+            ScriptFault::Memory => "memory",
+            ScriptFault::Write { .. } => "write",
+        })
+    }
+}
+
+impl Error for ScriptFault {}
 
 impl From<WholeFault> for ScriptFault {
     ghost from_gives = { λ fault e. e ≡ fault_of_script fault };

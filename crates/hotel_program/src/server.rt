@@ -1,8 +1,8 @@
 //! Connections on a port of the loopback address.
 
-ghost use Rattle.std.specs.Prelude.{◌≢◌, ◌++◌, codes};
+ghost use Rattle.std.specs.Prelude.{◌++◌, codes};
 ghost use Rattle.hotel_lists.specs.Bytes.{Writes};
-ghost use Rattle.hotel_program.specs.Acts.{ServeEnds, desk, listening_text, views};
+ghost use Rattle.hotel_program.specs.Acts.{ServeEnds, listening_text};
 ghost use Rattle.hotel_program.specs.Connections.{sockets};
 
 use crate::connections::serve_connections;
@@ -44,7 +44,7 @@ fn write_listening<W: Write>(
 
 /// Listens on a port of the loopback address, says so, and answers so many connections, one after the other. It answers
 /// the exit status: 0, or 5 where the port couldn't be had or the line couldn't be written; then none is answered.
-pub fn run_serve<B: Walks, R: Rng, W: Write, F: FaultSink, E: Surroundings>(
+pub(crate) fn run_serve<B: Walks, R: Rng, W: Write, F: FaultSink, E: Surroundings>(
     alloc: Global,
     port: u16,
     count: u32,
@@ -54,11 +54,9 @@ pub fn run_serve<B: Walks, R: Rng, W: Write, F: FaultSink, E: Surroundings>(
     faults: &mut F,
     around: &mut E,
 ) -> u8
-    ensures ends { ServeEnds (views B.Kept B.rows R.stream W.contents F.told
-        (sockets E.Port.Listener E.Port.Link.Link) E.port_bound) port count result
-        (desk books.old source.old writer.old faults.old around.old)
-        (desk books.new source.new writer.new faults.new around.new) }
-    ensures no_usage { result ≢ 2 }
+    ensures ends { ServeEnds B.Kept B.rows R.stream W.contents F.told (sockets E.Port.Listener E.Port.Caller.Caller)
+        E.port_bound port count result (books.old, source.old) (writer.old, faults.old) around.old
+        (books.new, source.new) (writer.new, faults.new) around.new }
 {
     let mut calls = IoCalls::none();
     let listener = match around.listen(port) {

@@ -1,6 +1,6 @@
 //! The exit statuses, and that of a reply.
 
-ghost use Rattle.std.specs.Prelude.{◌≡◌, ◌≢◌};
+ghost use Rattle.std.specs.Prelude.{◌≡◌};
 ghost use Rattle.hotel_program.specs.Statuses.{exit_of_reply};
 
 use hotel_core::{Refusal, Reply};
@@ -23,7 +23,6 @@ pub const BROKEN: u8 = 5;
 /// The exit status of a reply.
 pub fn status_of(reply: &Reply) -> u8
     ensures status { result ≡ exit_of_reply reply.now }
-    ensures no_usage { result ≢ 2 }
 {
     match reply {
         Reply::Refused(Refusal::Memory | Refusal::Store) => FAILED,

@@ -4,6 +4,7 @@ use crate::command_line::FileName;
 use crate::faults::Fault;
 use crate::files::SEED_BYTES;
 use crate::listener::Listener;
+use hotel_rows::FileFault;
 use std::alloc::Global;
 
 /// What is around the program. What it holds is not known to contracts: they say what was asked of it, and in which
@@ -11,7 +12,7 @@ use std::alloc::Global;
 pub trait Surroundings {
     ghost use Rattle.std.specs.Prelude.{ℕ, ◌≡◌, List, Option, Result, IfErr, option_map};
     ghost use Rattle.std.specs.Result.{result_map_both};
-    ghost use Rattle.hotel_program.specs.Faults.{IsOfFiles, IsOfReading, IsOfSeed};
+    ghost use Rattle.hotel_program.specs.Faults.{IsOfReading, IsOfSeed};
     ghost use Rattle.hotel_program.specs.declared.faults.Fault.{Fault, TheVariants.Port};
 
     /// What takes the connections of a port.
@@ -33,20 +34,17 @@ pub trait Surroundings {
         name: Option<&FileName>,
     ) -> Result<[u8; SEED_BYTES], Fault>
         ensures read { seed_read self.old (option_map (λ n. n.now) name.entry) result self.new }
-        ensures fault { IfErr result IsOfFiles }
         ensures which { IfErr result IsOfSeed };
 
     /// The bytes of an audit file; or, where it has too many, more than it may have.
     fn read_file(&mut self, alloc: Global, name: &FileName) -> Result<Vec<u8>, Fault>
         ensures read { file_read self.old name.now (result_map_both (λ bytes. bytes.items)
             (λ why. why) result) self.new }
-        ensures fault { IfErr result IsOfFiles }
         ensures which { IfErr result IsOfReading };
 
     /// Listens on a port of the loopback address.
     fn listen(&mut self, port: u16) -> Result<Self::Port, Fault>
         ensures bound { port_bound self.old port result self.new }
-        ensures fault { IfErr result IsOfFiles }
         ensures which { IfErr result (λ why. why ≡ Port) };
 }
 
@@ -54,21 +52,18 @@ pub trait Surroundings {
 ///
 /// `B` is a parameter, so that a caller has one way alone to name these books.
 pub trait Databases<B>: Surroundings {
-    ghost use Rattle.std.specs.Prelude.{ℕ, List, Result, IfErr};
-    ghost use Rattle.hotel_program.specs.Faults.{IsOfFiles, IsOfDatabase};
-    ghost use Rattle.hotel_program.specs.declared.faults.Fault.{Fault};
+    ghost use Rattle.std.specs.Prelude.{ℕ, List, Result};
+    ghost use Rattle.hotel_rows.specs.declared.open_fault.FileFault.{FileFault};
 
     /// The meanings that may follow one after books of the named database were opened.
-    ghost books_opened: { Self → List ℕ → Result B Fault → Self → Type 0 };
+    ghost books_opened: { Self → List ℕ → Result B FileFault → Self → Type 0 };
 
     /// The same after books were given back.
     ghost books_closed: { Self → B → Self → Type 0 };
 
     /// The books of a database, which is made a desk where it is missing or has no tables.
-    fn open_books(&mut self, alloc: Global, name: &FileName) -> Result<B, Fault>
-        ensures opened { books_opened self.old name.now result self.new }
-        ensures fault { IfErr result IsOfFiles }
-        ensures which { IfErr result IsOfDatabase };
+    fn open_books(&mut self, alloc: Global, name: &FileName) -> Result<B, FileFault>
+        ensures opened { books_opened self.old name.now result self.new };
 
     /// Gives books back.
     fn close_books(&mut self, books: B)

@@ -8,7 +8,7 @@ ghost use Rattle.std.specs.declared.io.Error.{Error};
 ghost use Rattle.hotel_program.specs.Timed.{CallInTime, LeavesTime, LingersOn, ReadSince, ReadsRest, SecondSet};
 ghost use Rattle.hotel_program.specs.Timed.{WrittenSince, is_first, left_after, left_at, shorter};
 
-use crate::listener::Link;
+use crate::listener::Caller;
 use std::io::{self, Read, Write};
 use std::marker::{Brand, PhantomData};
 use std::time::{Duration, Instant};
@@ -38,7 +38,7 @@ fn patience() -> Duration
 }
 
 /// Sets how long a read and a write of the connection may take: whether the system took both limits.
-pub fn has_limits<S, L: Link<S>>(stream: &S, reads: &mut L, writes: &mut L) -> bool
+pub(crate) fn set_limits<S, L: Caller<S>>(stream: &S, reads: &mut L, writes: &mut L) -> bool
     ensures limits { (first : Result (Unit {0}) Error) × L.reads_limited stream.now reads.old PATIENCE first reads.new
         × SecondSet (λ old set new. L.writes_limited stream.now old PATIENCE set new) first writes.old writes.new
         result }
@@ -75,76 +75,78 @@ fn shorter(a: Duration, b: Duration) -> Duration
 
 /// A read that may take the time that is left, and takes from it what it took: all, where the clock doesn't say. Where
 /// nothing is left it fails.
-fn read_within<S, L: Link<S>>(
-    link: &mut L,
+fn read_within<S, L: Caller<S>>(
+    caller: &mut L,
     stream: &S,
     left: &mut Duration,
     room: &mut [u8],
 ) -> io::Result<usize>
     ensures bound { ReadsAtMost result room.new }
-    ensures bytes { ReadConsumes (L.remaining stream.now link.old) (L.remaining stream.now link.new) result room.new }
+    ensures bytes { ReadConsumes (L.remaining stream.now caller.old) (L.remaining stream.now caller.new)
+        result room.new }
     ensures past { as_nanos left.old ≡ 0 → OnOk result ⊥ }
     ensures less { as_nanos left.new ≤ as_nanos left.old }
     ensures timed { CallInTime (L.reads_limited stream.now) L.clock_read
         (λ old got new. L.was_read stream.now old got room.new new)
-        link.old (as_nanos left.old) result (as_nanos left.new) link.new }
+        caller.old (as_nanos left.old) result (as_nanos left.new) caller.new }
 {
-    link.limit_reads(stream, *left)?;
-    let begun = link.now()?;
-    let got = link.read_some(stream, room);
-    *left = left_at(*left, begun, link.now());
+    caller.limit_reads(stream, *left)?;
+    let begun = caller.now()?;
+    let got = caller.read_some(stream, room);
+    *left = left_at(*left, begun, caller.now());
     got
 }
 
 /// The same of a write.
-fn write_within<S, L: Link<S>>(
-    link: &mut L,
+fn write_within<S, L: Caller<S>>(
+    caller: &mut L,
     stream: &S,
     left: &mut Duration,
     bytes: &[u8],
 ) -> io::Result<usize>
     ensures bound { WritesAtMost result bytes.now }
-    ensures bytes { WriteAppends (L.contents stream.now link.old) (L.contents stream.now link.new) result bytes.now }
+    ensures bytes { WriteAppends (L.contents stream.now caller.old) (L.contents stream.now caller.new)
+        result bytes.now }
     ensures past { as_nanos left.old ≡ 0 → OnOk result ⊥ }
     ensures less { as_nanos left.new ≤ as_nanos left.old }
     ensures timed { CallInTime (L.writes_limited stream.now) L.clock_read
         (λ old. L.was_written stream.now old bytes.now)
-        link.old (as_nanos left.old) result (as_nanos left.new) link.new }
+        caller.old (as_nanos left.old) result (as_nanos left.new) caller.new }
 {
-    link.limit_writes(stream, *left)?;
-    let begun = link.now()?;
-    let taken = link.write_some(stream, bytes);
-    *left = left_at(*left, begun, link.now());
+    caller.limit_writes(stream, *left)?;
+    let begun = caller.now()?;
+    let taken = caller.write_some(stream, bytes);
+    *left = left_at(*left, begun, caller.now());
     taken
 }
 
 /// A read of what comes behind an answer: it may take a second, and no more than what is left.
-fn read_rest<S, L: Link<S>>(
-    link: &mut L,
+fn read_rest<S, L: Caller<S>>(
+    caller: &mut L,
     stream: &S,
     left: &mut Duration,
     room: &mut [u8],
 ) -> io::Result<usize>
     ensures bound { ReadsAtMost result room.new }
     ensures timed { ReadsRest (L.reads_limited stream.now) L.clock_read (L.was_read stream.now)
-        (link.old, as_nanos left.old) (result, room.new) (link.new, as_nanos left.new) }
+        (caller.old, as_nanos left.old) (result, room.new) (caller.new, as_nanos left.new) }
 {
     let limit = shorter(*left, Duration::from_nanos(SILENCE));
     let mut rest = limit;
-    let got = read_within(link, stream, &mut rest, room);
+    let got = read_within(caller, stream, &mut rest, room);
     *left = left.saturating_sub(limit.saturating_sub(rest));
     got
 }
 
-/// A connection and its links as they began, for proofs alone: who serves one picks it. It ties what generic code leaves
-/// of a reader or writer to what that began with.
+/// A connection and its callers as they began, for proofs alone: who serves one picks it. It ties what generic code
+/// leaves of a reader or writer to what that began with.
 pub trait Begun<S, L> {
     ghost stream: { Option S };
 
-    /// The link that reads the connection.
+    /// The caller that reads the connection.
     ghost reads: { Option L };
 
-    /// The link that writes to it.
+    /// The caller that writes to it.
     ghost writes: { Option L };
 }
 
@@ -159,15 +161,15 @@ impl<S, L> Begun<S, L> for Brand {
 /// A connection that is read: its first byte has one second, and all reads behind it together have ten, whatever pieces
 /// come in.
 #[derive(Drop)]
-pub struct TimedReader<'s, S, L: Link<S>, K: Begun<S, L>> {
+pub struct TimedReader<'s, S, L: Caller<S>, K: Begun<S, L>> {
     stream: &'s S,
-    link: L,
+    caller: L,
     left: Duration,
     /// No byte has come.
     waits: bool,
     begun: PhantomData<K>,
-    ghost timed: { ∥ ReadSince L.Link K.stream K.reads stream.now
-        (record { link = link; left = as_nanos left; waits = waits }) ∥₁ },
+    ghost timed: { ∥ ReadSince L.Caller K.stream K.reads stream.now
+        (record { caller = caller; left = as_nanos left; waits = waits }) ∥₁ },
 }
 
 /// Whether a read brought the first byte.
@@ -180,72 +182,72 @@ fn is_first(waits: bool, got: &io::Result<usize>) -> bool
     }
 }
 
-impl<'s, S, L: Link<S>, K: Begun<S, L>> TimedReader<'s, S, L, K> {
-    pub fn new(stream: &'s S, link: L) -> TimedReader<'s, S, L, K>
+impl<'s, S, L: Caller<S>, K: Begun<S, L>> TimedReader<'s, S, L, K> {
+    pub fn new(stream: &'s S, caller: L) -> TimedReader<'s, S, L, K>
         requires stream { K.stream ≡ Some stream.now }
-        requires link { K.reads ≡ Some link }
-        ensures { (result.stream.now ≡ stream.now) × (result.link ≡ link) }
+        requires caller { K.reads ≡ Some caller }
+        ensures { (result.stream.now ≡ stream.now) × (result.caller ≡ caller) }
     {
         TimedReader {
             stream,
-            link,
+            caller,
             left: Duration::from_nanos(FIRST_PATIENCE),
             waits: true,
             begun: PhantomData,
         }
     }
 
-    /// The link, when nothing more is read.
-    pub fn into_link(self) -> L
-        ensures { result ≡ self.entry.link }
+    /// The caller, when nothing more is read.
+    pub fn into_caller(self) -> L
+        ensures { result ≡ self.entry.caller }
     {
-        self.link
+        self.caller
     }
 
     /// Shuts the writing side, and throws away what comes until the peer ends too. So no reset takes the answer from a
     /// peer that still sends. It ends too where one second brings nothing, `REST_BYTES` came, or no time is left. It
-    /// answers the link.
+    /// answers the caller.
     pub fn linger(self) -> L
         ensures lingers { (shut : Result (Unit {0}) Error) × (mid : L) × (rest : ℕ)
-            × L.writes_shut self.entry.stream.now self.entry.link shut mid
+            × L.writes_shut self.entry.stream.now self.entry.caller shut mid
             × LingersOn (ReadsRest (L.reads_limited self.entry.stream.now) L.clock_read
             (L.was_read self.entry.stream.now)) shut (mid, as_nanos self.entry.left) (result, rest) }
     {
         let TimedReader {
             stream,
-            mut link,
+            mut caller,
             mut left,
             ..
         } = self;
-        if link.shut_writes(stream).is_err() {
-            return link;
+        if caller.shut_writes(stream).is_err() {
+            return caller;
         }
         let mut room = [0; ROOM_BYTES];
         let mut rest = REST_BYTES;
         while rest > 0 {
-            match read_rest(&mut link, stream, &mut left, &mut room) {
+            match read_rest(&mut caller, stream, &mut left, &mut room) {
                 Ok(count) if count > 0 => rest = rest.saturating_sub(count),
-                _ => return link,
+                _ => return caller,
             }
         }
-        link
+        caller
     }
 }
 
-impl<'s, S, L: Link<S>, K: Begun<S, L>> Read for TimedReader<'s, S, L, K> {
-    ghost remaining = { λ r. L.remaining r.stream.now r.link };
+impl<'s, S, L: Caller<S>, K: Begun<S, L>> Read for TimedReader<'s, S, L, K> {
+    ghost remaining = { λ r. L.remaining r.stream.now r.caller };
 
     fn read(&mut self, room: &mut [u8]) -> io::Result<usize>
         ensures bound { ReadsAtMost result room.new }
-        ensures bytes { ReadConsumes (L.remaining self.old.stream.now self.old.link)
-            (L.remaining self.new.stream.now self.new.link) result room.new }
+        ensures bytes { ReadConsumes (L.remaining self.old.stream.now self.old.caller)
+            (L.remaining self.new.stream.now self.new.caller) result room.new }
         ensures past { as_nanos self.old.left ≡ 0 → OnOk result ⊥ }
         ensures timed { (left : ℕ) × CallInTime (L.reads_limited self.old.stream.now) L.clock_read
             (λ old got new. L.was_read self.old.stream.now old got room.new new)
-            self.old.link (as_nanos self.old.left) result left self.new.link
+            self.old.caller (as_nanos self.old.left) result left self.new.caller
             × LeavesTime self.old.waits result left (as_nanos self.new.left) self.new.waits }
     {
-        let got = read_within(&mut self.link, self.stream, &mut self.left, room);
+        let got = read_within(&mut self.caller, self.stream, &mut self.left, room);
         if is_first(self.waits, &got) {
             self.waits = false;
             self.left = patience();
@@ -256,57 +258,57 @@ impl<'s, S, L: Link<S>, K: Begun<S, L>> Read for TimedReader<'s, S, L, K> {
 
 /// A connection that is written to: all its writes together have ten seconds, whatever the peer takes at once.
 #[derive(Drop)]
-pub struct TimedWriter<'s, S, L: Link<S>, K: Begun<S, L>> {
+pub struct TimedWriter<'s, S, L: Caller<S>, K: Begun<S, L>> {
     stream: &'s S,
-    link: L,
+    caller: L,
     left: Duration,
     begun: PhantomData<K>,
-    ghost timed: { ∥ WrittenSince L.Link K.stream K.writes stream.now (link, as_nanos left) ∥₁ },
+    ghost timed: { ∥ WrittenSince L.Caller K.stream K.writes stream.now (caller, as_nanos left) ∥₁ },
 }
 
-impl<'s, S, L: Link<S>, K: Begun<S, L>> TimedWriter<'s, S, L, K> {
-    pub fn new(stream: &'s S, link: L) -> TimedWriter<'s, S, L, K>
+impl<'s, S, L: Caller<S>, K: Begun<S, L>> TimedWriter<'s, S, L, K> {
+    pub fn new(stream: &'s S, caller: L) -> TimedWriter<'s, S, L, K>
         requires stream { K.stream ≡ Some stream.now }
-        requires link { K.writes ≡ Some link }
-        ensures { (result.stream.now ≡ stream.now) × (result.link ≡ link) }
+        requires caller { K.writes ≡ Some caller }
+        ensures { (result.stream.now ≡ stream.now) × (result.caller ≡ caller) }
     {
         TimedWriter {
             stream,
-            link,
+            caller,
             left: patience(),
             begun: PhantomData,
         }
     }
 
-    /// The link, when nothing more is written.
-    pub fn into_link(self) -> L
-        ensures { result ≡ self.entry.link }
+    /// The caller, when nothing more is written.
+    pub fn into_caller(self) -> L
+        ensures { result ≡ self.entry.caller }
     {
-        self.link
+        self.caller
     }
 }
 
-impl<'s, S, L: Link<S>, K: Begun<S, L>> Write for TimedWriter<'s, S, L, K> {
-    ghost contents = { λ w. L.contents w.stream.now w.link };
+impl<'s, S, L: Caller<S>, K: Begun<S, L>> Write for TimedWriter<'s, S, L, K> {
+    ghost contents = { λ w. L.contents w.stream.now w.caller };
 
     fn write(&mut self, bytes: &[u8]) -> io::Result<usize>
         ensures bound { WritesAtMost result bytes.now }
-        ensures bytes { WriteAppends (L.contents self.old.stream.now self.old.link)
-            (L.contents self.new.stream.now self.new.link) result bytes.now }
+        ensures bytes { WriteAppends (L.contents self.old.stream.now self.old.caller)
+            (L.contents self.new.stream.now self.new.caller) result bytes.now }
         ensures past { as_nanos self.old.left ≡ 0 → OnOk result ⊥ }
         ensures less { as_nanos self.new.left ≤ as_nanos self.old.left }
         ensures timed { CallInTime (L.writes_limited self.old.stream.now) L.clock_read
             (λ old. L.was_written self.old.stream.now old bytes.now)
-            self.old.link (as_nanos self.old.left) result (as_nanos self.new.left) self.new.link }
+            self.old.caller (as_nanos self.old.left) result (as_nanos self.new.left) self.new.caller }
     {
-        write_within(&mut self.link, self.stream, &mut self.left, bytes)
+        write_within(&mut self.caller, self.stream, &mut self.left, bytes)
     }
 
     /// Nothing is held back.
     fn flush(&mut self) -> io::Result<()>
         ensures done { IsOk result }
-        ensures bytes { Keeps (L.contents self.old.stream.now self.old.link)
-            (L.contents self.new.stream.now self.new.link) }
+        ensures bytes { Keeps (L.contents self.old.stream.now self.old.caller)
+            (L.contents self.new.stream.now self.new.caller) }
         ensures same { self.new ≡ self.old }
     {
         Ok(())

@@ -6,7 +6,7 @@ use Rattle.hotel_rows.specs.declared.stored.Stored.{Stored}
 use Rattle.hotel_rows.specs.Stored.{plain_fits, rows_of}
 use Rattle.hotel_rows.specs.Places.{AreOf}
 use Rattle.hotel_rows.specs.FitRuns.{FitsOf}
-use Rattle.hotel_rows.specs.Placed.{PlacesOf}
+use Rattle.hotel_rows.specs.CodePlaces.{PlacesOf}
 use Rattle.hotel_rows.specs.RowTests.{HasKinds}
 
 -- The kinds of the rows read as such, and the map has exactly these.

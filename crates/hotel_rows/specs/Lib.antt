@@ -5,9 +5,10 @@ pub mod Places
 pub mod Known
 pub mod Damage
 pub mod RowTests
-pub mod Placed
+pub mod CodePlaces
 pub mod NoteRuns
 pub mod FitRuns
-pub mod Lasts
-pub mod Owners
+pub mod LastCards
+pub mod LinkOwners
 pub mod Counts
+pub mod OpenFault

@@ -2,9 +2,9 @@
 use Rattle.std.specs.Prelude.{ℕ, ◌≡◌, ◌-◌, nat_le, List, map, Option, Some, None, if◌then◌else◌}
 use Rattle.hotel_model.specs.Rows.{at_number}
 use Rattle.hotel_rows.specs.declared.stored.Stored.{Stored}
-use Rattle.hotel_rows.specs.declared.damage.found.Index.{Index}
-use Rattle.hotel_rows.specs.declared.damage.found.Index.TheVariants as index
-use Rattle.hotel_rows.specs.declared.damage.found.Places.{Places}
+use Rattle.hotel_rows.specs.declared.damage.by_key.Index.{Index}
+use Rattle.hotel_rows.specs.declared.damage.by_key.Index.TheVariants as index
+use Rattle.hotel_rows.specs.declared.damage.by_key.Places.{Places}
 use Rattle.hotel_rows.specs.Keys.{place_in, room_key, stay_key, code_key, card_key}
 
 -- where a key stands among 1 and on, so many

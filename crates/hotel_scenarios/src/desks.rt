@@ -74,7 +74,7 @@ impl<B: Books> Desk<B> {
     }
 
     /// What the line asks for is done: a command that is accepted.
-    pub fn told(&mut self, line: &[u8]) -> Result<(), Fail> {
+    pub fn do_line(&mut self, line: &[u8]) -> Result<(), Fail> {
         match &ask_of(self.alloc, line)? {
             Ask::Command(command) => self.does(command),
             Ask::List(_) => Err(Fail::from("a list")),
@@ -82,9 +82,9 @@ impl<B: Books> Desk<B> {
     }
 
     /// The same of each line.
-    pub fn told_each(&mut self, lines: &[&[u8]]) -> Result<(), Fail> {
+    pub fn do_lines(&mut self, lines: &[&[u8]]) -> Result<(), Fail> {
         for line in lines {
-            self.told(line)?;
+            self.do_line(line)?;
         }
         Ok(())
     }

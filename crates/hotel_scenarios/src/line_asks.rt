@@ -1,5 +1,5 @@
 //! What a line of a scenario asks for, read by the readers of verbs and values alone.
-use hotel_asks::{Ask, read_ask, read_verb};
+use hotel_asks::{Ask, ValueTexts, read_ask, read_verb};
 use std::alloc::Global;
 use std::test::Fail;
 
@@ -18,7 +18,7 @@ fn cut(text: &[u8]) -> (&[u8], &[u8]) {
 pub fn ask_of(alloc: Global, line: &[u8]) -> Result<Ask, Fail> {
     let (word, mut rest) = cut(line);
     let verb = read_verb(word).ok_or("no verb")?;
-    let mut values = Vec::new(alloc);
+    let mut values = ValueTexts::new();
     let mut left = verb.values().len();
     for _ in verb.values() {
         left = left.saturating_sub(1);
@@ -27,8 +27,11 @@ pub fn ask_of(alloc: Global, line: &[u8]) -> Result<Ask, Fail> {
         } else {
             cut(rest)
         };
-        values.push(value)?;
+        if values.is_full() {
+            return Err(Fail::from("too many values"));
+        }
+        values.push(value);
         rest = later;
     }
-    Ok(read_ask(alloc, verb, values.as_slice())?)
+    Ok(read_ask(alloc, verb, &values)?)
 }

@@ -57,7 +57,7 @@ pub fn many_rows_are_found<B: Books + Drop>(alloc: Global, books: B) -> Result<b
     let entered = SPARE_KEEPS_ROOM_OPEN.get(..8).ok_or("eight steps")?;
     let mut desk = Desk::over(alloc, books, &[0xa0, 0xa1, 0xa2, 0xb0])?;
     desk.goes_through(&[OPENED, CHECKED_IN, entered])?;
-    desk.told_each(&[b"add-kind SGL", b"add-room 102 SGL"])?;
+    desk.do_lines(&[b"add-kind SGL", b"add-room 102 SGL"])?;
     let are_counted = rooms_are_counted(&mut desk.books)?;
     let are_found = stays_are_found(alloc, &mut desk.books)? && insides_are_found(&mut desk.books)?;
     Ok(are_counted && are_found)

@@ -1,5 +1,5 @@
--- A schema that the test takes for another's front is that, and each layout of a desk is taken for a front of the whole
--- one.
+-- A schema that the test takes for another's prefix is that, and each layout of a desk is taken for a prefix of the
+-- whole one.
 use Rattle.std.proofs.Common.{◌≡◌, refl, sym, ap, ◌∙◌, Bool, true, false, ℕ, List, [], ◌∷◌, Option, Some, None}
 use Rattle.std.proofs.Common.{length, take, arith, subst, zero, suc, ◌+◌, ◌≤◌, ◌<◌}
 use Rattle.std.proofs.lemmas.List.{take_all}
@@ -190,7 +190,7 @@ index_is a b e =
       is_unique = flag_is a.is_unique b.is_unique p5.1 i;
     }
 
--- a schema that the test takes for another's front is that
+-- a schema that the test takes for another's prefix is that
 pub front_is : (tables indexes : ℕ) (a b : Schema) → spec.same_front tables indexes a b ≡ true
     → a ≡ record b { tables = take tables b.tables; indexes = take indexes b.indexes }
 front_is tables indexes a b e =

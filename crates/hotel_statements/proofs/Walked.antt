@@ -3,7 +3,7 @@ use Rattle.std.proofs.Common.{◌≡◌, ◌≢◌, ◌⊎◌, ◌≤◌, ◌+�
 use Rattle.std.proofs.Common.{◌++◌, ℕ, suc, IsTrue, Bool, false, true}
 use Rattle.std.proofs.Common.{Option, Some, None, Ok, Err, Result, All, length, length-append, map}
 use Rattle.std.proofs.Common.{append_assoc, arith}
-use Rattle.std.specs.Prelude.{option_copied, OnOk, IfOk, IfErr}
+use Rattle.std.specs.Prelude.{option_copied, OnOk, IfOk, IfErr, IsErrAnd}
 use Rattle.std.proofs.lemmas.List.{map-append, length-map}
 use Rattle.std.specs.Borrow.{Bor}
 use Rattle.sqlite_value.specs.declared.value.Value.TheVariants.{Null}
@@ -429,11 +429,12 @@ module _ {A K : Type 0} {Fails : State → State → Type 0} (after after_stop :
     crash = then_survives old mid new open_on crash walked.crash;
   }
 
-  pub not_begun : (fault : WalkFault) (cause : LookFault)
-      → failure_of (Err fault) ≡ Some cause → IsBooks mid → KeepsRows old mid → LeavesNoMore old mid
-      → (HasCleanDisk mid → cause ≢ look.Memory → Fails old mid)
-      → WalksRows Fails after after_stop rows old mid sink sink (Err fault)
-  not_begun fault cause is books keeps crash fails = record {
+  pub not_begun : (result : Result (Unit {0}) WalkFault) (cause : LookFault)
+      → IsErrAnd result (λ fault. failure_of (Err fault) ≡ Some cause) → IsBooks mid → KeepsRows old mid
+      → LeavesNoMore old mid → (HasCleanDisk mid → cause ≢ look.Memory → Fails old mid)
+      → WalksRows Fails after after_stop rows old mid sink sink result
+  not_begun (Ok done) cause is books keeps crash fails = absurd is
+  not_begun (Err fault) cause is books keeps crash fails = record {
     books = books;
     keeps = keeps;
     open_on = λ _ none. absurd (let k = is in cc);

@@ -23,7 +23,7 @@ use Rattle.hotel_model.specs.declared.rows.FitRow.{FitRow}
 use Rattle.hotel_model.specs.declared.rows.RoomRow.{RoomRow}
 use Rattle.hotel_model.specs.Refinement.Lookups.{number_after}
 use Rattle.hotel_model.specs.Rows.{Rows}
-use Rattle.hotel_statements.specs.declared.look_ups.Known.{Known}
+use Rattle.hotel_statements.specs.declared.look_ups.RoomCounts.{RoomCounts}
 use Rattle.hotel_statements.specs.Schema.{desk_schema}
 use Rattle.hotel_statements.specs.Tables.{rows_in}
 use Rattle.hotel_statements.specs.Books.{IsKept, IsBooks, KeepsRows}
@@ -113,12 +113,7 @@ pub record LooksIf {A R : Type 0} (was : Type 0) (said : R → A) (wanted : Rows
   pub open_on : was → HasCleanDisk new → OnOk result (IsTrue new.is_open)
   pub crash : LeavesNoMore old new
 
--- The same of a look-up that is a statement: where it is answered over a disk that returned what was written,
--- the connection is open.
-abbrev pub IsLookUp : {A R : Type 0} → (R → A) → (Rows → A) → State → State → Result R LookFault → Type 0
-IsLookUp said wanted old new result = LooksIf (Unit {0}) said wanted old new result
-
--- The same of one that may ask nothing: only a connection that was open is open.
+-- A look-up that may ask nothing: only a connection that was open is open.
 abbrev pub MayLook : {A R : Type 0} → (R → A) → (Rows → A) → State → State → Result R LookFault → Type 0
 MayLook said wanted old new result = LooksIf (IsKept old) said wanted old new result
 
@@ -155,5 +150,5 @@ abbrev pub next_numbers_of : Rows → NextNumbers
 next_numbers_of rows = record { party = number_after (length rows.stays); card = number_after (length rows.cards) }
 
 -- what a room's row tells the statements of a change
-abbrev pub known_by_room : RoomRow → Known
+abbrev pub known_by_room : RoomRow → RoomCounts
 known_by_room row = record { codes = row.codes; notes = row.notes; before = 0 }

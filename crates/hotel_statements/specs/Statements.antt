@@ -28,7 +28,7 @@ use Rattle.sqlite.specs.declared.error.Error.{Error}
 use Rattle.sqlite.specs.declared.error.Error.TheVariants.{SqliteFailure}
 use Rattle.sqlite.specs.declared.error.ErrorCode.TheVariants.{TransactionState}
 use Rattle.hotel_model.specs.Rows.{Rows}
-use Rattle.hotel_statements.specs.declared.look_ups.Known.{Known}
+use Rattle.hotel_statements.specs.declared.look_ups.RoomCounts.{RoomCounts}
 use Rattle.hotel_statements.specs.declared.upgrade.TheConstants.{VERSION}
 use Rattle.hotel_statements.specs.declared.version.Layout.{Layout}
 use Rattle.hotel_statements.specs.declared.version.Layout.TheVariants.{Eight, Nine}
@@ -159,7 +159,7 @@ takes_note note number lock_place secured insides = gives_note note number lock_
     ++ moves_card insides note.room
 
 -- those of a change, where this is known of its room
-abbrev pub statements_of : Change → Known → List Statement
+abbrev pub statements_of : Change → RoomCounts → List Statement
 statements_of (Begin day) known = sets_day day ∷ []
 statements_of (DayTo day) known = sets_day day ∷ []
 statements_of (Kind kind) known = adds_kind kind ∷ []

@@ -18,7 +18,7 @@ use Rattle.hotel_rows.specs.declared.stored.PlainNote.{PlainNote}
 use Rattle.hotel_rows.specs.declared.stored.PlainFit.{PlainFit}
 use Rattle.hotel_statements.specs.declared.plain_rows.PlainMeta.{PlainMeta}
 use Rattle.hotel_statements.specs.declared.plain_rows.NumberedInside.{NumberedInside}
-use Rattle.hotel_statements.specs.declared.whole_tables.Tables.{Tables}
+use Rattle.hotel_statements.specs.declared.whole_tables.WholeTables.{WholeTables}
 use Rattle.hotel_statements.specs.declared.version.Version.{Version}
 use Rattle.hotel_statements.specs.declared.version.Version.TheVariants.{First, Second}
 use Rattle.hotel_statements.specs.Trees.{meta_tree, kind_tree, room_tree, stay_tree, code_tree, card_tree, inside_tree}
@@ -102,7 +102,7 @@ AreFitRows Second None db = ⊥
 AreFitRows Second (Some fits) db = ArePlainRows fit_columns fit_shown fits.items (db fit_tree)
 
 -- the rows of all tables of a version
-abbrev pub AreRead : Version → Tables → Trees → Type 0
+abbrev pub AreRead : Version → WholeTables → Trees → Type 0
 AreRead version t db =
     AreFirst ((t.meta, t.kinds), (t.rooms, t.stays)) db
     × (AreLast ((t.codes, t.cards), (t.inside, t.notes)) db × AreFitRows version t.fits db)

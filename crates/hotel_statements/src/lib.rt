@@ -34,5 +34,5 @@ pub mod walks;
 pub mod whole_tables;
 
 pub use from_row::fault_of;
-pub use look_ups::Known;
+pub use look_ups::RoomCounts;
 pub use version::{INDEXES, Layout, Version};

@@ -39,7 +39,7 @@ use std::alloc::Global;
 
 /// What the statements of a change are told of its room; 0 is what they don't need.
 #[derive(Clone, Copy, Debug, PartialEq, Eq)]
-pub struct Known {
+pub struct RoomCounts {
     /// How many codes stand there, of a change that adds one.
     pub codes: u32,
     /// How many notes were taken there, of a change that adds a code.
@@ -151,7 +151,7 @@ pub fn known_by_room<S: Alter>(
     alloc: Global,
     conn: &mut Connection<S>,
     room: RoomNo,
-) -> Result<Option<Known>, LookFault>
+) -> Result<Option<RoomCounts>, LookFault>
     requires { IsBooks (state S.Store conn.old) }
     ensures { Selects (BareRoomFails room) (λ a. a) (λ rows. option_map known_by_room (room_at rows room))
         (state S.Store conn.old) (state S.Store conn.new) result }

@@ -20,7 +20,7 @@ use std::cmp::Ordering;
 /// A row of a table as plain data.
 pub(crate) trait PlainRow: Sized {
     /// The statement that reads the whole table.
-    ghost text: { List ℕ };
+    ghost statement: { List ℕ };
 
     /// The number of the table's tree, and the columns of a row of it.
     ghost tree: { ℕ };
@@ -32,8 +32,8 @@ pub(crate) trait PlainRow: Sized {
 
     ghost cut: { SqlRow → SqlRow };
 
-    fn text() -> &'static str
-        ensures { result.now ≡ text };
+    fn statement() -> &'static str
+        ensures { result.now ≡ statement };
 
     fn of_row(row: &Row) -> Result<Self, Error>
         ensures shows { IfOk result (λ plain. shown plain ≡ cut row.now) }
@@ -88,7 +88,7 @@ pub fn may_be_natural(n: Option<i64>) -> bool
 }
 
 impl PlainRow for PlainMeta {
-    ghost text = { texts.read_meta };
+    ghost statement = { texts.read_meta };
 
     ghost tree = { trees.meta_tree };
 
@@ -98,7 +98,7 @@ impl PlainRow for PlainMeta {
 
     ghost cut = { plain.first_three };
 
-    fn text() -> &'static str {
+    fn statement() -> &'static str {
         READ_META
     }
 
@@ -112,7 +112,7 @@ impl PlainRow for PlainMeta {
 }
 
 impl PlainRow for PlainKind {
-    ghost text = { texts.read_kind };
+    ghost statement = { texts.read_kind };
 
     ghost tree = { trees.kind_tree };
 
@@ -122,7 +122,7 @@ impl PlainRow for PlainKind {
 
     ghost cut = { plain.first_one };
 
-    fn text() -> &'static str {
+    fn statement() -> &'static str {
         READ_KIND
     }
 
@@ -132,7 +132,7 @@ impl PlainRow for PlainKind {
 }
 
 impl PlainRow for PlainRoom {
-    ghost text = { texts.read_room };
+    ghost statement = { texts.read_room };
 
     ghost tree = { trees.room_tree };
 
@@ -142,7 +142,7 @@ impl PlainRow for PlainRoom {
 
     ghost cut = { plain.first_seven };
 
-    fn text() -> &'static str {
+    fn statement() -> &'static str {
         READ_ROOM
     }
 
@@ -160,7 +160,7 @@ impl PlainRow for PlainRoom {
 }
 
 impl PlainRow for PlainStay {
-    ghost text = { texts.read_stay };
+    ghost statement = { texts.read_stay };
 
     ghost tree = { trees.stay_tree };
 
@@ -170,7 +170,7 @@ impl PlainRow for PlainStay {
 
     ghost cut = { plain.first_seven };
 
-    fn text() -> &'static str {
+    fn statement() -> &'static str {
         READ_STAY
     }
 
@@ -188,7 +188,7 @@ impl PlainRow for PlainStay {
 }
 
 impl PlainRow for PlainCode {
-    ghost text = { texts.read_code };
+    ghost statement = { texts.read_code };
 
     ghost tree = { trees.code_tree };
 
@@ -198,7 +198,7 @@ impl PlainRow for PlainCode {
 
     ghost cut = { plain.first_three };
 
-    fn text() -> &'static str {
+    fn statement() -> &'static str {
         READ_CODE
     }
 
@@ -212,7 +212,7 @@ impl PlainRow for PlainCode {
 }
 
 impl PlainRow for PlainCard {
-    ghost text = { texts.read_card };
+    ghost statement = { texts.read_card };
 
     ghost tree = { trees.card_tree };
 
@@ -222,7 +222,7 @@ impl PlainRow for PlainCard {
 
     ghost cut = { plain.first_four };
 
-    fn text() -> &'static str {
+    fn statement() -> &'static str {
         READ_CARD
     }
 
@@ -237,7 +237,7 @@ impl PlainRow for PlainCard {
 }
 
 impl PlainRow for NumberedInside {
-    ghost text = { texts.read_inside };
+    ghost statement = { texts.read_inside };
 
     ghost tree = { trees.inside_tree };
 
@@ -247,7 +247,7 @@ impl PlainRow for NumberedInside {
 
     ghost cut = { plain.first_three };
 
-    fn text() -> &'static str {
+    fn statement() -> &'static str {
         READ_INSIDE
     }
 
@@ -263,7 +263,7 @@ impl PlainRow for NumberedInside {
 }
 
 impl PlainRow for PlainNote {
-    ghost text = { texts.read_note };
+    ghost statement = { texts.read_note };
 
     ghost tree = { trees.note_tree };
 
@@ -273,7 +273,7 @@ impl PlainRow for PlainNote {
 
     ghost cut = { plain.first_eight };
 
-    fn text() -> &'static str {
+    fn statement() -> &'static str {
         READ_NOTE
     }
 
@@ -292,7 +292,7 @@ impl PlainRow for PlainNote {
 }
 
 impl PlainRow for PlainFit {
-    ghost text = { texts.read_fit };
+    ghost statement = { texts.read_fit };
 
     ghost tree = { trees.fit_tree };
 
@@ -302,7 +302,7 @@ impl PlainRow for PlainFit {
 
     ghost cut = { plain.first_four };
 
-    fn text() -> &'static str {
+    fn statement() -> &'static str {
         READ_FIT
     }
 

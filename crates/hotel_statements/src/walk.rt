@@ -1,9 +1,8 @@
 //! One statement whose rows are handed to a sink, one at a time.
-ghost use Rattle.std.specs.Prelude.{◌≡◌, List, Some, Err};
+ghost use Rattle.std.specs.Prelude.{◌≡◌, List, Err};
 ghost use Rattle.sqlite.specs.Held.{state};
 ghost use Rattle.sqlite.specs.Query.{Query};
 ghost use Rattle.sqlite.specs.Values.{bound};
-ghost use Rattle.hotel_core.specs.Books.Walks.{failure_of};
 ghost use Rattle.hotel_statements.specs.Books.{IsBooks};
 ghost use Rattle.hotel_statements.specs.LookUps.{Asks};
 ghost use Rattle.hotel_statements.specs.Walks.{SaysRows, HandsOne, WalkFails, WalksRows};
@@ -11,20 +10,9 @@ ghost use Rattle.hotel_statements.specs.Walks.{SaysRows, HandsOne, WalkFails, Wa
 use crate::from_row::fault_of;
 use crate::from_row::list_rows::RowReader;
 use hotel_core::{Sink, WalkFault};
-use keycard_rules::LookFault;
 use sqlite::types::ValueRef;
 use sqlite::{Alter, Connection, Row};
 use std::alloc::Global;
-
-/// The end of a walk that failed for this cause.
-pub(crate) fn failed(cause: LookFault) -> WalkFault
-    ensures { failure_of (Err result) ≡ Some cause }
-{
-    match cause {
-        LookFault::Memory => WalkFault::Memory,
-        LookFault::Store => WalkFault::Store,
-    }
-}
 
 /// Hands over what one row says.
 fn hand_over<R: Drop, F: RowReader<R>, K: Sink<R>>(
@@ -37,10 +25,9 @@ fn hand_over<R: Drop, F: RowReader<R>, K: Sink<R>>(
         sink.old sink.new result }
     ensures unread { result ≡ Err WalkFault.Store → ¬ F.RowReader.is_readable reader.now row.now }
 {
-    match reader.read(alloc, row) {
-        Ok(value) => Ok(sink.take(&value)?),
-        Err(cause) => Err(failed(cause)),
-    }
+    let value = reader.read(alloc, row)?;
+    sink.take(&value)?;
+    Ok(())
 }
 
 /// The most rows that a walk counts.
@@ -64,13 +51,13 @@ pub(crate) fn walk<S: Alter, R: Drop, F: RowReader<R>, K: Sink<R>>(
 {
     let mut rows = match conn.query(text, params) {
         Ok(rows) => rows,
-        Err(error) => return Err(failed(fault_of(error))),
+        Err(error) => return Err(WalkFault::from(fault_of(error))),
     };
     'rows: for _i in 0..MOST_ROWS {
         match rows.next() {
             Ok(Some(row)) => hand_over(alloc, reader, row, sink)?,
             Ok(None) => return Ok(()),
-            Err(error) => return Err(failed(fault_of(error))),
+            Err(error) => return Err(WalkFault::from(fault_of(error))),
         }
     }
     Err(WalkFault::Store)

@@ -14,7 +14,7 @@ use crate::from_row::list_rows::{Alone, AtLock};
 use crate::look_ups;
 use crate::number::{dated, numbered};
 use crate::texts::{WALK_ARRIVALS, WALK_AUDIT, WALK_CHAIN, WALK_IN_HOUSE, WALK_LEFT_BEHIND};
-use crate::walk::{failed, walk};
+use crate::walk::walk;
 use hotel_core::{BehindRow, ChainRow, HouseRow, Sink, WalkFault};
 use hotel_nights::{Day, Stay};
 use keycard_rules::{LockNote, RoomNo};
@@ -46,13 +46,9 @@ pub fn audit<S: Alter, K: Sink<LockNote>>(
     ensures { WalksList (AuditFails room) K.Sink.after K.Sink.after_stop (λ rows. notes_at rows.notes room)
         (state S.Store conn.old) (state S.Store conn.new) sink.old sink.new result }
 {
-    match look_ups::fits_of_room(alloc, conn, room) {
-        Ok(fits) => {
-            let under = UnderFits { fits };
-            walk(alloc, conn, WALK_AUDIT, &[numbered(room)], &under, sink)
-        }
-        Err(cause) => Err(failed(cause)),
-    }
+    let fits = look_ups::fits_of_room(alloc, conn, room)?;
+    let under = UnderFits { fits };
+    walk(alloc, conn, WALK_AUDIT, &[numbered(room)], &under, sink)
 }
 
 /// The codes of a room in order of issue; none where the room isn't there.
@@ -67,16 +63,13 @@ pub fn chain<S: Alter, K: Sink<ChainRow>>(
     ensures { WalksList (ChainFails room) K.Sink.after K.Sink.after_stop (λ rows. chain_on rows room)
         (state S.Store conn.old) (state S.Store conn.new) sink.old sink.new result }
 {
-    match look_ups::bare_room(alloc, conn, room) {
-        Ok(Some(row)) => {
-            let lock = AtLock {
-                place: row.lock_place(),
-            };
-            walk(alloc, conn, WALK_CHAIN, &[numbered(room)], &lock, sink)
-        }
-        Ok(None) => Ok(()),
-        Err(cause) => Err(failed(cause)),
-    }
+    let Some(row) = look_ups::bare_room(alloc, conn, room)? else {
+        return Ok(());
+    };
+    let lock = AtLock {
+        place: row.lock_place(),
+    };
+    walk(alloc, conn, WALK_CHAIN, &[numbered(room)], &lock, sink)
 }
 
 /// The rooms with a registered party, by room.

@@ -42,13 +42,13 @@ fn read_table<S: Alter, L: PlainRow + Drop>(
     version: Version,
 ) -> Result<Vec<L>, LookFault>
     requires ours { IsOurs version (state S.Store conn.old) }
-    requires whole { IsWhole version L.PlainRow.text L.PlainRow.tree L.PlainRow.columns L.PlainRow.cut }
-    ensures { ReadsPart version (TableFails L.PlainRow.text L.PlainRow.shown)
+    requires whole { IsWhole version L.PlainRow.statement L.PlainRow.tree L.PlainRow.columns L.PlainRow.cut }
+    ensures { ReadsPart version (TableFails L.PlainRow.statement L.PlainRow.shown)
         (λ plain_rows db. ArePlainRows L.PlainRow.columns L.PlainRow.shown plain_rows.items (db L.PlainRow.tree))
         (state S.Store conn.old) (state S.Store conn.new) result }
 {
     let mut plain_rows = Vec::new(alloc);
-    let mut rows = match conn.query(L::text(), &[]) {
+    let mut rows = match conn.query(L::statement(), &[]) {
         Ok(rows) => rows,
         Err(error) => return Err(fault_of(error)),
     };
@@ -70,11 +70,11 @@ fn read_two<S: Alter, A: PlainRow + Drop, B: PlainRow + Drop>(
     version: Version,
 ) -> Result<(Vec<A>, Vec<B>), LookFault>
     requires ours { IsOurs version (state S.Store conn.old) }
-    requires first { IsWhole version A.PlainRow.text A.PlainRow.tree A.PlainRow.columns A.PlainRow.cut }
-    requires second { IsWhole version B.PlainRow.text B.PlainRow.tree B.PlainRow.columns B.PlainRow.cut }
+    requires first { IsWhole version A.PlainRow.statement A.PlainRow.tree A.PlainRow.columns A.PlainRow.cut }
+    requires second { IsWhole version B.PlainRow.statement B.PlainRow.tree B.PlainRow.columns B.PlainRow.cut }
     ensures { ReadsPart version
-        (λ old new. TableFails A.PlainRow.text A.PlainRow.shown old new
-        ⊎ TableFails B.PlainRow.text B.PlainRow.shown old new)
+        (λ old new. TableFails A.PlainRow.statement A.PlainRow.shown old new
+        ⊎ TableFails B.PlainRow.statement B.PlainRow.shown old new)
         (λ two db.
         ArePlainRows A.PlainRow.columns A.PlainRow.shown two.0.items (db A.PlainRow.tree)
         × ArePlainRows B.PlainRow.columns B.PlainRow.shown two.1.items (db B.PlainRow.tree))
@@ -117,7 +117,7 @@ pub fn all_natural<L: Plain>(plain_rows: &[L]) -> bool
 
 /// The rows of the tables; those inside with their numbers.
 #[derive(Drop)]
-pub struct Tables {
+pub struct WholeTables {
     pub meta: Vec<PlainMeta>,
     pub kinds: Vec<PlainKind>,
     pub rooms: Vec<PlainRoom>,
@@ -194,7 +194,7 @@ pub fn read_tables<S: Alter>(
     alloc: Global,
     conn: &mut Connection<S>,
     version: Version,
-) -> Result<Tables, LookFault>
+) -> Result<WholeTables, LookFault>
     requires { IsOurs version (state S.Store conn.old) }
     ensures { ReadsTo version (AreRead version) (state S.Store conn.old) (state S.Store conn.new) result }
 {
@@ -203,7 +203,7 @@ pub fn read_tables<S: Alter>(
     let fits = read_fits(alloc, conn, version)?;
     let ((meta, kinds), (rooms, stays)) = first;
     let ((codes, cards), (inside, notes)) = last;
-    Ok(Tables {
+    Ok(WholeTables {
         meta,
         kinds,
         rooms,

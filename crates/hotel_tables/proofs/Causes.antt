@@ -18,7 +18,7 @@ use Rattle.hotel_statements.specs.Tables.{rows_in}
 use Rattle.hotel_statements.specs.Books.{IsKept}
 use Rattle.hotel_statements.specs.LookUps.{HasCause, LeavesNoMore}
 use Rattle.hotel_statements.specs.Failures.{BareRoomFails, FitFails}
-use Rattle.hotel_statements.specs.declared.look_ups.Known.{Known}
+use Rattle.hotel_statements.specs.declared.look_ups.RoomCounts.{RoomCounts}
 use Rattle.hotel_statements.specs.Statements.{Statement, RunsStatements}
 use Rattle.hotel_statements.proofs.Since.{unchanged_then}
 use Rattle.hotel_tables.specs.Applied.{known_after, told_for, known_for}
@@ -81,15 +81,15 @@ module _ {S : Type 0} (g : Ghosts S) where
       record { start = start; begun = begun; ended = ended; failed = inr (ran, survives, err) }
 
   -- what is told where nothing is looked up
-  abbrev nothing : Option Known
+  abbrev nothing : Option RoomCounts
   nothing = Some (record { codes = 0; notes = 0; before = 0 })
 
   -- can be counted on
-  untold : {known : Option Known} (count : Option Known → Option Known) → count nothing ≡ nothing → known ≡ nothing
-      → count known ≡ None → ⊥
+  untold : {known : Option RoomCounts} (count : Option RoomCounts → Option RoomCounts) → count nothing ≡ nothing
+      → known ≡ nothing → count known ≡ None → ⊥
   untold {known = known} count is told none = let no : nothing ≡ None = sym is ∙ ap count (sym told) ∙ none in cc
 
-  module _ (known : Option Known) (old new : Held S) where
+  module _ (known : Option RoomCounts) (old new : Held S) where
     -- where that can't be counted on, it was looked up
     pub shows_open : (c : Change) → known_after c known ≡ None → AsksTold g c known old new → HasCleanDisk (state g new)
         → IsKept (state g new)

@@ -2,7 +2,7 @@
 use Rattle.std.proofs.Common.{ℕ, ◌≡◌, ◌≤◌, ◌<◌, ◌⊎◌, inl, inr, Bool, true, false, List, [], Result, Ok, Err, Option}
 use Rattle.std.proofs.Common.{Some, None}
 use Rattle.std.proofs.Common.{◌+◌, nat_le, refl, ap, sym, ◌∙◌, subst, rules, arith}
-use Rattle.std.specs.Prelude.{IfErr, IfOk, OnErr, OnOk, IsTrue}
+use Rattle.std.specs.Prelude.{IfErr, IfOk, OnErr, OnOk, IsErrAnd, IsTrue}
 use Rattle.std.specs.Result.{IsErr, IsErrAnd}
 use Rattle.std.proofs.lemmas.Bool.Decides.{nat_tests}
 use Rattle.sqlite_disk.specs.Disk.{MoreFaults}
@@ -252,10 +252,11 @@ module _ {S : Type 0} (g : Ghosts S) (old new : Tabled S) (cause : LookFault)
 
   -- a walk, which hands no row over
   pub walked_in_vain : {K R : Type 0} {takes_memory : Bool} {after after_stop : K → R → K → Type 0} {rows : List R}
-      {sink : K} (fault : WalkFault) → failure_of (Err fault) ≡ Some cause
-      → WalksOver (over_tables g) takes_memory after after_stop rows old new sink sink (Err fault)
+      {sink : K} (result : Result (Unit {0}) WalkFault) → IsErrAnd result (λ fault. failure_of (Err fault) ≡ Some cause)
+      → WalksOver (over_tables g) takes_memory after after_stop rows old new sink sink result
+  walked_in_vain (Ok done) is = absurd is
   walked_in_vain {K = K} {R = R} {takes_memory = takes_memory} {after = after} {after_stop = after_stop} {rows = rows}
-      {sink = sink} fault is = record {
+      {sink = sink} (Err fault) is = record {
         hands = (rows, none_taken fault is, λ _. refl);
         looks = subst (λ told. Looks (over_tables g) takes_memory old told new) (sym is) vain_looks;
       }

@@ -20,12 +20,12 @@ use Rattle.hotel_statements.specs.Tables.{bare_rooms_in, rows_in, rows_of_versio
 use Rattle.hotel_statements.specs.Books.{IsKept, IsBooks, IsBooksOf, KeepsRows}
 use Rattle.hotel_statements.specs.Statements.{completes}
 use Rattle.hotel_statements.specs.WholeTables.{IsOurs, AreRead, ReadsTo}
-use Rattle.hotel_statements.specs.declared.whole_tables.Tables.{Tables}
+use Rattle.hotel_statements.specs.declared.whole_tables.WholeTables.{WholeTables}
 use Rattle.hotel_statements.specs.Upgrade.{AreRoomsIn, AreRoomsFor, IsWholeOf}
 use Rattle.hotel_statements.proofs.SameSchema.{tables_there, one_version, whole_is, not_whole}
 use Rattle.hotel_statements.proofs.Books.{desk_shown}
-use Rattle.hotel_tables.specs.declared.open_fault.OpenFault.{OpenFault}
-use Rattle.hotel_tables.specs.declared.open_fault.OpenFault.TheVariants as fault
+use Rattle.hotel_rows.specs.declared.open_fault.OpenFault.{OpenFault}
+use Rattle.hotel_rows.specs.declared.open_fault.OpenFault.TheVariants as fault
 use Rattle.hotel_tables.specs.declared.opening.Found.{Found}
 use Rattle.hotel_tables.specs.Applied.{LeavesAll}
 use Rattle.hotel_tables.specs.TableBooks.{IsCounted}
@@ -51,7 +51,8 @@ fits_in failed layout db why has fits other is =
 
 -- what is said of Memory over the tables of a version
 abbrev MemoryFits : (Version → Type 0) → State → State → Version → Type 0
-MemoryFits failed old new version = failed version ⊎ ((t : Tables) × ReadsTo version (AreRead version) old new (Ok t))
+MemoryFits failed old new version =
+    failed version ⊎ ((t : WholeTables) × ReadsTo version (AreRead version) old new (Ok t))
 
 memory_in : (failed : Version → Type 0) (layout : Layout) (old new : State) (why : OpenFault)
     → old.now.schema ≡ schema_of layout → (why ≡ fault.Memory → MemoryFits failed old new (version_of layout))
@@ -60,11 +61,12 @@ memory_in failed layout old new why has told memory other is =
     subst (MemoryFits failed old new) (one_version layout other old.now.schema has is) (told memory)
 
 -- a reading that failed is reported by its cause
-memory_read : (failed : Type 0) (version : Version) (old new : State) (why : OpenFault) (r : Result Tables LookFault)
+memory_read : (failed : Type 0) (version : Version) (old new : State) (why : OpenFault)
+    (r : Result WholeTables LookFault)
     → ReadsTo version (AreRead version) old new r
     → IfErr r (λ cause. ◌≡◌ {A = Result Found OpenFault} (Err why) (Err (fault_for cause)))
     → (FailsToRead version old new look.Memory → failed) → why ≡ fault.Memory
-    → failed ⊎ ((t : Tables) × ReadsTo version (AreRead version) old new (Ok t))
+    → failed ⊎ ((t : WholeTables) × ReadsTo version (AreRead version) old new (Ok t))
 memory_read failed version old new why (Ok t) reads told fails memory = inr (t, reads)
 memory_read failed version old new why (Err look.Memory) reads told fails memory = inl (fails reads)
 memory_read failed version old new why (Err look.Store) reads told fails memory =

@@ -30,7 +30,7 @@ use Rattle.hotel_model.proofs.Starts.StartRows.{notes_counted}
 use Rattle.hotel_model.proofs.Invariants.FitsKept.{fit_found}
 use Rattle.hotel_rows.proofs.OfJoined.{number_of_last}
 use Rattle.hotel_rows.specs.Joined.{FitEntries}
-use Rattle.hotel_statements.specs.declared.look_ups.Known.{Known}
+use Rattle.hotel_statements.specs.declared.look_ups.RoomCounts.{RoomCounts}
 use Rattle.hotel_statements.specs.Steps.{is_below, is_up_to, counts_to, IsNextFit, IsNewRoom, IsRefit, IsNewNote}
 use Rattle.hotel_statements.specs.Steps.{IsNumbered}
 use Rattle.hotel_statements.specs.LookUps.{known_by_room}
@@ -300,17 +300,17 @@ module _ (note : Note) (lock_place : ℕ) (secured : Bool) (insides : InsideMove
 -- ---- what is known for a change
 
 -- what is known is what a row tells
-known_row : {X : Type 0} (its_change : Change) (tells : X → Known) (o : Option X) (known : Known)
+known_row : {X : Type 0} (its_change : Change) (tells : X → RoomCounts) (o : Option X) (known : RoomCounts)
     → known_after its_change (option_map tells o) ≡ Some known → (x : X) × (o ≡ Some x) × (tells x ≡ known)
 known_row its_change tells (Some x) known e = (x, refl, by (can_count its_change (tells x)) e)
   where
     by : (b : Bool) → (if b then Some (tells x) else None) ≡ Some known → tells x ≡ known
     by true e = cc
     by false e = cc
-known_row its_change tells None known e = absurd (let w : ◌≡◌ {A = Option Known} None (Some known) = e in cc)
+known_row its_change tells None known e = absurd (let w : ◌≡◌ {A = Option RoomCounts} None (Some known) = e in cc)
 
 -- a row that is there tells it
-row_known : {X : Type 0} (its_change : Change) (tells : X → Known) (o : Option X) (x : X) → o ≡ Some x
+row_known : {X : Type 0} (its_change : Change) (tells : X → RoomCounts) (o : Option X) (x : X) → o ≡ Some x
     → can_count its_change (tells x) ≡ true → IsSome (known_after its_change (option_map tells o))
 row_known its_change tells o x there can =
     subst (λ found. IsSome (known_after its_change (option_map tells found))) (sym there)
@@ -325,7 +325,7 @@ below k n low = grind (arith, nat_tests)
 
 -- the room of a change that adds a code is known
 code_known : (its_change : Change) (rows : Rows) (room : ℕ)
-    → ((k : Known) → can_count its_change k ≡ nat_lt k.codes (2 ^ 32 - 1)) → IsSome (room_at rows room)
+    → ((k : RoomCounts) → can_count its_change k ≡ nat_lt k.codes (2 ^ 32 - 1)) → IsSome (room_at rows room)
     → codes_of rows room < 2 ^ 32 - 1 → IsSome (known_after its_change (option_map known_by_room (room_at rows room)))
 code_known its_change rows room can some few =
     let p = row_there (room_at rows room) some in
@@ -346,22 +346,22 @@ is_known (change.Noted note lock_place secured insides) rows fits =
     (below (f.0.before + note.count) (2 ^ 32) (subst (λ n. n + note.count < 2 ^ 32) (sym f.2) fits.0.2))
 is_known _ rows fits = refl
 
-pub is_known_by : (its_change : Change) (rows : Rows) → Fits its_change rows → (o : Option Known)
+pub is_known_by : (its_change : Change) (rows : Rows) → Fits its_change rows → (o : Option RoomCounts)
     → told_for its_change rows ≡ o → IsSome (known_after its_change o)
 is_known_by its_change rows fits o e = subst (λ found. IsSome (known_after its_change found)) e
     (is_known its_change rows fits)
 
 -- the statements of a change that fits have what they ask of the rows
-pub may_make : (its_change : Change) (known : Known) (rows : Rows) → Fits its_change rows
+pub may_make : (its_change : Change) (known : RoomCounts) (rows : Rows) → Fits its_change rows
     → known_for its_change rows ≡ Some known → MayMake its_change known rows
 may_make (change.Kind kind) known rows fits e = fits.0
 may_make (change.Room room kind code) known rows fits e = new_room room kind code rows fits
 may_make (change.Issue card room leaves) known rows fits e =
     let p = known_row (change.Issue card room leaves) known_by_room (room_at rows room) known e in
-    ap (λ o. said_of o 0 (λ (x : RoomRow). x.codes)) p.1 ∙ ap (λ (k : Known). k.codes) p.2
+    ap (λ o. said_of o 0 (λ (x : RoomRow). x.codes)) p.1 ∙ ap (λ (k : RoomCounts). k.codes) p.2
 may_make (change.Refit room code fit) known rows fits e =
     let p = known_row (change.Refit room code fit) known_by_room (room_at rows room) known e in
-    subst (λ (k : Known). IsRefit room fit k.codes k.notes rows) p.2
+    subst (λ (k : RoomCounts). IsRefit room fit k.codes k.notes rows) p.2
     (record {
       codes_are = ap (λ o. said_of o 0 (λ (x : RoomRow). x.codes)) p.1;
       notes_are = ap (λ o. said_of o 0 (λ (x : RoomRow). x.notes)) p.1;
@@ -374,7 +374,7 @@ may_make (change.Noted note lock_place secured insides) known rows fits e =
     known_row (change.Noted note lock_place secured insides) known_by_fit (fit_at rows note.room note.fit) known e in
     let same : f.0 ≡ k.0 = let w : Some f.0 ≡ Some k.0 = sym f.1 ∙ k.1 in cc in
     let before : before_in rows note.room ≡ known.before =
-    sym f.2 ∙ ap (λ (x : FitRow). x.before) same ∙ ap (λ (x : Known). x.before) k.2 in
+    sym f.2 ∙ ap (λ (x : FitRow). x.before) same ∙ ap (λ (x : RoomCounts). x.before) k.2 in
     let is = number_is note lock_place secured insides rows p.0 p.1 fits in
     subst (λ n. IsNumbered note n rows) (sym is ∙ ap (λ n. n + note.count) before)
     (record { number_is = is; note_new = new_note note lock_place secured insides rows p.0 p.1 fits })

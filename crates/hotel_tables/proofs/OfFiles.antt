@@ -16,7 +16,7 @@ use Rattle.sqlite.specs.Files.{file_state, IsClosed, FailsToClose}
 use Rattle.sqlite.specs.Closing.{IsCopied}
 use Rattle.hotel_model.specs.Rows.{no_rows}
 use Rattle.hotel_model.proofs.OfTables.RowTests.{both}
-use Rattle.hotel_tables.specs.declared.open_fault.OpenFault.{OpenFault}
+use Rattle.hotel_rows.specs.declared.open_fault.OpenFault.{OpenFault}
 use Rattle.hotel_tables.specs.TableBooks.{Tabled}
 use Rattle.hotel_statements.specs.declared.version.Version.{Version}
 use Rattle.hotel_statements.specs.declared.version.Version.TheVariants.{First, Second}

@@ -44,10 +44,10 @@ use Rattle.hotel_rows.specs.declared.stored.PlainRoom.{PlainRoom}
 use Rattle.hotel_rows.specs.declared.stored.PlainFit.{PlainFit}
 use Rattle.hotel_rows.specs.declared.stored.PlainInside.{PlainInside}
 use Rattle.hotel_rows.specs.declared.stored.Stored.{Stored}
-use Rattle.hotel_statements.specs.declared.whole_tables.Tables.{Tables}
+use Rattle.hotel_statements.specs.declared.whole_tables.WholeTables.{WholeTables}
 use Rattle.hotel_tables.specs.declared.opening.Found.{Found}
-use Rattle.hotel_tables.specs.declared.open_fault.OpenFault.{OpenFault}
-use Rattle.hotel_tables.specs.declared.open_fault.OpenFault.TheVariants as fault
+use Rattle.hotel_rows.specs.declared.open_fault.OpenFault.{OpenFault}
+use Rattle.hotel_rows.specs.declared.open_fault.OpenFault.TheVariants as fault
 use Rattle.hotel_statements.specs.Trees.{meta_tree, kind_tree, room_tree, stay_tree, code_tree, card_tree, inside_tree}
 use Rattle.hotel_statements.specs.Trees.{note_tree, fit_tree}
 use Rattle.hotel_statements.specs.Columns.{meta_columns, meta_of, meta_written, kind_columns, kind_of, kind_written}
@@ -132,7 +132,7 @@ stored_meta {in_order} {version} s db stored =
     one_row (number_of_version version) (maybe s.day) (db meta_tree) stored.meta
 
 -- and so have those that were read
-meta_only : (of : Version) (t : Tables) (db : Trees) (plain : PlainMeta) → AreRead of t db
+meta_only : (of : Version) (t : WholeTables) (db : Trees) (plain : PlainMeta) → AreRead of t db
     → IsMetaRow of t.meta.items plain
     → map meta_columns (db meta_tree) ≡ (Int (pos 1) ∷ Int (pos (number_of_version of)) ∷ maybe plain.day ∷ []) ∷ []
 meta_only of t db plain read meta =
@@ -143,7 +143,7 @@ meta_only of t db plain read meta =
     only ∙ ap (λ n. (Int n ∷ Int plain.version ∷ maybe plain.day ∷ []) ∷ []) meta.1
     ∙ ap (λ n. (Int (pos 1) ∷ Int n ∷ maybe plain.day ∷ []) ∷ []) meta.2
 
-pub read_meta : (of : Version) (t : Tables) (db : Trees) (plain : PlainMeta) → AreRead of t db
+pub read_meta : (of : Version) (t : WholeTables) (db : Trees) (plain : PlainMeta) → AreRead of t db
     → IsMetaRow of t.meta.items plain → HasMetaRow of db
 read_meta of t db plain read meta =
     one_row (number_of_version of) (maybe plain.day) (db meta_tree) (meta_only of t db plain read meta)
@@ -231,7 +231,7 @@ inside_plain_rows plain_rows rows same =
     (subst (λ xs. IsPermutation xs (map last_two (map numbered_shown plain_rows)))
     (fused last_two numbered_columns rows) (IsPermutation-map last_two _ _ same))
 
-pub stored_are : {in_order : Bool} {of : Version} (t : Tables) (db : Trees) (plain : PlainMeta)
+pub stored_are : {in_order : Bool} {of : Version} (t : WholeTables) (db : Trees) (plain : PlainMeta)
     (inside : Vec PlainInside Global) → AreRead of t db → IsMetaRow of t.meta.items plain
     → inside.items ≡ map plain_inside t.inside.items
     → let s : Stored = record {
@@ -509,7 +509,7 @@ always : {A : Type 0} {P : Type 0} (r : Result A OpenFault) → P → OnOk r P
 always (Ok a) p = p
 always (Err e) p = tt
 
-pub opens_to : {version : Version} (old new : State) (t : Tables) (result : Result Found OpenFault)
+pub opens_to : {version : Version} (old new : State) (t : WholeTables) (result : Result Found OpenFault)
     → ReadsTo version (AreRead version) old new (Ok t)
     → ((db : Trees) → AreRead version t db → IfOk result (λ found. IsFound version found db))
     → ((db : Trees) → AreRead version t db → IfErr result (FaultFits ⊥ version db)) → Opens version old new result

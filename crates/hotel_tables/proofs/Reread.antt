@@ -40,8 +40,8 @@ use Rattle.hotel_rows.specs.declared.stored.PlainInside.{PlainInside}
 use Rattle.hotel_rows.specs.declared.stored.PlainNote.{PlainNote}
 use Rattle.hotel_rows.specs.declared.stored.PlainFit.{PlainFit}
 use Rattle.hotel_rows.specs.declared.stored.Stored.{Stored}
-use Rattle.hotel_tables.specs.declared.open_fault.OpenFault.{OpenFault}
-use Rattle.hotel_tables.specs.declared.open_fault.OpenFault.TheVariants as fault
+use Rattle.hotel_rows.specs.declared.open_fault.OpenFault.{OpenFault}
+use Rattle.hotel_rows.specs.declared.open_fault.OpenFault.TheVariants as fault
 use Rattle.hotel_statements.specs.Trees.{meta_tree, room_tree, stay_tree, code_tree, card_tree, inside_tree, note_tree}
 use Rattle.hotel_statements.specs.Trees.{fit_tree}
 use Rattle.hotel_statements.specs.Values.{int, maybe_int}

@@ -14,11 +14,11 @@ use Rattle.hotel_model.specs.Rows.{Rows, has_kind, fit_at}
 use Rattle.hotel_statements.specs.Tables.{rows_in}
 use Rattle.hotel_statements.specs.Books.{IsBooks, IsKept}
 use Rattle.hotel_statements.specs.Steps.{IsMadeOf, IsNewRoom, IsRefit, IsNumbered}
-use Rattle.hotel_statements.specs.declared.look_ups.Known.{Known}
+use Rattle.hotel_statements.specs.declared.look_ups.RoomCounts.{RoomCounts}
 use Rattle.hotel_statements.specs.LookUps.{known_by_room}
 
 -- what the statements of a change ask of the rows, where this is known of its room
-abbrev pub MayMake : Change → Known → Rows → Type 0
+abbrev pub MayMake : Change → RoomCounts → Rows → Type 0
 MayMake (Kind kind) known rows = has_kind rows kind ≡ false
 MayMake (Room room kind code) known rows = IsNewRoom room rows
 MayMake (Issue card room leaves) known rows = codes_of rows room ≡ known.codes
@@ -27,29 +27,29 @@ MayMake (Noted note lock_place secured insides) known rows = IsNumbered note (kn
 MayMake _ known rows = Unit {0}
 
 -- what the row of a fit tells the statements of a change
-abbrev pub known_by_fit : FitRow → Known
+abbrev pub known_by_fit : FitRow → RoomCounts
 known_by_fit fit = record { codes = 0; notes = 0; before = fit.before }
 
 -- what the row of a change's room, or of its note's fit, tells: nothing, where the change adds no code and no note
-abbrev pub told_for : Change → Rows → Option Known
+abbrev pub told_for : Change → Rows → Option RoomCounts
 told_for (Issue card room leaves) rows = option_map known_by_room (room_at rows room)
 told_for (Refit room code fit) rows = option_map known_by_room (room_at rows room)
 told_for (Noted note lock_place secured insides) rows = option_map known_by_fit (fit_at rows note.room note.fit)
 told_for _ rows = Some (record { codes = 0; notes = 0; before = 0 })
 
 -- one more code can be counted at the room of a change that adds one, or the number of the note that one adds
-abbrev pub can_count : Change → Known → Bool
+abbrev pub can_count : Change → RoomCounts → Bool
 can_count (Issue card room leaves) known = nat_lt known.codes (2 ^ 32 - 1)
 can_count (Refit room code fit) known = nat_lt known.codes (2 ^ 32 - 1)
 can_count (Noted note lock_place secured insides) known = nat_lt (known.before + note.count) (2 ^ 32)
 can_count _ known = true
 
 -- what was told, where the change can count on from it
-abbrev pub known_after : Change → Option Known → Option Known
+abbrev pub known_after : Change → Option RoomCounts → Option RoomCounts
 known_after change o = said_of o None (λ known. if can_count change known then Some known else None)
 
 -- What is known for a change: none, where the row that tells it isn't there, or where what is added can't be counted.
-abbrev pub known_for : Change → Rows → Option Known
+abbrev pub known_for : Change → Rows → Option RoomCounts
 known_for change rows = known_after change (told_for change rows)
 
 -- A change, of the books' connection from old to new, which answers: it is made whole or not at all, and a crash leaves

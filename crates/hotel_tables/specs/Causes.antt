@@ -10,7 +10,7 @@ use Rattle.hotel_model.specs.declared.change.Change.{Change}
 use Rattle.hotel_model.specs.declared.change.Change.TheVariants.{Cancelled, Issue, CheckedOut, Refit, Noted}
 use Rattle.hotel_statements.specs.Tables.{rows_in}
 use Rattle.hotel_statements.specs.LookUps.{fault_of, LeavesNoMore}
-use Rattle.hotel_statements.specs.declared.look_ups.Known.{Known}
+use Rattle.hotel_statements.specs.declared.look_ups.RoomCounts.{RoomCounts}
 use Rattle.hotel_statements.specs.Statements.{Statement, RunsStatements, statements_of}
 use Rattle.hotel_statements.specs.Failures.{BareRoomFails}
 use Rattle.hotel_statements.specs.Failures.{DayFails, KindFails, RoomFails, FitFails, StayFails, StaysFail, CodeFails}
@@ -79,7 +79,7 @@ module _ {S : Type 0} (g : Ghosts S) where
   AsksEnded _ old new = new ≡ old
 
   -- what a change is told was looked up; nothing was, where it adds no code and no note
-  abbrev pub AsksTold : Change → Option Known → Held S → Held S → Type 0
+  abbrev pub AsksTold : Change → Option RoomCounts → Held S → Held S → Type 0
   AsksTold (Issue card room leaves) known old new = IsAsked old new
   AsksTold (Refit room code fit) known old new = IsAsked old new
   AsksTold (Noted note lock_place secured insides) known old new = IsAsked old new
@@ -101,7 +101,7 @@ module _ {S : Type 0} (g : Ghosts S) where
     pub begins : Held S
     pub asked : (begins ≡ old) ⊎ IsAsked old begins
     -- what its statements are told
-    pub known : Known
+    pub known : RoomCounts
     pub is_known : known_for change (rows_in (state g old).now.trees) ≡ Some known
     pub error : Error
     pub is_store : fault_of error ≡ why.Store

@@ -9,7 +9,7 @@ use Rattle.hotel_statements.specs.LookUps.{fault_of}
 use Rattle.hotel_statements.specs.NewDesk.{IsEmptyDesk}
 use Rattle.hotel_statements.specs.Statements.{Statement, adds_meta, makes_first, makes_last, completes}
 use Rattle.hotel_statements.specs.Upgrade.{AreRoomsIn}
-use Rattle.hotel_tables.specs.declared.open_fault.OpenFault.{OpenFault}
+use Rattle.hotel_rows.specs.declared.open_fault.OpenFault.{OpenFault}
 use Rattle.hotel_statements.specs.declared.version.Version.{Version}
 use Rattle.hotel_statements.specs.declared.version.Layout.{Layout}
 use Rattle.keycard_rules.specs.declared.issued.LookFault.{LookFault}

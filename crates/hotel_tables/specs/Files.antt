@@ -19,10 +19,10 @@ use Rattle.sqlite.specs.Files.{IsCleanLeft, FailsToOpenFiles, LeavesFiles}
 use Rattle.sqlite.specs.Closing.{IsCopied}
 use Rattle.hotel_model.specs.Rows.{no_rows}
 use Rattle.hotel_model.specs.Sound.{IsSound}
-use Rattle.hotel_tables.specs.declared.open_fault.OpenFault.{OpenFault}
-use Rattle.hotel_tables.specs.declared.open_fault.OpenFault.TheVariants as fault
-use Rattle.hotel_tables.specs.declared.files.FileFault.{FileFault}
-use Rattle.hotel_tables.specs.declared.files.FileFault.TheVariants.{File, Desk}
+use Rattle.hotel_rows.specs.declared.open_fault.OpenFault.{OpenFault}
+use Rattle.hotel_rows.specs.declared.open_fault.OpenFault.TheVariants as fault
+use Rattle.hotel_rows.specs.declared.open_fault.FileFault.{FileFault}
+use Rattle.hotel_rows.specs.declared.open_fault.FileFault.TheVariants.{File, Desk}
 use Rattle.hotel_statements.specs.Schema.{no_schema}
 use Rattle.hotel_statements.specs.Books.{IsKept}
 use Rattle.hotel_statements.specs.Tables.{rows_in}

@@ -28,8 +28,8 @@ use Rattle.hotel_statements.specs.PlainRows.{kind_order, room_order, stay_order,
 use Rattle.hotel_statements.specs.PlainRows.{note_order, fit_order}
 use Rattle.hotel_statements.specs.PlainRows.{may_be_natural, room_natural, stay_natural, code_natural, card_natural}
 use Rattle.hotel_statements.specs.PlainRows.{inside_natural, note_natural, fit_natural}
-use Rattle.hotel_tables.specs.declared.open_fault.OpenFault.{OpenFault}
-use Rattle.hotel_tables.specs.declared.open_fault.OpenFault.TheVariants as fault
+use Rattle.hotel_rows.specs.declared.open_fault.OpenFault.{OpenFault}
+use Rattle.hotel_rows.specs.declared.open_fault.OpenFault.TheVariants as fault
 use Rattle.hotel_tables.specs.declared.opening.Found.{Found}
 use Rattle.hotel_rows.specs.declared.counts.Counts.{Counts}
 use Rattle.hotel_rows.specs.declared.stored.PlainFit.{PlainFit}
@@ -46,7 +46,7 @@ use Rattle.hotel_statements.specs.Tables.{rows_of_version}
 use Rattle.hotel_statements.specs.Books.{IsKept, IsBooks, IsDeskOf, KeepsRows}
 use Rattle.hotel_statements.specs.LookUps.{LeavesNoMore}
 use Rattle.hotel_statements.specs.WholeTables.{IsOurs, AreFitRows, AreRead, ReadsTo}
-use Rattle.hotel_statements.specs.declared.whole_tables.Tables.{Tables}
+use Rattle.hotel_statements.specs.declared.whole_tables.WholeTables.{WholeTables}
 use Rattle.hotel_statements.specs.Upgrade.{AreRoomsFor, IsWholeOf}
 use Rattle.hotel_tables.specs.Applied.{LeavesAll}
 use Rattle.hotel_tables.specs.TableBooks.{IsCounted}
@@ -125,7 +125,7 @@ HasMetaRow version db =
 -- one number, a table isn't in the order of its key, or a number is below 0 though no table is damaged.
 abbrev pub IsUnshown : Version → Trees → Type 0
 IsUnshown version db =
-    ((t : Tables) × AreRead version t db × (¬ AreApart int_cmp (map id_inside t.inside.items)))
+    ((t : WholeTables) × AreRead version t db × (¬ AreApart int_cmp (map id_inside t.inside.items)))
     ⊎ (((s : Stored) × AreStoredAs false version s db)
     ⊎ ((s : Stored) × AreStored version s db × (first_damaged_of s ≡ None) × (all_natural s ≡ false)))
 
@@ -153,7 +153,7 @@ abbrev pub MemoryFitsIn : (Version → Type 0) → State → State → OpenFault
 MemoryFitsIn failed old new why =
     why ≡ fault.Memory → (layout : Layout) → old.now.schema ≡ schema_of layout
     → failed (version_of layout)
-    ⊎ ((t : Tables) × ReadsTo (version_of layout) (AreRead (version_of layout)) old new (Ok t))
+    ⊎ ((t : WholeTables) × ReadsTo (version_of layout) (AreRead (version_of layout)) old new (Ok t))
 
 -- the database is laid out as a desk's: it has the tables of one of the versions, and the first ones of our indexes
 abbrev pub IsLaidOut : Schema → Type 0
@@ -234,7 +234,7 @@ pub record Opens (version : Version) (old new : State) (result : Result Found Op
   pub found : IsKept new → IfOk result (λ found. IsFound version found old.now.trees)
   pub fault : HasCleanDisk new → IfErr result (FaultFits (FailsToRead version old new look.Store) version old.now.trees)
   -- a reading that failed is reported by its cause
-  pub reading : (r : Result Tables LookFault) × ReadsTo version (AreRead version) old new r
+  pub reading : (r : Result WholeTables LookFault) × ReadsTo version (AreRead version) old new r
       × IfErr r (λ why. result ≡ Err (fault_for why))
   pub open_on : HasCleanDisk new → OnOk result (IsTrue new.is_open)
   pub crash : LeavesNoMore old new

@@ -23,7 +23,7 @@ use hotel_statements::issue::issue;
 use hotel_statements::lock_notes::take_note;
 use hotel_statements::refits::refit;
 use hotel_statements::steps::{insert_card, insert_kind, insert_stay, set_day, set_state};
-use hotel_statements::{Known, fault_of, look_ups};
+use hotel_statements::{RoomCounts, fault_of, look_ups};
 use keycard_rules::{FitNo, LookFault, RoomNo};
 use sqlite::{Alter, Connection, Error, Transaction};
 use std::alloc::Global;
@@ -32,7 +32,7 @@ use std::alloc::Global;
 fn write_change<S: Alter>(
     tx: &mut Transaction<'_, S>,
     change: &Change,
-    known: Known,
+    known: RoomCounts,
 ) -> Result<(), Error>
     requires { can_count change.now known ≡ true }
     ensures same_reference { tx.new.conn.ghost_name ≡ tx.old.conn.ghost_name }
@@ -68,7 +68,7 @@ fn write_change<S: Alter>(
 fn make_change<S: Alter>(
     conn: &mut Connection<S>,
     change: &Change,
-    known: Known,
+    known: RoomCounts,
 ) -> Result<(), Error>
     requires books { IsBooks (state S.Store conn.old) }
     requires counted { can_count change.now known ≡ true }
@@ -91,7 +91,7 @@ fn make_change<S: Alter>(
 }
 
 /// Whether one more code can be counted at the room of a change that adds one, or the number of a note that one adds.
-fn can_count(change: &Change, known: Known) -> bool
+fn can_count(change: &Change, known: RoomCounts) -> bool
     ensures { result ≡ can_count change.now known }
 {
     match change {
@@ -108,7 +108,7 @@ fn known_by_fit<S: Alter>(
     conn: &mut Connection<S>,
     room: RoomNo,
     number: FitNo,
-) -> Result<Option<Known>, LookFault>
+) -> Result<Option<RoomCounts>, LookFault>
     requires { IsBooks (state S.Store conn.old) }
     ensures { Selects (FitFails room number) (λ known. known)
         (λ rows. option_map known_by_fit (fit_at rows room number))
@@ -117,7 +117,7 @@ fn known_by_fit<S: Alter>(
     let Some(fit) = look_ups::fit(alloc, conn, room, number)? else {
         return Ok(None);
     };
-    Ok(Some(Known {
+    Ok(Some(RoomCounts {
         codes: 0,
         notes: 0,
         before: fit.before,
@@ -131,7 +131,7 @@ fn told_for<S: Alter>(
     alloc: Global,
     conn: &mut Connection<S>,
     change: &Change,
-) -> Result<Option<Known>, LookFault>
+) -> Result<Option<RoomCounts>, LookFault>
     requires { IsBooks (state S.Store conn.old) }
     ensures looks { MayLook (λ known. known) (told_for change.now) (state S.Store conn.old)
         (state S.Store conn.new) result }
@@ -143,7 +143,7 @@ fn told_for<S: Alter>(
         Change::Issue { room, .. } => look_ups::known_by_room(alloc, conn, *room),
         Change::Refit { room, .. } => look_ups::known_by_room(alloc, conn, *room),
         Change::Noted { note, .. } => known_by_fit(alloc, conn, note.room, note.fit),
-        _ => Ok(Some(Known {
+        _ => Ok(Some(RoomCounts {
             codes: 0,
             notes: 0,
             before: 0,
@@ -158,7 +158,7 @@ fn known_for<S: Alter>(
     alloc: Global,
     conn: &mut Connection<S>,
     change: &Change,
-) -> Result<Option<Known>, LookFault>
+) -> Result<Option<RoomCounts>, LookFault>
     requires books { IsBooks (state S.Store conn.old) }
     requires fits { IsKept (state S.Store conn.old) → Fits change.now (rows_in (state S.Store conn.old).now.trees) }
     ensures looks { MayLook (λ known. known) (known_for change.now) (state S.Store conn.old)

@@ -8,14 +8,14 @@ ghost use Rattle.hotel_statements.specs.Books.{IsKept, IsBooks};
 ghost use Rattle.hotel_statements.specs.NewDesk.{IfOpen, IsBare, IsMade, IsEmptyDesk};
 ghost use Rattle.hotel_statements.specs.Statements.{MakesBy};
 ghost use Rattle.hotel_statements.specs.Tables.{rows_in};
-ghost use Rattle.hotel_tables.specs.declared.open_fault.OpenFault.TheVariants.{NotADesk};
+ghost use Rattle.hotel_rows.specs.declared.open_fault.OpenFault.TheVariants.{NotADesk};
 ghost use Rattle.hotel_tables.specs.Causes.{FailsToWrite};
 ghost use Rattle.hotel_tables.specs.Exits.{makes_desk, LeavesBare};
 
-use crate::open_fault::OpenFault;
 use crate::opening::open_fault;
 use crate::table_books::TableBooks;
 use hotel_core::{KindRooms, NightIndex};
+use hotel_rows::OpenFault;
 use hotel_statements::fault_of;
 use hotel_statements::new_desk::{enter_meta, make_first, make_last};
 use sqlite::{Alter, Connection, Error, Transaction};

@@ -3,11 +3,11 @@ ghost use Rattle.std.specs.Prelude.{◌≡◌, ℕ, true, None, IfOk, IfErr, IfS
 ghost use Rattle.sqlite.specs.Held.{state};
 ghost use Rattle.sqlite.specs.Steps.{over_memory};
 ghost use Rattle.hotel_statements.specs.Schema.{first_schema, desk_schema, with_indexes, schema_of};
-ghost use Rattle.hotel_tables.specs.declared.open_fault.OpenFault.TheVariants as fault;
+ghost use Rattle.hotel_rows.specs.declared.open_fault.OpenFault.TheVariants as fault;
 ghost use Rattle.hotel_tables.specs.Opening.{IsLaidOut, IsNoDesk};
 
 use crate::create::make_desk;
-use crate::open_fault::OpenFault;
+use hotel_rows::OpenFault;
 use hotel_statements::same_schema::same_front;
 use hotel_statements::{INDEXES, Layout};
 use keycard_rules::Memory;

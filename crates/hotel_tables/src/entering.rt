@@ -7,9 +7,8 @@ ghost use Rattle.hotel_tables.specs.Opening.{Enters};
 ghost use Rattle.hotel_tables.specs.Exits.{CallFails};
 
 use crate::migration::migrate;
-use crate::open_fault::OpenFault;
 use crate::opening::{find_counts, open_fault};
-use hotel_rows::Counts;
+use hotel_rows::{Counts, OpenFault};
 use hotel_statements::{Layout, fault_of};
 use sqlite::{Alter, Connection};
 use std::alloc::Global;

@@ -6,9 +6,9 @@ ghost use Rattle.hotel_tables.specs.Files.{file_fault, AreBooksOf, IsWhyNone, Is
 ghost use Rattle.hotel_tables.specs.Files.{HoldBooks, LeavesLog, FailsToCopy};
 
 use crate::create::is_bare;
-use crate::open_fault::OpenFault;
 use crate::path_disk::PathDisk;
 use crate::table_books::TableBooks;
+use hotel_rows::{FileFault, OpenFault};
 use sqlite::{Alter, Connection, Error, ErrorCode, FileStore, Files, Leftover, Options};
 use sqlite_disk::Disk;
 use std::alloc::Global;
@@ -17,15 +17,6 @@ use std::hash::{BuildHasher, RandomState};
 /// How many pages the log has before it is copied into the database's file: 16 MB. Each copying writes a page once,
 /// however often the log has it, so that a longer log copies fewer pages for each change.
 const CHECKPOINT_FRAMES: usize = 4_000;
-
-/// Why a file gave no books.
-#[derive(Clone, Copy, Debug, PartialEq, Eq)]
-pub enum FileFault {
-    /// It can't be opened: it is no plain file, may not be read or written, or another program has it.
-    File,
-    /// It was opened, and what it has gave no books.
-    Desk(OpenFault),
-}
 
 /// The fault of a file that couldn't be opened as a database.
 fn file_fault(error: Error) -> FileFault

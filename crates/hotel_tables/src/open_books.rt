@@ -10,8 +10,8 @@ ghost use Rattle.hotel_tables.specs.Exits.{LeavesDatabase};
 
 use crate::desk_schema::layout_of;
 use crate::entering::enter;
-use crate::open_fault::OpenFault;
 use crate::table_books::TableBooks;
+use hotel_rows::OpenFault;
 use sqlite::{Alter, Connection};
 use std::alloc::Global;
 

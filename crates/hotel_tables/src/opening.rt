@@ -12,16 +12,17 @@ ghost use Rattle.hotel_rows.specs.RowTests.{is_room_number};
 ghost use Rattle.hotel_statements.specs.declared.version.Version.{Version};
 ghost use Rattle.hotel_statements.specs.Tables.{AreApart, number_of_version};
 ghost use Rattle.hotel_statements.specs.WholeTables.{IsOurs, AreRead};
-ghost use Rattle.hotel_tables.specs.declared.open_fault.OpenFault.TheVariants.{NotADesk};
+ghost use Rattle.hotel_rows.specs.declared.open_fault.OpenFault.TheVariants.{NotADesk};
 ghost use Rattle.hotel_tables.specs.Opening.{AreStored, AreApartInside, IsMetaRow, IsFound, FaultFits, Opens, LacksRow};
 ghost use Rattle.hotel_tables.specs.Opening.{fits_rise, fits_natural, all_rise, all_natural, plain_inside, id_inside};
 ghost use Rattle.hotel_tables.specs.Opening.{fault_for, rooms_for};
 
-use crate::open_fault::OpenFault;
-use hotel_rows::{Counts, PlainFit, PlainInside, PlainRoom, Stored, counts_if_sound, rooms_of};
+use hotel_rows::{
+    Counts, OpenFault, PlainFit, PlainInside, PlainRoom, Stored, counts_if_sound, rooms_of,
+};
 use hotel_statements::Version;
 use hotel_statements::plain_rows::{self, NumberedInside, PlainMeta};
-use hotel_statements::whole_tables::{self, Tables, read_tables, rise};
+use hotel_statements::whole_tables::{self, WholeTables, read_tables, rise};
 use keycard_rules::{LookFault, Memory, RoomNo};
 use sqlite::{Alter, Connection};
 use std::alloc::Global;
@@ -51,7 +52,7 @@ fn meta_row(meta: &[PlainMeta], version: Version) -> Result<PlainMeta, OpenFault
 }
 
 /// The one row of meta; without it the tables are no desk's.
-fn meta_of(tables: &Tables, version: Version) -> Result<PlainMeta, OpenFault>
+fn meta_of(tables: &WholeTables, version: Version) -> Result<PlainMeta, OpenFault>
     ensures ok { IfOk result (IsMetaRow version tables.now.meta.items) }
     ensures err { (db : Trees) → AreRead version tables.now db → IfErr result (FaultFits ⊥ version db) }
 {
@@ -156,7 +157,7 @@ fn all_natural(stored: &Stored) -> bool
 /// The rows of the tables, where meta has its one row and each table is in the order of its key.
 ///
 /// Rows that aren't in order, which no query shows, are a failure of the store.
-fn stored_of(alloc: Global, tables: Tables, version: Version) -> Result<Stored, OpenFault>
+fn stored_of(alloc: Global, tables: WholeTables, version: Version) -> Result<Stored, OpenFault>
     ensures ok { (db : Trees) → AreRead version tables db
         → IfOk result (λ s. AreStored version s db × AreApartInside db) }
     ensures err { (db : Trees) → AreRead version tables db → IfErr result (FaultFits ⊥ version db) }
@@ -237,7 +238,7 @@ pub(crate) struct Found {
 }
 
 /// What is found in tables that a desk of a version may have, where none is damaged.
-fn found_in(alloc: Global, tables: Tables, version: Version) -> Result<Found, OpenFault>
+fn found_in(alloc: Global, tables: WholeTables, version: Version) -> Result<Found, OpenFault>
     ensures ok { (db : Trees) → AreRead version tables db → IfOk result (λ found. IsFound version found db) }
     ensures err { (db : Trees) → AreRead version tables db → IfErr result (FaultFits ⊥ version db) }
 {

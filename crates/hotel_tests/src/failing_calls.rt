@@ -41,7 +41,7 @@ struct Asked {
     input: &'static [u8],
     /// How many reads it takes, of one byte each. That of a script's end is one of them.
     reads: u32,
-    /// Behind how many of them a front of the answer is written, and of how many bytes.
+    /// Behind how many of them a prefix of the answer is written, and of how many bytes.
     early: (u32, usize),
     /// Behind how many bytes of the answer each command and list was carried out.
     starts: &'static [usize],

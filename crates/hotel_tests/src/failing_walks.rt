@@ -37,7 +37,7 @@ static ALL_LISTS: [&[u8]; 14] = [
 /// A desk of which each list has rows.
 fn listed_desk(alloc: Global) -> Result<Desk, Fail> {
     let mut desk = Desk::of_codes(alloc, &[0xa0, 0xb0, 0xa1, 0xa2, 0xb1])?;
-    desk.told_each(&ALL_LISTS)?;
+    desk.do_lines(&ALL_LISTS)?;
     Ok(desk)
 }
 

@@ -1,5 +1,5 @@
-//! Tests of the crates that need no tables, in a crate of their own: so none of those is proved a second time with its
-//! tests. `hotel_stored_tests` has those over tables; `hotel_scenarios` has what both are made of.
+//! Tests that need no tables. They are in a crate of their own, since the gate proves a crate with tests twice.
+//! `hotel_client` has the tests over tables, and `hotel_scenarios` what both crates share.
 #![tactic(auto)]
 
 #[cfg(test)]

@@ -8,6 +8,7 @@ pub mod Since
 pub mod Leaves
 pub mod Calls
 pub mod Draw
+pub mod Faults
 pub mod Note
 pub mod Chain
 pub mod ListedWords

@@ -1,5 +1,5 @@
-//! Codes, cards and locks: the two-code rule of a door that stands alone, one room's chain of codes, and the drawing of
-//! codes. No guest and no stay is known here; the day of a note is a plain number.
+//! Codes, cards and locks: the two-code rule of a lock without a network, one room's chain of codes, and the drawing of
+//! codes. The crate knows no guest and no stay; the day of a note is a plain number.
 //!
 //! - src: lock, chain, draw, note, card, code, numbers: the rules, each with its file of specs or its contract. kept:
 //!   what is known of issued codes, with its laws (`Kept`). issued: the one call that asks for them (`Issued`).
@@ -12,6 +12,7 @@ mod card;
 mod chain;
 mod code;
 mod draw;
+mod faults;
 mod issued;
 mod kept;
 mod laws;

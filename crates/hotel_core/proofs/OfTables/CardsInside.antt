@@ -103,7 +103,7 @@ known_inside (e ∷ es) room number =
 
 -- ---- any card
 
--- of a front of pairs there is a first one where there is any card
+-- of a prefix of pairs there is a first one where there is any card
 pub any_first : {A : Type 0} (shows : A → ℕ × ℕ) (pairs rest : List (ℕ × ℕ)) (first : Option A)
     → TakesFirst shows pairs first rest → is_some first ≡ not (are_none (map (λ (p : ℕ × ℕ). p.1) pairs))
 any_first shows pairs rest (Some e) h = ap (λ (es : List (ℕ × ℕ)). not (are_none (map (λ (p : ℕ × ℕ). p.1) es))) (sym h)

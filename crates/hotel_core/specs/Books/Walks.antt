@@ -1,22 +1,22 @@
 -- What a walk over the rows of a list hands to a sink.
-use Rattle.std.specs.Prelude.{◌≡◌, Bool, List, ◌∷◌, ◌++◌, Result, Ok, Err, Option, Some, None}
+use Rattle.std.specs.Prelude.{ℕ, ◌≡◌, Bool, List, ◌∷◌, ◌++◌, Result, Ok, Err, Option, Some, None, codes}
 use Rattle.keycard_rules.specs.{declared.issued.LookFault.LookFault, Leaves.Looks, Calls.Passes}
 use Rattle.keycard_rules.specs.{declared.kept.Kept.Ghosts as KeptOf}
 use Rattle.keycard_rules.specs.declared.issued.LookFault.TheVariants as look
 use Rattle.hotel_core.specs.declared.books.walks.WalkFault.{WalkFault}
 use Rattle.hotel_core.specs.declared.books.walks.WalkFault.TheVariants as why
 
--- The sink took a front of the rows, one after the other, and went from one meaning to another along them.
+-- The sink took a prefix of the rows, one after the other, and went from one meaning to another along them.
 abbrev pub TakesFront : {S R : Type 0} → (S → R → S → Type 0) → List R → S → S → Type 0
 TakesFront {R = R} after rows sink end = (taken : List R) × (rest : List R) × (rows ≡ taken ++ rest)
     × Passes after sink taken end
 
--- The sink took a front of the rows, and stopped at the row after them.
+-- The sink took a prefix of the rows, and stopped at the row after them.
 abbrev pub StopsAt : {S R : Type 0} → (S → R → S → Type 0) → (S → R → S → Type 0) → List R → S → S → Type 0
 StopsAt {S = S} {R = R} after after_stop rows sink end = (taken : List R) × (row : R) × (rest : List R)
     × (rows ≡ taken ++ row ∷ rest) × (last : S) × Passes after sink taken last × after_stop last row end
 
--- What the sink took: all rows, or those before the one at which it stopped; or a front of them, where memory or the
+-- What the sink took: all rows, or those before the one at which it stopped; or a prefix of them, where memory or the
 -- store failed.
 abbrev pub Hands : {S R : Type 0} → (S → R → S → Type 0) → (S → R → S → Type 0) → List R → S → S
     → Result (Unit {0}) WalkFault → Type 0
@@ -24,6 +24,12 @@ Hands after after_stop rows sink end (Ok done) = Passes after sink rows end
 Hands after after_stop rows sink end (Err why.Stopped) = StopsAt after after_stop rows sink end
 Hands after after_stop rows sink end (Err why.Memory) = TakesFront after rows sink end
 Hands after after_stop rows sink end (Err why.Store) = TakesFront after rows sink end
+
+-- what the end of a walk prints
+abbrev pub walk_text : WalkFault → List ℕ
+walk_text why.Memory = codes "memory"
+walk_text why.Store = codes "store"
+walk_text why.Stopped = codes "stopped"
 
 -- what failed, where memory or the store did
 abbrev pub failure_of : Result (Unit {0}) WalkFault → Option LookFault

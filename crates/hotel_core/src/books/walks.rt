@@ -1,16 +1,19 @@
 //! Walks over the rows of the lists, which are handed to a sink one after the other.
-ghost use Rattle.std.specs.Prelude.{◌≡◌, false, OnOk, OnErr};
+ghost use Rattle.std.specs.Prelude.{◌≡◌, false, Some, Err, OnOk, OnErr};
 ghost use Rattle.hotel_model.specs.Refinement.ListsOnRows.{arrivals_on, in_house_on, chain_on, left_behind_on};
 ghost use Rattle.hotel_model.specs.Rows.{notes_at};
-ghost use Rattle.hotel_core.specs.{Books.Reads.is_any, Books.Walks.WalksOver};
+ghost use Rattle.hotel_core.specs.{Books.Reads.is_any};
+ghost use Rattle.hotel_core.specs.Books.Walks.{WalksOver, failure_of, walk_text};
 ghost use Rattle.hotel_core.specs.{declared.books.walks.WalkFault.TheVariants.Memory};
 ghost use Rattle.hotel_core.specs.{declared.books.walks.WalkFault.TheVariants.Stopped};
 
 use crate::books::Books;
 use hotel_model::{BehindRow, ChainRow, HouseRow};
 use hotel_nights::{Day, Stay};
-use keycard_rules::{LockNote, RoomNo};
+use keycard_rules::{LockNote, LookFault, RoomNo};
 use std::alloc::AllocError;
+use std::error::Error;
+use std::fmt;
 
 /// A sink takes no further row.
 #[derive(Clone, Copy, PartialEq, Eq, Debug)]
@@ -27,6 +30,20 @@ pub enum WalkFault {
     Stopped,
 }
 
+impl fmt::Display for WalkFault {
+    ghost output = { λ why. Some (walk_text why) };
+
+    fn fmt<W: fmt::Write>(&self, f: &mut fmt::Formatter<W>) -> fmt::Result {
+        f.write_str(match self {
+            WalkFault::Memory => "memory",
+            WalkFault::Store => "store",
+            WalkFault::Stopped => "stopped",
+        })
+    }
+}
+
+impl Error for WalkFault {}
+
 impl From<Stop> for WalkFault {
     ghost from_gives = { λ _ fault. fault ≡ Stopped };
 
@@ -40,6 +57,17 @@ impl From<AllocError> for WalkFault {
 
     fn from(_: AllocError) -> WalkFault {
         WalkFault::Memory
+    }
+}
+
+impl From<LookFault> for WalkFault {
+    ghost from_gives = { λ cause fault. failure_of (Err fault) ≡ Some cause };
+
+    fn from(cause: LookFault) -> WalkFault {
+        match cause {
+            LookFault::Memory => WalkFault::Memory,
+            LookFault::Store => WalkFault::Store,
+        }
     }
 }
 
@@ -60,7 +88,7 @@ pub trait Sink<Row> {
 /// Books whose lists can be walked.
 ///
 /// A walk hands the rows of a list to a sink in their order, and ends at the first row at which the sink stops. The
-/// rows that it handed over are a front of the list's rows, and all of them on `Ok`. It leaves of the books what a
+/// rows that it handed over are a prefix of the list's rows, and all of them on `Ok`. It leaves of the books what a
 /// look-up does.
 pub trait Walks: Books {
     /// The booked stays that take the night of a day, by party.

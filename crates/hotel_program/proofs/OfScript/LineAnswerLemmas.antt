@@ -1,6 +1,7 @@
 -- The answer to what a line asks for, as it is written.
 use Rattle.std.proofs.Common.{◌≡◌, ◌∙◌, ℕ, Bool, true, false, List, [], ◌∷◌, refl, subst, Option, Some, inl}
 use Rattle.std.proofs.Common.{None, Result, Ok, Err, OnOk, OnErr}
+use Rattle.std.specs.Option.{IsSomeAnd}
 use Rattle.std.specs.Io.KnownBytes.{Appends}
 use Rattle.rand_core.specs.Stream.{Stream}
 use Rattle.keycard_rules.specs.{declared.kept.Kept.Ghosts as KeptOf, Calls.LeaveAll}
@@ -12,7 +13,7 @@ use Rattle.hotel_model.specs.declared.reply.Reply.{Reply}
 use Rattle.hotel_model.specs.declared.reply.Refusal.TheVariants as refusal
 use Rattle.hotel_model.specs.{History.History, Rows.Rows, RowsOf.rows_of, Run.Reached}
 use Rattle.hotel_core.specs.Texts.{reply_text}
-use Rattle.hotel_lists.specs.{Bytes.AppendsFront, declared.calls.WriteFailed.WriteFailed, Lines.LooksAt}
+use Rattle.hotel_lists.specs.{Bytes.AppendsFront, declared.calls.WriteFailed.WriteFailed, RowLines.LooksAt}
 use Rattle.hotel_lists.specs.declared.fault.ListFault.{ListFault}
 use Rattle.hotel_lists.proofs.CallsLemmas.{last_of}
 use Rattle.hotel_asks.specs.Asks.{ask_copies}
@@ -22,7 +23,6 @@ use Rattle.hotel_core.specs.declared.asks.Ask.TheVariants as ask
 use Rattle.hotel_core.specs.declared.asks.ListAsk.{ListAsk}
 use Rattle.hotel_asks.proofs.ListingLemmas.{listing_stands}
 use Rattle.hotel_core.specs.Books.Happens.{HappensBy}
-use Rattle.hotel_program.specs.Script.Asks.{AsksCopy}
 use Rattle.hotel_program.specs.Script.LineAnswers.{AskAnswered, AskEnds, AskGoes, ListAsked, Sure, unread_text}
 use Rattle.hotel_program.specs.Script.ListAnswers.{refusal_text, tells_failure}
 use Rattle.hotel_program.proofs.OfScript.ListAnswerLemmas.{ListWritten, Whole}
@@ -142,14 +142,16 @@ unread_ends {K = K} {rows = rows} a wanted s old new written e whole front =
     subst (λ (w : Option Ask). HappensBy K rows a (AskEnds w s s old new written (K.is_clean a)) a) e
     (quiet_ends a None s unread_text old new written (λ sure h. (refl, refl, refl, refl)) tt whole front)
 
-no_list : (wanted : Option Ask) (text : List ℕ) → AsksCopy ask_copies wanted → ListAsked wanted text []
+no_list : (wanted : Option Ask) (text : List ℕ)
+    → IsSomeAnd wanted (λ asked. ask_copies asked ≡ true) → ListAsked wanted text []
 no_list None text p = tt
 no_list (Some (ask.Command command)) text p = tt
 no_list (Some (ask.List its_list)) text p = cc p
 
 -- a line for which there was no memory is answered
 pub memory_ends : {S : Type 0} {K : KeptOf S} {rows : S → Rows} (a : S) (wanted : Option Ask) (s : Stream)
-    (old new : Option (List ℕ)) (written : Result (Unit {0}) WriteFailed) → AsksCopy ask_copies wanted
+    (old new : Option (List ℕ)) (written : Result (Unit {0}) WriteFailed)
+    → IsSomeAnd wanted (λ asked. ask_copies asked ≡ true)
     → OnOk written (Appends old new (refusal_text refusal.Memory))
     → OnErr written (AppendsFront old new (refusal_text refusal.Memory))
     → HappensBy K rows a (AskEnds wanted s s old new written (K.is_clean a)) a

@@ -15,7 +15,7 @@ use Rattle.hotel_core.proofs.Names.{false≢true}
 use Rattle.hotel_model.specs.declared.reply.Reply.{Reply}
 use Rattle.hotel_core.specs.Texts.{reply_text}
 use Rattle.hotel_lists.specs.{Bytes.AppendsFront, Faults.told_refusal}
-use Rattle.hotel_lists.specs.Lines.{ListTold, LooksAt}
+use Rattle.hotel_lists.specs.RowLines.{ListTold, LooksAt}
 use Rattle.hotel_lists.specs.declared.fault.ListFault.{ListFault}
 use Rattle.hotel_lists.specs.declared.fault.ListFault.TheVariants as fault
 use Rattle.hotel_lists.specs.Listings.{Listing, ListEnds}
@@ -124,7 +124,7 @@ refused_whole listing old mid new why_not why e p looks written =
       ),
     )
 
--- a front of the answer of a list that was refused
+-- a prefix of the answer of a list that was refused
 pub refused_cut : {B : Type 0} {K : KeptOf B} {b c : B} (listing : Option Listing) (old mid new : Option (List ℕ))
     (why_not : ListFault) (why : Refusal) → told_refusal why_not ≡ Some why
     → ListEnds [] listing old mid (Err why_not) → (looks : LooksAt K b c (Err why_not))

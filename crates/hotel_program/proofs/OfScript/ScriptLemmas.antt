@@ -1,10 +1,11 @@
 -- Lines of a script, answered one after the other.
 use Rattle.std.proofs.Common.{◌≡◌, ℕ, zero, suc, ◌+◌, ◌≤◌, List, [], ◌∷◌, ◌++◌, length, take, drop, arith, refl, inr}
 use Rattle.std.proofs.Common.{sym, ap, subst, ◌∙◌, append_assoc, append-nil, length-append, take-append-drop, add-one}
-use Rattle.std.proofs.Common.{Option, Some, None, false, Result, Ok, Err}
+use Rattle.std.proofs.Common.{Option, Some, None, true, false, Result, Ok, Err}
 use Rattle.std.proofs.Math.Seq.{take-append-add}
 use Rattle.std.proofs.lemmas.List.{length-drop}
 use Rattle.std.specs.List.{concat}
+use Rattle.std.specs.Option.{IsSomeAnd}
 use Rattle.std.specs.Result.{IfOk, IsErrAnd, OnOk}
 use Rattle.std.specs.Prelude.{◌<◌, IfSome}
 use Rattle.std.specs.Io.KnownBytes.{Appends}
@@ -21,7 +22,7 @@ use Rattle.hotel_model.specs.declared.reply.Refusal.TheVariants.{Memory}
 use Rattle.hotel_asks.specs.Asks.{ask_copies}
 use Rattle.keycard_rules.specs.Calls.{Told}
 use Rattle.hotel_core.specs.Books.Happens.{HappensBy}
-use Rattle.hotel_program.specs.Script.Asks.{AsksCopy, ask_in}
+use Rattle.hotel_program.specs.Script.Asks.{ask_in}
 use Rattle.hotel_model.specs.Rows.{Rows}
 use Rattle.hotel_model.specs.History.{History}
 use Rattle.hotel_core.specs.Texts.{reply_text}
@@ -41,7 +42,7 @@ use Rattle.hotel_program.specs.declared.script.ScriptFault.TheVariants as no
 
 -- where there is no memory to copy a text of what is asked, nothing is moved
 pub ask_without_memory : (sure : List ℕ → Type 0) (wanted : Option Ask) (h : History) (s : Stream)
-    → AsksCopy ask_copies wanted → AskGoes sure wanted h s (reply_text (Refused Memory)) [] h s
+    → IsSomeAnd wanted (λ asked. ask_copies asked ≡ true) → AskGoes sure wanted h s (reply_text (Refused Memory)) [] h s
 ask_without_memory sure None h s p = absurd p
 ask_without_memory sure (Some (ask.Command command)) h s p =
     (Refused Memory, (refl, (0, omega arith, sym (past-zero s))), refl, inr (refl, p, refl))
@@ -233,7 +234,7 @@ module _ {S R W : Type 0} (K : KeptOf S) (rows : S → Rows) (stream : R → Str
   lines_cut all done line later old mid new failed before e next =
       (take done all, line, (next_line all done line later e).2, mid, before, failed, next)
 
--- bytes, and then a front of some more
+-- bytes, and then a prefix of some more
 pub appends_front : (a b c : Option (List ℕ)) (output text : List ℕ)
     → AppendsFront b c text → Appends a b output → AppendsFront a c (output ++ text)
 appends_front a b c output text (n, within, next) first = (

@@ -41,8 +41,8 @@ audit_end (Ok answers) false = Ok (answers_status answers)
 audit_end (Ok answers) true = Err fault.Write
 audit_end (Err why) write_failed = Err (import_fault why)
 
--- What a writer took of an import: the texts of its answers, a line each; a front of them where a write failed; nothing
--- where it has no answers.
+-- What a writer took of an import: the texts of its answers, a line each; a prefix of them where a write failed;
+-- nothing where it has no answers.
 abbrev pub WritesAnswers : {W : Type 0} → (W → Option (List ℕ)) → W → W → Result (List LineAnswer) ImportFault → Bool
     → Type 0
 WritesAnswers contents old new (Ok answers) false = Appends (contents old) (contents new) (answers_text 1 answers)

@@ -13,7 +13,7 @@ abbrev pub command_end : Reply → Bool → Result ℕ Fault
 command_end reply false = Ok (exit_of_reply reply)
 command_end reply true = Err Write
 
--- What a writer took of a reply: its text, or a front of it where a write failed.
+-- What a writer took of a reply: its text, or a prefix of it where a write failed.
 abbrev pub WritesReply : Option (List ℕ) → Option (List ℕ) → Reply → Bool → Type 0
 WritesReply old new reply false = Appends old new (reply_text reply)
 WritesReply old new reply true = AppendsFront old new (reply_text reply)

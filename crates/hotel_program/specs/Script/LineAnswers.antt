@@ -65,7 +65,7 @@ AskAnswered sure written wanted s s' told h h' =
 abbrev pub Sure : Type 0 → List ℕ → Type 0
 Sure kept text = tells_failure text ≡ true → kept
 
--- What is asked was answered: the answer was written whole; or a front of it, which vouches for nothing.
+-- What is asked was answered: the answer was written whole; or a prefix of it, which vouches for nothing.
 abbrev pub AskEnds : Option Ask → Stream → Stream → Option (List ℕ) → Option (List ℕ) → Result (Unit {0}) WriteFailed
     → Type 0 → Told → History → History → Type 0
 AskEnds wanted s s' old new (Ok done) kept told h h' =

@@ -5,7 +5,7 @@ use Rattle.hotel_model.specs.declared.reply.Reply.TheVariants.{Refused}
 use Rattle.hotel_model.specs.declared.reply.Refusal.{Refusal}
 use Rattle.hotel_model.specs.declared.reply.Refusal.TheVariants as refusal
 use Rattle.hotel_core.specs.{Books.Failures.refusal_of, Texts.reply_text}
-use Rattle.hotel_lists.specs.{Lines.ListFailed, Listings.Listing, Listings.IsListFront, Listings.in_full}
+use Rattle.hotel_lists.specs.{RowLines.ListFailed, Listings.Listing, Listings.IsListFront, Listings.in_full}
 
 -- The line of a refusal.
 abbrev pub refusal_text : Refusal → List ℕ

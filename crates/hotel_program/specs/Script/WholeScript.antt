@@ -1,6 +1,6 @@
 -- A script: its answered lines, one after the other.
 use Rattle.std.specs.Prelude.{◌≡◌, ◌≤◌, ◌<◌, ℕ, length, take, List, [], ◌∷◌, ◌++◌, Option, IfSome, Result, Ok}
-use Rattle.std.specs.Prelude.{Err, ⊤}
+use Rattle.std.specs.Prelude.{Err, ⊤, codes}
 use Rattle.std.specs.List.{concat}
 use Rattle.std.specs.Io.KnownBytes.{Appends}
 use Rattle.rand_core.specs.Stream.{Stream}
@@ -112,3 +112,10 @@ abbrev pub fault_of_script : WholeFault → ScriptFault
 fault_of_script whole.Read = Read
 fault_of_script whole.TooLarge = TooLarge
 fault_of_script whole.Memory = Memory
+
+-- What the fault of a script prints.
+abbrev pub script_fault_text : ScriptFault → List ℕ
+script_fault_text Read = codes "read"
+script_fault_text TooLarge = codes "too large"
+script_fault_text Memory = codes "memory"
+script_fault_text (Write done) = codes "write"

@@ -1,10 +1,10 @@
 //! An audit file that is imported alone: its answers on one writer, and what went wrong on another.
 
-ghost use Rattle.std.specs.Prelude.{◌≡◌, ◌≢◌, List, Bool, Result};
+ghost use Rattle.std.specs.Prelude.{◌≡◌, List, Bool, Result};
 ghost use Rattle.hotel_lists.specs.Calls.{CountsWrites, OnErrOf};
 ghost use Rattle.hotel_audit.specs.declared.answer.LineAnswer.{LineAnswer};
 ghost use Rattle.hotel_audit.specs.declared.imports.ImportFault.{ImportFault};
-ghost use Rattle.hotel_program.specs.Faults.{end_status, IsOfFiles, Reports};
+ghost use Rattle.hotel_program.specs.Faults.{end_status, Reports};
 ghost use Rattle.hotel_program.specs.Alone.AuditRuns.{answers_status, file_fault, import_fault, audit_end};
 ghost use Rattle.hotel_program.specs.Alone.AuditRuns.{WritesAnswers};
 ghost use Rattle.hotel_audit.specs.{AuditFile.audit_lines, Import.Imports};
@@ -20,8 +20,7 @@ use std::io::Write;
 
 /// The exit status that goes with answers.
 fn answers_status(answers: &[LineAnswer]) -> u8
-    ensures status { result ≡ answers_status answers.now }
-    ensures no_usage { result ≢ 2 }
+    ensures { result ≡ answers_status answers.now }
 {
     for answer in answers {
         if let LineAnswer::Unread(_) | LineAnswer::Refused(_) = answer {
@@ -33,8 +32,7 @@ fn answers_status(answers: &[LineAnswer]) -> u8
 
 /// The fault of bytes that give no lines.
 fn file_fault(fault: AuditFault) -> Fault
-    ensures fault { result ≡ file_fault fault }
-    ensures no_usage { IsOfFiles result }
+    ensures { result ≡ file_fault fault }
 {
     match fault {
         AuditFault::TooLarge => Fault::TooLarge,
@@ -46,8 +44,7 @@ fn file_fault(fault: AuditFault) -> Fault
 
 /// The fault of an import that has no answers.
 fn import_fault(fault: ImportFault) -> Fault
-    ensures fault { result ≡ import_fault fault }
-    ensures no_usage { IsOfFiles result }
+    ensures { result ≡ import_fault fault }
 {
     match fault {
         ImportFault::File(why) => file_fault(why),
@@ -75,7 +72,6 @@ fn import_and_write<B: Books, W: Write>(
         × (result ≡ audit_end outcome write_failed)
         × WritesAnswers W.contents writer.old writer.new outcome write_failed
         × Imports B.Kept B.rows (audit_lines bytes.now) books.old books.new outcome }
-    ensures no_usage { end_status result ≢ 2 }
     ensures calls { CountsWrites calls.old calls.new (OnErrOf result Fault.Write) }
 {
     let answers = match import(alloc, books, bytes) {
@@ -103,7 +99,6 @@ pub fn run_audit<B: Books, W: Write, F: FaultSink>(
         × Reports F.told faults.old (audit_end outcome write_failed) faults.new
         × WritesAnswers W.contents writer.old writer.new outcome write_failed
         × Imports B.Kept B.rows (audit_lines bytes.now) books.old books.new outcome }
-    ensures no_usage { result ≢ 2 }
 {
     let mut calls = IoCalls::none();
     let end = import_and_write(alloc, bytes, books, writer, &mut calls);

@@ -1,6 +1,6 @@
 //! One command that is carried out alone: its reply on one writer, and what went wrong on another.
 
-ghost use Rattle.std.specs.Prelude.{◌≡◌, ◌≢◌, Bool};
+ghost use Rattle.std.specs.Prelude.{◌≡◌, Bool};
 ghost use Rattle.hotel_model.specs.declared.reply.Reply.{Reply};
 ghost use Rattle.hotel_lists.specs.Calls.{CountsWrites, OnErrOf};
 ghost use Rattle.hotel_program.specs.Alone.CommandRuns.{command_end, WritesReply};
@@ -27,7 +27,6 @@ fn step_and_write<B: Books, R: Rng, W: Write>(
         × WritesReply (W.contents writer.old) (W.contents writer.new) reply write_failed
         × Stepped B.Kept B.rows (books.old, R.stream source.old) (command.now, reply)
         (books.new, R.stream source.new) }
-    ensures no_usage { end_status result ≢ 2 }
     ensures calls { CountsWrites calls.old calls.new (OnErrOf result Fault.Write) }
 {
     let reply = step(books, source, command);
@@ -52,7 +51,6 @@ pub fn run_one<B: Books, R: Rng, W: Write, F: FaultSink>(
         × WritesReply (W.contents writer.old) (W.contents writer.new) reply write_failed
         × Stepped B.Kept B.rows (books.old, R.stream source.old) (command.now, reply)
         (books.new, R.stream source.new) }
-    ensures no_usage { result ≢ 2 }
 {
     let mut calls = IoCalls::none();
     let end = step_and_write(command, books, source, writer, &mut calls);

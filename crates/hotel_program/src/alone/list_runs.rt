@@ -1,8 +1,8 @@
 //! A list that is asked for alone: its text on one writer, and what went wrong on another.
 
-ghost use Rattle.std.specs.Prelude.{◌≡◌, ◌≢◌, Result};
+ghost use Rattle.std.specs.Prelude.{◌≡◌, Result};
 ghost use Rattle.hotel_lists.specs.Calls.{CountsWrites, OnErrOf};
-ghost use Rattle.hotel_lists.specs.Lines.{LooksAt};
+ghost use Rattle.hotel_lists.specs.RowLines.{LooksAt};
 ghost use Rattle.hotel_lists.specs.declared.fault.ListFault.{ListFault};
 ghost use Rattle.hotel_program.specs.Faults.{end_status, Reports};
 ghost use Rattle.hotel_program.specs.Alone.ListRuns.{AnswerEnds, AnswerEndsFor, list_end};
@@ -41,8 +41,7 @@ fn write_list_or_refusal<W: Write, B: Walks>(
 
 /// The exit status of a list that ended so, or the fault that is reported.
 fn end_of_list(end: Result<(), ListFault>) -> Result<u8, Fault>
-    ensures end { result ≡ list_end end }
-    ensures no_usage { end_status result ≢ 2 }
+    ensures { result ≡ list_end end }
 {
     match end {
         Ok(()) => Ok(DONE),
@@ -67,7 +66,6 @@ pub fn run_list<B: Walks, W: Write, F: FaultSink>(
         × (B.is_honest books.new → AnswerEndsFor (B.rows books.old) list.now (W.contents writer.old)
         (W.contents writer.new) end)
         × LooksAt B.Kept books.old books.new end }
-    ensures no_usage { result ≢ 2 }
 {
     let mut calls = IoCalls::none();
     let end = write_list_or_refusal(alloc, list, writer, books, &mut calls);

@@ -69,7 +69,7 @@ fn with_verbs<'a>(alloc: Global, verbs: &[(&'a str, Verb)]) -> Result<Command<'a
 }
 
 /// The command line with all its subcommands.
-pub fn desk_command<'a>(alloc: Global) -> Result<Command<'a>, AllocError>
+pub(crate) fn desk_command<'a>(alloc: Global) -> Result<Command<'a>, AllocError>
     ensures shape { IfOk result (λ c. app_of c ≡ desk) }
     ensures globals { IfOk result (λ c. (fields_of c).has_globals ≡ false) }
 {

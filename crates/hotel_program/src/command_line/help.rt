@@ -6,7 +6,7 @@ use hotel_asks::{ValueName, Verb};
 pub const VERSION: &str = "1";
 
 /// What a command or list does, in one line, with an example.
-pub fn about_verb<'a>(verb: Verb) -> &'a str {
+pub(crate) fn about_verb<'a>(verb: Verb) -> &'a str {
     match verb {
         Verb::Begin => "Set the first business day, once: begin 2031-05-01",
         Verb::AddKind => "Add a kind of room: add-kind DBL",
@@ -38,7 +38,7 @@ pub fn about_verb<'a>(verb: Verb) -> &'a str {
 }
 
 /// What a value of a subcommand is, its form, and its range.
-pub fn about_value<'a>(subcommand: &str, name: ValueName) -> &'a str {
+pub(crate) fn about_value<'a>(subcommand: &str, name: ValueName) -> &'a str {
     match name {
         ValueName::Day => "a day, YYYY-MM-DD: 2000-01-01 to 2099-12-31",
         ValueName::Kind => "a kind of room: 1 to 8 capital letters or digits",

@@ -4,6 +4,7 @@ ghost use Rattle.std.specs.Prelude.{◌≡◌, ◌<◌, ◌^◌, Some, Ok, IfOk,
 ghost use Rattle.std.specs.Prelude.{string_bytes, map, true, []};
 ghost use Rattle.clap.specs.Words.{first_of, found_of, has_subcommand, rows_of, subcommand_rows_of, subcommand_of};
 ghost use Rattle.clap.specs.Words.{fault_of, matches_of, kind_of};
+ghost use Rattle.hotel_asks.specs.Names.{names_of};
 ghost use Rattle.hotel_program.specs.CommandLine.{desk};
 ghost use Rattle.hotel_program.specs.Plans.{text_value, texts_in, number_in, verb_act, serve_act, own_act, desk_act};
 ghost use Rattle.hotel_program.specs.Plans.{act_in, IsOf, IsRead, IsRefusalOf, IsToldBy, IsValueOrMemory};
@@ -12,7 +13,7 @@ use super::command::desk_command;
 use super::plan::{DeskAct, FileName, Plan, UsageFault};
 use clap::error::ErrorKind;
 use clap::{ArgMatches, Error};
-use hotel_asks::{Ask, AskFault, ValueFault, ValueName, Verb, read_ask, read_verb};
+use hotel_asks::{Ask, AskFault, ValueFault, ValueName, ValueTexts, Verb, read_ask, read_verb};
 use keycard_rules::read_numeral;
 use std::alloc::Global;
 
@@ -35,21 +36,13 @@ fn text<'a>(matches: &ArgMatches<'a>, name: ValueName) -> Result<&'a str, UsageF
     given(matches, name.text()).ok_or(UsageFault::Value(name))
 }
 
-/// The texts of values, in their order.
-fn texts<'a>(
-    alloc: Global,
-    matches: &ArgMatches<'a>,
-    names: &[ValueName],
-) -> Result<Vec<&'a [u8]>, UsageFault>
-    ensures { IsRead (λ texts. map (λ s. s.now) texts.items)
-        (texts_in (rows_of (found_of matches.now)) names.now) result }
+/// The texts of a verb's values, in their order.
+fn texts<'a>(matches: &ArgMatches<'a>, verb: Verb) -> Result<ValueTexts<'a>, UsageFault>
+    ensures { IsRead (λ texts. texts) (texts_in (rows_of (found_of matches.now)) (names_of verb)) result }
 {
-    let mut texts = Vec::new(alloc);
-    for name in names {
-        let text = text(matches, *name)?;
-        let Ok(()) = texts.push(text.as_bytes()) else {
-            return Err(UsageFault::Memory);
-        };
+    let mut texts = ValueTexts::new();
+    for name in verb.values() {
+        texts.push(text(matches, *name)?.as_bytes());
     }
     Ok(texts)
 }
@@ -58,8 +51,8 @@ fn texts<'a>(
 fn verb_act(alloc: Global, verb: Verb, matches: &ArgMatches) -> Result<DeskAct, UsageFault>
     ensures { IsRead (λ a. a) (verb_act verb (rows_of (found_of matches.now))) result }
 {
-    let texts = texts(alloc, matches, verb.values())?;
-    match read_ask(alloc, verb, texts.as_slice()) {
+    let texts = texts(matches, verb)?;
+    match read_ask(alloc, verb, &texts) {
         Ok(Ask::Command(command)) => Ok(DeskAct::One(command)),
         Ok(Ask::List(list)) => Ok(DeskAct::List(list)),
         Err(AskFault::Values(ValueFault::Value(name))) => Err(UsageFault::Value(name)),

@@ -1,10 +1,13 @@
 //! What the words of a call ask for, and why they don't.
 
-ghost use Rattle.std.specs.Prelude.{◌≡◌, IfOk};
+ghost use Rattle.std.specs.Prelude.{◌≡◌, Some, IfOk};
+ghost use Rattle.hotel_program.specs.Plans.{usage_text};
 
 use hotel_asks::{ListAsk, ValueName};
 use hotel_core::Command;
 use std::alloc::{AllocError, Global};
+use std::error::Error;
+use std::fmt;
 use std::marker::Model;
 
 /// The name of a file. Contracts see its bytes.
@@ -65,7 +68,7 @@ pub struct Plan {
 }
 
 /// Why the words give no plan.
-#[derive(Drop)]
+#[derive(Debug, Drop)]
 pub enum UsageFault {
     /// Help or the version was asked for: its text.
     Shown(String),
@@ -76,3 +79,17 @@ pub enum UsageFault {
     /// A growth of memory was refused.
     Memory,
 }
+
+impl fmt::Display for UsageFault {
+    ghost output = { λ why. Some (usage_text why) };
+
+    fn fmt<W: fmt::Write>(&self, f: &mut fmt::Formatter<W>) -> fmt::Result {
+        match self {
+            UsageFault::Shown(text) | UsageFault::Usage(text) => f.write_str(text),
+            UsageFault::Value(name) => write!(f, "unread {}", name.text()),
+            UsageFault::Memory => f.write_str("memory"),
+        }
+    }
+}
+
+impl Error for UsageFault {}

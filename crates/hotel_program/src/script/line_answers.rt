@@ -7,7 +7,7 @@ ghost use Rattle.hotel_lists.specs.Bytes.{Writes};
 ghost use Rattle.hotel_lists.specs.Calls.{CountsWrites};
 ghost use Rattle.hotel_program.specs.Script.{Asks.ask_in, LineAnswers.AskEnds, LineAnswers.answer_text};
 
-use crate::script::asks::{LineFault, read_line};
+use crate::script::asks::read_line;
 use crate::script::list_answers::answer_list;
 use hotel_asks::Ask;
 use hotel_core::{Books, Command, Refusal, Reply, Walks, reply_text, step};
@@ -25,7 +25,7 @@ pub enum ScriptAnswer {
     Unread,
 }
 
-/// Writes the text of an answer. After a fault the writer took a front of it.
+/// Writes the text of an answer. After a fault the writer took a prefix of it.
 fn write_answer<W: Write>(
     writer: &mut W,
     answer: &ScriptAnswer,
@@ -59,8 +59,8 @@ fn answer_command<W: Write, B: Books, R: Rng>(
 
 /// Reads a line, which is without its end, carries out its command, and writes the answer; of a list,
 /// the list itself. Where a growth of memory for the line is refused, nothing is done and the answer
-/// says so. After a fault the writer took a front of the answer.
-pub fn answer_line<W: Write, B: Walks, R: Rng>(
+/// says so. After a fault the writer took a prefix of the answer.
+pub(crate) fn answer_line<W: Write, B: Walks, R: Rng>(
     alloc: Global,
     line: &[u8],
     writer: &mut W,
@@ -74,10 +74,12 @@ pub fn answer_line<W: Write, B: Walks, R: Rng>(
     ensures calls { CountsWrites calls.old calls.new (OnErr result) }
 {
     match read_line(alloc, line) {
-        Ok(Ask::Command(command)) => { answer_command(&command, writer, books, source, calls) }
-        Ok(Ask::List(list)) => answer_list(alloc, &list, writer, books, calls),
-        Err(LineFault::Unread) => write_answer(writer, &ScriptAnswer::Unread, calls),
-        Err(LineFault::Memory) => {
+        Ok(Some(Ask::Command(command))) => {
+            answer_command(&command, writer, books, source, calls)
+        }
+        Ok(Some(Ask::List(list))) => answer_list(alloc, &list, writer, books, calls),
+        Ok(None) => write_answer(writer, &ScriptAnswer::Unread, calls),
+        Err(_) => {
             let answer = ScriptAnswer::Replied(Reply::Refused(Refusal::Memory));
             write_answer(writer, &answer, calls)
         }

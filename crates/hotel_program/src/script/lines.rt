@@ -23,7 +23,7 @@ fn line_end(text: &[u8]) -> usize
 }
 
 /// The first line of a text, without its line feed, and the text after it. None where the text is empty.
-pub fn first_line(text: &[u8]) -> Option<(&[u8], &[u8])>
+pub(crate) fn first_line(text: &[u8]) -> Option<(&[u8], &[u8])>
     ensures none { result ≡ None → lines text.now ≡ [] }
     ensures some { IfSome result (λ p. lines text.now ≡ p.0.now ∷ lines p.1.now) }
     ensures shorter { IfSome result (λ p. length p.1.now < length text.now) }
@@ -39,7 +39,7 @@ pub fn first_line(text: &[u8]) -> Option<(&[u8], &[u8])>
 }
 
 /// The line without one carriage return at its end.
-pub fn without_return(line: &[u8]) -> &[u8]
+pub(crate) fn without_return(line: &[u8]) -> &[u8]
     ensures { result.now ≡ without_return line.now }
 {
     let len = line.len();
@@ -50,7 +50,7 @@ pub fn without_return(line: &[u8]) -> &[u8]
 }
 
 /// Whether the line gets no answer: it is empty, of spaces alone, or a comment.
-pub fn is_silent(line: &[u8]) -> bool
+pub(crate) fn is_silent(line: &[u8]) -> bool
     ensures { result ≡ is_silent line.now }
 {
     let rest = trimmed_start(line);
@@ -58,7 +58,7 @@ pub fn is_silent(line: &[u8]) -> bool
 }
 
 /// Whether the line, without its end, is short enough and UTF-8.
-pub fn is_readable(line: &[u8]) -> bool
+pub(crate) fn is_readable(line: &[u8]) -> bool
     ensures { result ≡ is_readable line.now }
 {
     if line.len() > LINE_LIMIT {

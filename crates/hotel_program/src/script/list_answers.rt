@@ -16,7 +16,7 @@ use std::io::Write;
 /// Writes the answer to a list: its text; or, where the room isn't there, the line that says so; or,
 /// where memory or the store failed, whole rows of it and then the line that says so. The writes of the
 /// list and of such a line are added to those of the script.
-pub fn answer_list<W: Write, B: Walks>(
+pub(crate) fn answer_list<W: Write, B: Walks>(
     alloc: Global,
     list: &ListAsk,
     writer: &mut W,

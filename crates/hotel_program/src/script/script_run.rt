@@ -3,7 +3,7 @@ ghost use Rattle.hotel_program.specs.Script.ScriptRun.{ScriptsRun, ListsBetween}
 
 /// The commands of a script's lines are a run of the model, the answers are the texts of its replies and the lists'
 /// answers, and each list is answered over the history after the commands before it.
-pub fn scripts_run()
+pub(crate) fn scripts_run()
     ensures run { ScriptsRun }
     ensures lists { ListsBetween }
 {}

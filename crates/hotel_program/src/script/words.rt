@@ -20,7 +20,7 @@ fn leading_spaces(text: &[u8]) -> usize
 
 /// The text from its first byte that is no space.
 #[tactic(auto, unfolding(crate::specs::Script::Words::trimmed_start))]
-pub fn trimmed_start(text: &[u8]) -> &[u8]
+pub(crate) fn trimmed_start(text: &[u8]) -> &[u8]
     ensures { result.now ≡ trimmed_start text.now }
 {
     &text[leading_spaces(text)..]
@@ -41,7 +41,7 @@ fn word_end(text: &[u8]) -> usize
 
 /// The first word of a text, and the text after it. None where the text has no word.
 #[tactic(auto, unfolding(crate::specs::Script::Words::first_word, crate::specs::Script::Words::after_word))]
-pub fn next_word(text: &[u8]) -> Option<(&[u8], &[u8])>
+pub(crate) fn next_word(text: &[u8]) -> Option<(&[u8], &[u8])>
     ensures { option_map (λ p. (p.0.now, p.1.now)) result ≡ next_word text.now }
 {
     let from = trimmed_start(text);
@@ -54,14 +54,14 @@ pub fn next_word(text: &[u8]) -> Option<(&[u8], &[u8])>
 
 /// The first of a text's words, and the text of the others. None where the text has no word.
 #[tactic(auto, using(crate::proofs::OfScript::WordLemmas::words_next))]
-pub fn first_of_words(text: &[u8]) -> Option<(&[u8], &[u8])>
+pub(crate) fn first_of_words(text: &[u8]) -> Option<(&[u8], &[u8])>
     ensures { words text.now ≡ words_from (option_map (λ p. (p.0.now, p.1.now)) result) }
 {
     next_word(text)
 }
 
 /// The text without the spaces at both ends.
-pub fn trimmed(text: &[u8]) -> &[u8]
+pub(crate) fn trimmed(text: &[u8]) -> &[u8]
     ensures { result.now ≡ trimmed text.now }
 {
     let text = trimmed_start(text);

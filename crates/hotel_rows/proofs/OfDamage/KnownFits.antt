@@ -11,10 +11,10 @@ use Rattle.hotel_model.specs.Rows.{at_number, fits_at, last_fit, begins_fit, new
 use Rattle.hotel_core.proofs.OfTables.MapEntries.{eq_from, eq_turned, pair_is, known_by}
 use Rattle.hotel_rows.specs.declared.damage.fit_runs.FitRun.{FitRun}
 use Rattle.hotel_rows.specs.declared.stored.PlainFit.{PlainFit}
-use Rattle.hotel_rows.specs.declared.damage.placed.Placed.{Placed}
+use Rattle.hotel_rows.specs.declared.damage.code_places.Placed.{Placed}
 use Rattle.hotel_rows.specs.declared.stored.Stored.{Stored}
 use Rattle.hotel_rows.specs.Stored.{number_of, fit_row, fit_entry, plain_fits, rows_of}
-use Rattle.hotel_rows.specs.Placed.{places_in, listed_in, PlacesOf, are_due_at}
+use Rattle.hotel_rows.specs.CodePlaces.{places_in, listed_in, PlacesOf, are_due_at}
 use Rattle.hotel_rows.specs.FitRuns.{fit_run_of, fit_count, last_place_in, last_after, begin_key, begins_in, FitRunsOf}
 use Rattle.hotel_rows.specs.FitRuns.{BeginsOf}
 use Rattle.hotel_rows.proofs.OfDamage.Newest.{length_values, due_parts}

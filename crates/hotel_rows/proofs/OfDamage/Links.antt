@@ -8,7 +8,7 @@ use Rattle.hotel_core.proofs.OfTables.MapEntries.{eq_turned}
 use Rattle.hotel_rows.specs.declared.stored.PlainCard.{PlainCard}
 use Rattle.hotel_rows.specs.Stored.{number_of, link_row}
 use Rattle.hotel_rows.specs.Keys.{place_in}
-use Rattle.hotel_rows.specs.Lasts.{link_pair, link_of_pair, LastsOf}
+use Rattle.hotel_rows.specs.LastCards.{link_pair, link_of_pair, LastsOf}
 
 any_by : (b : Bool) (o : Option ℕ) → is_some (cond b (Some 0) (option_map suc o)) ≡ (b || is_some o)
 any_by true o = refl

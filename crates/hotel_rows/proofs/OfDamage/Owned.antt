@@ -15,8 +15,8 @@ use Rattle.hotel_model.proofs.SoundRows.SoundLinks.{same_self}
 use Rattle.hotel_rows.specs.declared.stored.PlainCard.{PlainCard}
 use Rattle.hotel_rows.specs.declared.stored.Stored.{Stored}
 use Rattle.hotel_rows.specs.Stored.{number_of, link_row}
-use Rattle.hotel_rows.specs.Lasts.{link_pair}
-use Rattle.hotel_rows.specs.Owners.{owner_in, OwnersOf, is_own}
+use Rattle.hotel_rows.specs.LastCards.{link_pair}
+use Rattle.hotel_rows.specs.LinkOwners.{owner_in, OwnersOf, is_own}
 use Rattle.hotel_rows.specs.RowTests.{agree, agrees}
 use Rattle.hotel_rows.proofs.OfDamage.RowsTogether.{all_and}
 

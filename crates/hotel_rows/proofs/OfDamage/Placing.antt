@@ -15,12 +15,12 @@ use Rattle.hotel_model.specs.SoundRooms.{are_in_order, count_up}
 use Rattle.hotel_model.specs.SoundCards.{places_once, code_rooms_there}
 use Rattle.hotel_model.proofs.OfTables.StayCounts.{count_first}
 use Rattle.hotel_model.proofs.OfTables.RowTests.{all_mapped}
-use Rattle.hotel_rows.specs.declared.damage.placed.Placed.{Placed}
+use Rattle.hotel_rows.specs.declared.damage.code_places.Placed.{Placed}
 use Rattle.hotel_rows.specs.declared.stored.PlainCode.{PlainCode}
 use Rattle.hotel_rows.specs.declared.stored.Stored.{Stored}
 use Rattle.hotel_rows.specs.Stored.{number_of, code_row, code_entry, fits_of, rows_of}
 use Rattle.hotel_rows.specs.Keys.{code_key}
-use Rattle.hotel_rows.specs.Placed.{places_in, listed_in, PlacesOf, placed_as_due}
+use Rattle.hotel_rows.specs.CodePlaces.{places_in, listed_in, PlacesOf, placed_as_due}
 use Rattle.hotel_rows.specs.Damage.{code_holds}
 use Rattle.hotel_rows.specs.RowTests.{code_fits}
 use Rattle.hotel_rows.proofs.OfDamage.RowsTogether.{keys_mapped, all_and, and_more, all_alike, all_rooms}

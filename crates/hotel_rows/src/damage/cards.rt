@@ -6,14 +6,16 @@ ghost use Rattle.hotel_rows.specs.Places.{AreOf};
 ghost use Rattle.hotel_rows.specs.RowTests.{card_fits, stay_has_home, links_hold};
 ghost use Rattle.hotel_rows.specs.Damage.{card_holds};
 ghost use Rattle.hotel_rows.specs.Known.{IsOfRows};
-ghost use Rattle.hotel_rows.specs.Placed.{placed_as_due};
+ghost use Rattle.hotel_rows.specs.CodePlaces.{placed_as_due};
 
+use crate::damage::by_key::{Places, card_keys, code_at, index_of, stay_at};
+use crate::damage::card_links::{
+    all_brought, all_have_lasts, all_have_owners, brought_codes, lasts_of,
+};
 use crate::damage::codes::stands_at;
-use crate::damage::found::{Places, card_keys, code_at, index_of, stay_at};
 use crate::damage::known::Known;
-use crate::damage::links::{all_brought, all_have_lasts, all_have_owners, brought_codes, lasts_of};
+use crate::damage::link_owners::{all_agree, owners_of};
 use crate::damage::numbers::{are_numbered, number};
-use crate::damage::owners::{all_agree, owners_of};
 use crate::stored::{PlainCard, Stored};
 use keycard_rules::Memory;
 use std::alloc::Global;

@@ -6,13 +6,13 @@ ghost use Rattle.hotel_model.specs.SoundNotes.{comes_later};
 ghost use Rattle.hotel_rows.specs.Stored.{rows_of, code_row};
 ghost use Rattle.hotel_rows.specs.Damage.{code_holds};
 ghost use Rattle.hotel_rows.specs.Places.{AreOf};
-ghost use Rattle.hotel_rows.specs.Placed.{PlacesOf};
+ghost use Rattle.hotel_rows.specs.CodePlaces.{PlacesOf};
 ghost use Rattle.hotel_rows.specs.RowTests.{code_fits, recoding_fits};
 
-use crate::damage::found::{Places, code_at, code_keys, room_at};
+use crate::damage::by_key::{Places, code_at, code_keys, room_at};
+use crate::damage::code_places::rooms_have_places;
 use crate::damage::known::Known;
 use crate::damage::numbers::{number, rise};
-use crate::damage::placed::rooms_have_places;
 use crate::stored::{PlainCode, Stored};
 use keycard_rules::{Code, Memory};
 use std::alloc::Global;

@@ -7,8 +7,8 @@ ghost use Rattle.hotel_rows.specs.FitRuns.{FitRunsOf, fitted_as_due};
 ghost use Rattle.hotel_rows.specs.Places.{AreOf};
 ghost use Rattle.hotel_rows.specs.RowTests.{has_room};
 
+use crate::damage::by_key::{Places, fit_keys, room_at};
 use crate::damage::fit_runs::{RoomFits, is_fitted};
-use crate::damage::found::{Places, fit_keys, room_at};
 use crate::damage::known::Known;
 use crate::damage::numbers::{number, rise_in_pairs};
 use crate::stored::{PlainFit, PlainRoom, Stored};

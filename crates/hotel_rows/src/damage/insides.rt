@@ -7,15 +7,15 @@ ghost use Rattle.hotel_model.specs.SoundNotes.{fits_inside, has_entered};
 ghost use Rattle.hotel_rows.specs.Damage.{inside_holds};
 ghost use Rattle.hotel_rows.specs.FitRuns.{FitRunsOf};
 ghost use Rattle.hotel_rows.specs.Known.{IsOfRows};
-ghost use Rattle.hotel_rows.specs.Placed.{placed_as_due};
+ghost use Rattle.hotel_rows.specs.CodePlaces.{placed_as_due};
 ghost use Rattle.hotel_rows.specs.RowTests.{inside_fits};
 
+use crate::damage::by_key::{card_at, code_at, inside_keys, room_at};
+use crate::damage::code_places::is_newest;
 use crate::damage::codes::stands_at;
 use crate::damage::fit_runs::{RoomFits, last_place};
-use crate::damage::found::{card_at, code_at, inside_keys, room_at};
 use crate::damage::known::Known;
 use crate::damage::numbers::{number, rise_in_pairs};
-use crate::damage::placed::is_newest;
 use crate::stored::{PlainCard, PlainCode, PlainInside, PlainRoom, Stored};
 use keycard_rules::Memory;
 use std::alloc::Global;

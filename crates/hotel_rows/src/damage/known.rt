@@ -5,9 +5,9 @@ ghost use Rattle.hotel_rows.specs.FitRuns.{FitsOf};
 ghost use Rattle.hotel_rows.specs.Known.{IsOfRows};
 ghost use Rattle.hotel_rows.specs.Places.{AreOf};
 
+use crate::damage::by_key::Places;
+use crate::damage::code_places::{Placed, place_codes};
 use crate::damage::fit_runs::RoomFits;
-use crate::damage::found::Places;
-use crate::damage::placed::{Placed, place_codes};
 use crate::stored::Stored;
 use keycard_rules::Memory;
 use std::alloc::Global;

@@ -9,8 +9,8 @@ ghost use Rattle.hotel_rows.specs.Stored.{rows_of, number_of, note_row};
 ghost use Rattle.hotel_rows.specs.Places.{AreOf};
 ghost use Rattle.hotel_rows.specs.RowTests.{plain_note_fits};
 
+use crate::damage::by_key::{Places, card_at, note_keys, room_at};
 use crate::damage::codes::{stands_at, stands_later};
-use crate::damage::found::{Places, card_at, note_keys, room_at};
 use crate::damage::note_runs::{rooms_have_counts, runs_of};
 use crate::damage::numbers::{NO_NUMBER, number, number_if, rise_in_pairs};
 use crate::stored::{PlainNote, Stored};

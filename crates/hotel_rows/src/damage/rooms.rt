@@ -10,8 +10,8 @@ ghost use Rattle.hotel_rows.specs.FitRuns.{FitRunsOf, BeginsOf, FitsOf};
 ghost use Rattle.hotel_rows.specs.RowTests.{is_room_number, is_secured_as_due, has_few_codes, is_at_home};
 ghost use Rattle.hotel_rows.specs.RowTests.{room_fits};
 
+use crate::damage::by_key::{Places, room_keys, stay_at};
 use crate::damage::fit_runs::{RoomFits, ends_with_fit, fits_of_room};
-use crate::damage::found::{Places, room_keys, stay_at};
 use crate::damage::kinds::{Kinds, has_kind};
 use crate::damage::numbers::{NO_NUMBER, number, number_if, rise};
 use crate::stored::{PlainRoom, PlainStay, Stored};

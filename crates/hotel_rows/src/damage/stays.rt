@@ -10,7 +10,7 @@ ghost use Rattle.hotel_rows.specs.Places.{AreOf};
 ghost use Rattle.hotel_rows.specs.RowTests.{are_stay_days, has_home, stay_fits};
 
 use crate::counts::{Counts, counts_of};
-use crate::damage::found::{Places, room_at, stay_keys};
+use crate::damage::by_key::{Places, room_at, stay_keys};
 use crate::damage::kinds::{Kinds, has_kind};
 use crate::damage::nights::nights_fit;
 use crate::damage::numbers::{are_numbered, number, number_if};

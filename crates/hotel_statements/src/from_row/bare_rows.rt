@@ -10,7 +10,7 @@ ghost use Rattle.hotel_statements.specs.Walks.{note_under};
 
 use super::list_rows::RowReader;
 use super::{FromRow, act, bit, counted, day, kind_code, maybe_counted, small_integer};
-use crate::look_ups::Known;
+use crate::look_ups::RoomCounts;
 use hotel_core::{FitRow, RoomRow};
 use hotel_nights::KindCode;
 use keycard_rules::{Act, Count, LockNote, LookFault, PartyNo, RoomNo};
@@ -57,10 +57,10 @@ impl BareRoom {
     }
 
     /// What it tells the statements of a change.
-    pub(crate) fn known(&self) -> Known
+    pub(crate) fn known(&self) -> RoomCounts
         ensures { result ≡ known_by_room self.now }
     {
-        Known {
+        RoomCounts {
             codes: self.codes,
             notes: self.notes,
             before: 0,

@@ -1,5 +1,5 @@
 //! The walks over the lists' rows, each counted where it fails.
-ghost use Rattle.std.specs.Prelude.{◌≡◌, None, Some, Err, IsTrue};
+ghost use Rattle.std.specs.Prelude.{◌≡◌, None, IsTrue};
 ghost use Rattle.keycard_rules.specs.Rise.{Counts, NoFewer, one_of};
 ghost use Rattle.sqlite.specs.Held.{state};
 ghost use Rattle.sqlite.specs.State.{HasCleanDisk};
@@ -12,16 +12,6 @@ use hotel_nights::{Day, Stay};
 use hotel_statements::walks;
 use keycard_rules::{LockNote, LookFault, RoomNo};
 use sqlite::Alter;
-
-/// The end of a walk that failed for this cause.
-fn walk_fault(cause: LookFault) -> WalkFault
-    ensures { failure_of (Err result) ≡ Some cause }
-{
-    match cause {
-        LookFault::Memory => WalkFault::Memory,
-        LookFault::Store => WalkFault::Store,
-    }
-}
 
 impl<S: Alter> TableBooks<S> {
     /// How a walk ended; a failure is counted by its cause.
@@ -44,25 +34,17 @@ impl<S: Alter> TableBooks<S> {
 
 impl<S: Alter> Walks for TableBooks<S> {
     fn walk_arrivals<K: Sink<Stay>>(&mut self, day: Day, sink: &mut K) -> Result<(), WalkFault> {
-        match self.ask() {
-            Ok(()) => {
-                self.answers = false;
-                let end = walks::arrivals(self.alloc, &mut self.conn, day, sink);
-                self.counting_walk(end)
-            }
-            Err(cause) => Err(walk_fault(cause)),
-        }
+        self.ask()?;
+        self.answers = false;
+        let end = walks::arrivals(self.alloc, &mut self.conn, day, sink);
+        self.counting_walk(end)
     }
 
     fn walk_in_house<K: Sink<HouseRow>>(&mut self, sink: &mut K) -> Result<(), WalkFault> {
-        match self.ask() {
-            Ok(()) => {
-                self.answers = false;
-                let end = walks::in_house(self.alloc, &mut self.conn, sink);
-                self.counting_walk(end)
-            }
-            Err(cause) => Err(walk_fault(cause)),
-        }
+        self.ask()?;
+        self.answers = false;
+        let end = walks::in_house(self.alloc, &mut self.conn, sink);
+        self.counting_walk(end)
     }
 
     fn walk_chain<K: Sink<ChainRow>>(
@@ -70,25 +52,17 @@ impl<S: Alter> Walks for TableBooks<S> {
         room: RoomNo,
         sink: &mut K,
     ) -> Result<(), WalkFault> {
-        match self.ask() {
-            Ok(()) => {
-                self.answers = false;
-                let end = walks::chain(self.alloc, &mut self.conn, room, sink);
-                self.counting_walk(end)
-            }
-            Err(cause) => Err(walk_fault(cause)),
-        }
+        self.ask()?;
+        self.answers = false;
+        let end = walks::chain(self.alloc, &mut self.conn, room, sink);
+        self.counting_walk(end)
     }
 
     fn walk_left_behind<K: Sink<BehindRow>>(&mut self, sink: &mut K) -> Result<(), WalkFault> {
-        match self.ask() {
-            Ok(()) => {
-                self.answers = false;
-                let end = walks::left_behind(self.alloc, &mut self.conn, sink);
-                self.counting_walk(end)
-            }
-            Err(cause) => Err(walk_fault(cause)),
-        }
+        self.ask()?;
+        self.answers = false;
+        let end = walks::left_behind(self.alloc, &mut self.conn, sink);
+        self.counting_walk(end)
     }
 
     fn walk_audit<K: Sink<LockNote>>(
@@ -96,13 +70,9 @@ impl<S: Alter> Walks for TableBooks<S> {
         room: RoomNo,
         sink: &mut K,
     ) -> Result<(), WalkFault> {
-        match self.ask() {
-            Ok(()) => {
-                self.answers = false;
-                let end = walks::audit(self.alloc, &mut self.conn, room, sink);
-                self.counting_walk(end)
-            }
-            Err(cause) => Err(walk_fault(cause)),
-        }
+        self.ask()?;
+        self.answers = false;
+        let end = walks::audit(self.alloc, &mut self.conn, room, sink);
+        self.counting_walk(end)
     }
 }

@@ -1,6 +1,6 @@
 -- A guest's text is UTF-8 and its reader takes it.
 use Rattle.std.proofs.Common.{◌≡◌, ℕ, List, Bool, IsUtf8, true, false, ◌&&◌, refl, sym, ap, ap₂, subst, inl, inr}
-use Rattle.std.proofs.Common.{Result, Ok, Err, ◌∙◌, if◌then◌else◌}
+use Rattle.std.proofs.Common.{Result, Ok, Err, IsOkAnd, ◌∙◌, if◌then◌else◌}
 use Rattle.std.proofs.lemmas.Bool.{cases_Bool}
 use Rattle.std.proofs.lemmas.Str.{IsUtf8-from_is_utf8, is_utf8-from_IsUtf8}
 use Rattle.std.specs.Str.{is_utf8}
@@ -9,7 +9,7 @@ use Rattle.hotel_nights.specs.{declared.guest.GuestFault.TheVariants.Unread}
 use Rattle.hotel_nights.specs.{declared.guest.GuestFault.TheVariants.Memory}
 use Rattle.hotel_asks.specs.{declared.values.ValueFault.ValueFault, declared.values.ValueFault.TheVariants.Value}
 use Rattle.hotel_asks.specs.{declared.values.ValueName.TheVariants.Guest}
-use Rattle.hotel_asks.specs.Values.{guest_in, IsCopy}
+use Rattle.hotel_asks.specs.Values.{guest_in}
 use Rattle.hotel_asks.proofs.values.read_guest.Goals as goal
 
 -- a text that is not UTF-8 is no guest
@@ -30,8 +30,8 @@ taken text u h = elim (cases_Bool (is_guest text)) [
   | inr not ↦ absurd (h not)
 ]
 
-is_copy : (text : List ℕ) → Ok text ≡ guest_in text → IsCopy (λ guest. true) (guest_in text)
-is_copy text e = let P : Result (List ℕ) ValueFault → Type 0 = λ r. IsCopy (λ guest. true) r in subst P e refl
+is_copy : (text : List ℕ) → Ok text ≡ guest_in text → IsOkAnd (guest_in text) (λ guest. true ≡ true)
+is_copy text e = let P : Result (List ℕ) ValueFault → Type 0 = λ r. IsOkAnd r (λ guest. true ≡ true) in subst P e refl
 
 abbrev refused : GuestFault → Result (List ℕ) GuestFault
 refused fault = Err fault

@@ -13,11 +13,11 @@ returns-clause-text g c = λ honest.
     let new = g.W.Write.contents c.write_rows.new.writer in
     let before = (together g.B.Kept _ _ wrote.books.told wrote.books.calls).since.was_honest honest in
     let same = g.met.B.Books.kept_rows _ _ (found.books.kept (answered_clean g.B.Kept found.books before)) in
-    let rows = g.L.Listing.rows c.args.list.now (g.B.Books.rows c.args.books.now) in
-    let line = g.L.Row.Line.line in
+    let rows = g.L.WalkedList.rows c.args.list.now (g.B.Books.rows c.args.books.now) in
+    let line = g.L.Row.RowLine.line in
     subst (λ (b : Bool). ListEnds [] (of_room b (listing c.args.header.now line rows)) old new c.write_rows.result)
     (sym (room_there _ (found.room before)))
-    (subst (λ (rs : Rows). ListEnds [] (Some (listing c.args.header.now line (g.L.Listing.rows c.args.list.now rs)))
+    (subst (λ (rs : Rows). ListEnds [] (Some (listing c.args.header.now line (g.L.WalkedList.rows c.args.list.now rs)))
     old new c.write_rows.result) same (wrote.text honest))
 
 pub returns-clause-books : goal.returns-clause-books

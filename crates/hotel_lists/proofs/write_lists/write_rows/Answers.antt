@@ -7,11 +7,11 @@ use Rattle.hotel_lists.proofs.write_lists.write_rows.Goals as goal
 
 pub returns-in_err-write_bytes-clause-text : goal.returns-in_err-write_bytes-clause-text
 returns-in_err-write_bytes-clause-text g c = λ honest.
-    let said : Ends g.L.Row.Line.line (g.W.Write.contents c.args.writer.now)
+    let said : Ends g.L.Row.RowLine.line (g.W.Write.contents c.args.writer.now)
     (g.W.Write.contents c.write_bytes.new.writer) c.args.header.now
-    (g.L.Listing.rows c.args.list.now (g.B.Books.rows c.args.books.now)) (Err Write) =
-    cut_ends g.L.Row.Line.line _ _ c.args.header.now
-    (g.L.Listing.rows c.args.list.now (g.B.Books.rows c.args.books.now))
+    (g.L.WalkedList.rows c.args.list.now (g.B.Books.rows c.args.books.now)) (Err Write) =
+    cut_ends g.L.Row.RowLine.line _ _ c.args.header.now
+    (g.L.WalkedList.rows c.args.list.now (g.B.Books.rows c.args.books.now))
     (front_of_first _ _ c.args.header.now _ c.in_err-write_bytes.ensures.writes.err) in
     search rules
 
@@ -26,14 +26,14 @@ returns-in_err-write_bytes-clause-books g c = record {
 pub returns-clause-text : goal.returns-clause-text
 returns-clause-text g c = λ honest.
     let (handed, hands, all) = c.walk-walked.ensures.hands in
-    let (same, _) = list_ended g.W.Write.contents g.L.Row.Line.line handed _ _ _ _ _ _ hands c.finish-end.ensures.same
-    c.finish-end.ensures.ends c.listed.ensures in
-    let written = list_written g.W.Write.contents g.L.Row.Line.line _ c.args.header.now _ handed _ _ _ _ _
+    let (same, _) = list_ended g.W.Write.contents g.L.Row.RowLine.line handed _ _ _ _ _ _ hands
+    c.finish-end.ensures.same c.finish-end.ensures.ends c.listed.ensures in
+    let written = list_written g.W.Write.contents g.L.Row.RowLine.line _ c.args.header.now _ handed _ _ _ _ _
     (rw c.new-lines.ensures.unwritten c.in_ok-write_bytes.ensures.writes.ok)
     (c.new-lines.ensures.gathered ∙ c.none-gathered.ensures) (all honest) hands c.finish-end.ensures.ends in
-    let said : Ends g.L.Row.Line.line (g.W.Write.contents c.args.writer.now)
+    let said : Ends g.L.Row.RowLine.line (g.W.Write.contents c.args.writer.now)
     (g.W.Write.contents c.finish-end.new.self.writer.now) c.args.header.now
-    (g.L.Listing.rows c.args.list.now (g.B.Books.rows c.args.books.now)) c.listed.result =
+    (g.L.WalkedList.rows c.args.list.now (g.B.Books.rows c.args.books.now)) c.listed.result =
     rw c.listed.ensures written in
     let back = sym (same.writer ∙ c.new-lines.ensures.same_writer) in
     search rules
@@ -41,7 +41,7 @@ returns-clause-text g c = λ honest.
 pub returns-clause-calls : goal.returns-clause-calls
 returns-clause-calls g c =
     let (handed, hands, _) = c.walk-walked.ensures.hands in
-    let (same, failed) = list_ended g.W.Write.contents g.L.Row.Line.line handed _ _ _ _ _ _ hands
+    let (same, failed) = list_ended g.W.Write.contents g.L.Row.RowLine.line handed _ _ _ _ _ _ hands
     c.finish-end.ensures.same c.finish-end.ensures.ends c.listed.ensures in
     let none = then_none_forgotten _ _ _ (rw (← c.new-lines.ensures.uncalled) at
     c.in_ok-write_bytes.ensures.writes.calls.none_forgotten) same.none_forgotten in

@@ -16,7 +16,7 @@ loop-preserved g c =
         first.0 ++ next.0 ∷ [],
         simp length-append (omega (arith, first.1)),
         then_told g.F.FaultSink.told first.0 (next.0 ∷ []) _ _ _ first.2 next.1,
-        passes_push (Connects (sockets g.L.Listener g.L.Link.Link) g.B.Kept g.B.Books.rows g.R.Rng.stream) _ first.0
+        passes_push (Connects (sockets g.L.Listener g.L.Caller.Caller) g.B.Kept g.B.Books.rows g.R.Rng.stream) _ first.0
             first.3 next.2,
       );
     }
@@ -30,6 +30,6 @@ returns-clause-ends g c =
       all = omega (arith, ends.1);
       told = ends.2;
       connects = ends.3;
-      happened = all_happened (sockets g.L.Listener g.L.Link.Link) g.B.Kept g.B.Books.rows g.R.Rng.stream _ _ ends.0
+      happened = all_happened (sockets g.L.Listener g.L.Caller.Caller) g.B.Kept g.B.Books.rows g.R.Rng.stream _ _ ends.0
           ends.3;
     }

@@ -10,6 +10,6 @@ abbrev pub invariant-loop : goal.invariant-loop
 invariant-loop g l = record {
   ends : (ends : List ConnectionEnd) × (length ends ≡ l.counter)
       × ReportsAll g.F.FaultSink.told l.initial.faults (faults_of ends) l.faults
-      × Passes (Connects (sockets g.L.Listener g.L.Link.Link) g.B.Kept g.B.Books.rows g.R.Rng.stream)
+      × Passes (Connects (sockets g.L.Listener g.L.Caller.Caller) g.B.Kept g.B.Books.rows g.R.Rng.stream)
       (l.initial.listener, (l.initial.books, l.initial.source)) ends (l.listener, (l.books, l.source));
 }

@@ -1,4 +1,4 @@
--- the connection and its links as they are when its limits are set
+-- the connection and its callers as they are when its limits are set
 use Rattle.std.proofs.Common.{Some}
 use Rattle.hotel_program.proofs.connections.serve_taken.Given as goal
 

@@ -12,7 +12,7 @@ returns-in-Err g c rows says =
     refused g.S.Store (g.F.RowReader.says c.args.reader.now) (g.F.RowReader.is_readable c.args.reader.now)
     g.K.Sink.after g.K.Sink.after_stop c.args.text.now (bound c.args.params.now) c.args.conn.now c.args.sink.now
     c.requires.books c.requires.asks c.query.follows.lender-at-none held.mode held.survives rows c.in-Err.error held.err
-    c.failed.result (c.failed.ensures ∙ ap Some c.fault_of.ensures)
+    c.from.result (c.from.ensures ∙ ap Some c.fault_of.ensures)
 
 pub rows-init : goal.rows-init
 rows-init g c = (
@@ -69,8 +69,8 @@ returns-in-Err-next g c rows says =
     broken_off g.S.Store (g.F.RowReader.says c.args.reader.now) (g.F.RowReader.is_readable c.args.reader.now)
     g.K.Sink.after g.K.Sink.after_stop c.args.text.now (bound c.args.params.now) c.args.conn.now c.args.sink.now
     c.rows.rows c.next.follows.lender-at-none _ moved c.rows.sink c.rows._i c.rows.invariant.1 rows says
-    c.in-Err-next.error (search rules) c.failed-in-Err-next.result
-    (c.failed-in-Err-next.ensures ∙ ap Some c.fault_of-in-Err-next.ensures) in
+    c.in-Err-next.error (search rules) c.from-in-Err-next.result
+    (c.from-in-Err-next.ensures ∙ ap Some c.fault_of-in-Err-next.ensures) in
     search rules
 
 pub returns : goal.returns

@@ -21,16 +21,16 @@ use Rattle.hotel_statements.proofs.walks.audit.Goals as goal
 pub walk-requires-clause-asks : goal.walk-requires-clause-asks
 walk-requires-clause-asks g c = (_, walks.walk_audit)
 
-pub returns-in-Ok : goal.returns-in-Ok
-returns-in-Ok g c =
+pub returns : goal.returns
+returns g c =
     let old = state g.S.Store c.args.conn.now in
     let mid = state g.S.Store c.fits_of_room.new.conn in
-    let fits = c.in-Ok.fits.items in
+    let fits = c.in_ok-fits.fits.items in
     let rows = notes_at (rows_in old.now.trees).notes c.args.room in
-    let are : IsKept mid → fits ≡ fits_at (rows_in old.now.trees).fits c.args.room = λ kept. rw c.in-Ok.is at
-    (c.fits_of_room.ensures.found kept) in
-    let unchanged : HasCleanDisk mid → IsUnchanged old mid = λ clean. rw c.in-Ok.is at
-    (c.fits_of_room.ensures.unchanged tt clean) in
+    let are : IsKept mid → fits ≡ fits_at (rows_in old.now.trees).fits c.args.room =
+    λ kept. c.in_ok-fits.ensures.found kept in
+    let unchanged : HasCleanDisk mid → IsUnchanged old mid =
+    λ clean. c.in_ok-fits.ensures.unchanged tt clean in
     let walked : (all : List Note) → SaysRows (note_under fits) text.walk_audit (int c.args.room ∷ []) mid all
     → WalksRows (WalkFails (IsNoteUnder fits) text.walk_audit
     (int c.args.room ∷ [])) g.K.Sink.after g.K.Sink.after_stop all mid (state g.S.Store c.walk.new.conn) c.args.sink.now
@@ -57,9 +57,9 @@ returns-in-Ok g c =
           answers),
     ))
 
-pub returns-in-Err : goal.returns-in-Err
-returns-in-Err g c =
+pub returns-in_err-fits : goal.returns-in_err-fits
+returns-in_err-fits g c =
     not_begun g.K.Sink.after g.K.Sink.after_stop _ (state g.S.Store c.args.conn.now)
-    (state g.S.Store c.fits_of_room.new.conn) c.args.sink.now c.failed.result c.in-Err.cause c.failed.ensures
+    (state g.S.Store c.fits_of_room.new.conn) c.args.sink.now c.from_residual.result _ c.from_residual.ensures.1
     c.fits_of_room.ensures.books c.fits_of_room.ensures.keeps c.fits_of_room.ensures.crash
-    (λ clean cause. inl ((rw c.in-Err.is at (c.fits_of_room.ensures.cause clean)) cause))
+    (λ clean cause. inl (c.in_err-fits.ensures.cause clean cause))

@@ -29,21 +29,21 @@ use Rattle.hotel_statements.proofs.walks.chain.Goals as goal
 pub walk-requires-clause-asks : goal.walk-requires-clause-asks
 walk-requires-clause-asks g c = (_, walks.walk_chain)
 
-pub returns-in-Ok-Some : goal.returns-in-Ok-Some
-returns-in-Ok-Some g c =
+pub returns : goal.returns
+returns g c =
     let old = state g.S.Store c.args.conn.now in
     let mid = state g.S.Store c.bare_room.new.conn in
     let db = old.now.trees in
-    let bare = c.in-Ok-Some.row in
+    let bare = c.in-Some.row in
     let row = fitted (fits_in db) c.args.room bare in
     let rows = chain_on (rows_in db) c.args.room in
     let found : IsKept mid → Some bare ≡ at_number (bare_rooms_in db) c.args.room =
-    λ kept. rw (c.in-Ok-Some.is, c.in-Ok-Some.field-0-is) at (c.bare_room.ensures.found kept) in
+    λ kept. sym c.in-Some.is ∙ c.in_ok-row.ensures.found kept in
     let there : IsKept mid → Some row ≡ room_at (rows_in db) c.args.room =
     λ kept. ap (option_map (fitted (fits_in db) c.args.room)) (found kept)
     ∙ sym (room_joined (fits_in db) (bare_rooms_in db) c.args.room) in
     let unchanged : HasCleanDisk mid → IsUnchanged old mid =
-    λ clean. rw c.in-Ok-Some.is at (c.bare_room.ensures.unchanged clean) in
+    λ clean. c.in_ok-row.ensures.unchanged clean in
     let walked : (all : List ChainRow)
     → SaysRows (chain_row_of row.lock_place) text.walk_chain (int c.args.room ∷ []) mid all
     → WalksRows (WalkFails IsOfChain text.walk_chain
@@ -67,15 +67,13 @@ returns-in-Ok-Some g c =
           (int c.args.room ∷ []) d.trees all) was.1 answers),
     ))
 
-pub returns-in-Ok-None : goal.returns-in-Ok-None
-returns-in-Ok-None g c =
+pub returns-in_default : goal.returns-in_default
+returns-in_default g c =
     let db = (state g.S.Store c.args.conn.now).now.trees in
     let mid = state g.S.Store c.bare_room.new.conn in
-    let open_on : HasCleanDisk mid → IsTrue mid.is_open = λ clean. rw c.in-Ok-None.is at
-    (c.bare_room.ensures.open_on clean) in
+    let open_on : HasCleanDisk mid → IsTrue mid.is_open = λ clean. c.in_ok-row.ensures.open_on clean in
     let none : IsKept mid → None ≡ room_at (rows_in db) c.args.room =
-    λ kept. room_lost db c.args.room (rw (c.in-Ok-None.is, c.in-Ok-None.field-0-is) at
-    (c.bare_room.ensures.found kept)) in
+    λ kept. room_lost db c.args.room (sym c.in_default.is ∙ c.in_ok-row.ensures.found kept) in
     record {
       books = c.bare_room.ensures.books;
       keeps = c.bare_room.ensures.keeps;
@@ -91,9 +89,9 @@ returns-in-Ok-None g c =
       crash = c.bare_room.ensures.crash;
     }
 
-pub returns-in-Err : goal.returns-in-Err
-returns-in-Err g c =
+pub returns-in_err-row : goal.returns-in_err-row
+returns-in_err-row g c =
     not_begun g.K.Sink.after g.K.Sink.after_stop _ (state g.S.Store c.args.conn.now)
-    (state g.S.Store c.bare_room.new.conn) c.args.sink.now c.failed.result c.in-Err.cause c.failed.ensures
+    (state g.S.Store c.bare_room.new.conn) c.args.sink.now c.from_residual.result _ c.from_residual.ensures.1
     c.bare_room.ensures.books c.bare_room.ensures.keeps c.bare_room.ensures.crash
-    (λ clean cause. inl ((rw c.in-Err.is at (c.bare_room.ensures.cause clean)) cause))
+    (λ clean cause. inl (c.in_err-row.ensures.cause clean cause))

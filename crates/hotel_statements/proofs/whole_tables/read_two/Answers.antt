@@ -18,7 +18,7 @@ returns-in_err-second g c =
     (state g.S.Store c.read_table-2.new.conn) c.in_ok-first.first c.in_ok-first.ensures _ _
     c.from_residual-in_err-second.result
     (err_is c.from_residual-in_err-second.result _ c.from_residual-in_err-second.ensures)
-    (table_later c.args.version g.B.PlainRow.text whole.query whole.asks (BeginsAs g.B.PlainRow.shown))
+    (table_later c.args.version g.B.PlainRow.statement whole.query whole.asks (BeginsAs g.B.PlainRow.shown))
     c.in_err-second.ensures
 
 pub returns : goal.returns

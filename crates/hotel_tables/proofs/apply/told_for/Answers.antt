@@ -1,4 +1,4 @@
-use Rattle.std.proofs.Common.{◌≡◌, sym, subst}
+use Rattle.std.proofs.Common.{sym, subst}
 use Rattle.sqlite.specs.Held.{state}
 use Rattle.hotel_core.proofs.Names.{Note}
 use Rattle.hotel_statements.specs.LookUps.{HasCause}

@@ -1,4 +1,4 @@
-use Rattle.std.proofs.Common.{◌≡◌, ◌∙◌, sym, inr}
+use Rattle.std.proofs.Common.{◌∙◌, sym, inr}
 use Rattle.hotel_tables.proofs.Opened.{stored_meta}
 use Rattle.hotel_tables.proofs.opening.sound_counts.Goals as goal
 

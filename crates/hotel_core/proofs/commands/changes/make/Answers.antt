@@ -10,9 +10,9 @@ apply-requires g c = λ clean.
 
 pub returns-in-Ok-clause-steps : goal.returns-in-Ok-clause-steps
 returns-in-Ok-clause-steps g c = λ source.
-    makes c.args.reply c.args.change source c.requires.is_answer c.in-Ok.ensures.rows c.in-Ok.ensures.leaves
+    makes c.args.reply c.args.change source c.requires.is_answer c.in-Ok.ensures.whole c.in-Ok.ensures.leaves
 
 pub returns-in-Err-clause-steps : goal.returns-in-Err-clause-steps
 returns-in-Err-clause-steps g c = λ source.
     fails (accepted c.args.reply c.args.change) c.in-Err.fault c.refusal_of.result source c.refusal_of.ensures
-    c.in-Err.ensures.rows c.in-Err.ensures.leaves
+    c.in-Err.ensures.whole c.in-Err.ensures.leaves

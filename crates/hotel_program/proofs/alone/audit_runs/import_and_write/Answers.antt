@@ -13,7 +13,7 @@ returns-in-Err-clause-ends g c =
     let e = c.in-Err.ensures in (
       Err c.in-Err.fault,
       false,
-      ap (λ f. Err f) c.import_fault.ensures.fault,
+      ap (λ f. Err f) c.import_fault.ensures,
       refl,
       e.imported,
     )
@@ -26,7 +26,7 @@ returns-in-Ok-write_answers-clause-ends g c =
     let new = g.W.Write.contents c.write_answers.new.writer in (
       Ok c.in-Ok.answers.items,
       false,
-      ap (λ s. Ok s) (c.answers_status.ensures.status ∙ ap answers_status items),
+      ap (λ s. Ok s) (c.answers_status.ensures ∙ ap answers_status items),
       subst (λ (l : List LineAnswer). Appends old new (answers_text 1 l)) items c.in-Ok-write_answers.ensures.writes.ok,
       e.imported,
     )
@@ -49,6 +49,6 @@ pub returns-in-Err-clause-calls : goal.returns-in-Err-clause-calls
 returns-in-Err-clause-calls g c = record {
   failed = λ e.
       let written : c.import_fault.result ≡ Write = cc in
-      absurd (no_failed_write c.in-Err.fault (sym c.import_fault.ensures.fault ∙ written));
+      absurd (no_failed_write c.in-Err.fault (sym c.import_fault.ensures ∙ written));
   none_forgotten = search rules;
 }

@@ -33,7 +33,7 @@ loop-row-preserved c =
     let added = c.in_ok-command-2.ensures in
     record {
       shape = added.shape sub.globals
-          ∙ ap₂ with_subcommand c.loop-row.invariant.shape (ap (λ (a : App). a.top) (rw c.values.ensures at sub.shape))
+          ∙ ap₂ with_subcommand c.loop-row.invariant.shape (ap (λ (a : App). a.top) (rw c.values.ensures.names at sub.shape))
           ∙ fold-more c.args.verbs.now c.loop-row.row-index _ (omega arith);
       globals = added.globals ∙ ap₂ ◌||◌ c.loop-row.invariant.globals sub.globals;
     }

@@ -1,42 +1,36 @@
-use Rattle.std.proofs.Common.{◌∙◌, Ok, Err, Option, ap, subst}
+use Rattle.std.proofs.Common.{◌∙◌, Some, Option, ap, subst, sym}
 use Rattle.hotel_core.specs.Books.Happens.{HappensBy}
 use Rattle.hotel_core.specs.declared.asks.Ask.{Ask}
-use Rattle.hotel_program.specs.declared.script.asks.LineFault.{LineFault}
-use Rattle.hotel_asks.specs.Asks.{ask_copies}
-use Rattle.hotel_program.specs.Script.Asks.{ask_in, IsLineRead}
+use Rattle.hotel_program.specs.Script.Asks.{ask_in}
 use Rattle.hotel_program.specs.Script.LineAnswers.{AskEnds}
 use Rattle.hotel_program.proofs.OfScript.LineAnswerLemmas.{unread_ends, memory_ends}
 use Rattle.hotel_program.proofs.script.line_answers.answer_line.Goals as goal
 
-pub returns-in-Ok-Command-clause-went : goal.returns-in-Ok-Command-clause-went
-returns-in-Ok-Command-clause-went g c =
-    let read = c.in-Ok-Command.is ∙ ap (λ (a : Ask). Ok a) c.in-Ok-Command.field-0-is in
-    let wanted = subst (IsLineRead ask_copies (ask_in c.args.line.now)) read c.read_line.ensures in
+pub returns-in-Ok-Some-Command-clause-went : goal.returns-in-Ok-Some-Command-clause-went
+returns-in-Ok-Some-Command-clause-went g c =
+    let is = c.in-Ok-Some-Command.field-0-is ∙ ap (λ (a : Ask). Some a) c.in-Ok-Some-Command.field-0-0-is in
+    let wanted = sym is ∙ c.in-Ok-Some-Command.ensures.read in
     subst (λ (w : Option Ask). HappensBy g.B.Kept g.B.Books.rows c.args.books.now
     (AskEnds w (g.R.Rng.stream c.args.source.now) (g.R.Rng.stream c.answer_command.new.source)
     (g.W.Write.contents c.args.writer.now) (g.W.Write.contents c.answer_command.new.writer) c.answer_command.result
     (g.B.Kept.is_clean c.args.books.now)) c.answer_command.new.books) wanted c.answer_command.ensures.went
 
-pub returns-in-Ok-List-clause-went : goal.returns-in-Ok-List-clause-went
-returns-in-Ok-List-clause-went g c =
-    let read = c.in-Ok-List.is ∙ ap (λ (a : Ask). Ok a) c.in-Ok-List.field-0-is in
-    let wanted = subst (IsLineRead ask_copies (ask_in c.args.line.now)) read c.read_line.ensures in
+pub returns-in-Ok-Some-List-clause-went : goal.returns-in-Ok-Some-List-clause-went
+returns-in-Ok-Some-List-clause-went g c =
+    let is = c.in-Ok-Some-List.field-0-is ∙ ap (λ (a : Ask). Some a) c.in-Ok-Some-List.field-0-0-is in
+    let wanted = sym is ∙ c.in-Ok-Some-List.ensures.read in
     let s = g.R.Rng.stream c.args.source.now in
     subst (λ (w : Option Ask). HappensBy g.B.Kept g.B.Books.rows c.args.books.now (AskEnds w s s
     (g.W.Write.contents c.args.writer.now) (g.W.Write.contents c.answer_list.new.writer) c.answer_list.result
     (g.B.Kept.is_clean c.args.books.now)) c.answer_list.new.books) wanted (c.answer_list.ensures.went s)
 
-pub returns-in-Err-Unread-clause-went : goal.returns-in-Err-Unread-clause-went
-returns-in-Err-Unread-clause-went g c =
-    let read = c.in-Err-Unread.is ∙ ap (λ (f : LineFault). Err f) c.in-Err-Unread.field-0-is in
-    let wanted = subst (IsLineRead ask_copies (ask_in c.args.line.now)) read c.read_line.ensures in
-    unread_ends c.args.books.now (ask_in c.args.line.now) _ _ _ c.write_answer.result wanted
-    c.write_answer.ensures.writes.ok c.write_answer.ensures.writes.err
+pub returns-in-Ok-None-clause-went : goal.returns-in-Ok-None-clause-went
+returns-in-Ok-None-clause-went g c =
+    unread_ends c.args.books.now (ask_in c.args.line.now) _ _ _ c.write_answer.result
+    (sym c.in-Ok-None.field-0-is ∙ c.in-Ok-None.ensures.read) c.write_answer.ensures.writes.ok
+    c.write_answer.ensures.writes.err
 
-pub returns-in-Err-Memory-clause-went : goal.returns-in-Err-Memory-clause-went
-returns-in-Err-Memory-clause-went g c =
-    let read = c.in-Err-Memory.is ∙ ap (λ (f : LineFault). Err f) c.in-Err-Memory.field-0-is in
-    let some = subst (IsLineRead ask_copies (ask_in c.args.line.now)) read c.read_line.ensures in
-    memory_ends c.args.books.now (ask_in c.args.line.now) _ _ _ c.write_answer-in-Err-Memory.result
-    some c.write_answer-in-Err-Memory.ensures.writes.ok
-    c.write_answer-in-Err-Memory.ensures.writes.err
+pub returns-in-Err-clause-went : goal.returns-in-Err-clause-went
+returns-in-Err-clause-went g c =
+    memory_ends c.args.books.now (ask_in c.args.line.now) _ _ _ c.write_answer-in-Err.result
+    c.in-Err.ensures.memory c.write_answer-in-Err.ensures.writes.ok c.write_answer-in-Err.ensures.writes.err

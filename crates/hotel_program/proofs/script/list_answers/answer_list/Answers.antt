@@ -1,7 +1,7 @@
 use Rattle.std.proofs.Common.{◌≡◌, ◌∙◌, [], sym, subst, Result, ℕ, List, Ok, Err}
 use Rattle.std.specs.Io.KnownBytes.{Appends}
 use Rattle.hotel_lists.specs.Bytes.{AppendsFront}
-use Rattle.hotel_lists.specs.Lines.{ListTold, LooksAt}
+use Rattle.hotel_lists.specs.RowLines.{ListTold, LooksAt}
 use Rattle.hotel_lists.specs.declared.fault.ListFault.{ListFault}
 use Rattle.hotel_program.specs.Script.ListAnswers.{refusal_text}
 use Rattle.hotel_lists.specs.Listings.{ListEnds}

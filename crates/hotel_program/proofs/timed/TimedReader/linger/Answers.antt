@@ -8,7 +8,7 @@ use Rattle.hotel_program.proofs.timed.TimedReader.linger.Goals as goal
 pub returns-then-is_err : goal.returns-then-is_err
 returns-then-is_err g c =
     let stream = c.args.self.stream.now in
-    let reads = ReadsRest (g.L.Link.reads_limited stream) g.L.Link.clock_read (g.L.Link.was_read stream) in
+    let reads = ReadsRest (g.L.Caller.reads_limited stream) g.L.Caller.clock_read (g.L.Caller.was_read stream) in
     record {
       lingers = (
         _,
@@ -22,7 +22,7 @@ returns-then-is_err g c =
 pub loop-rest-preserved : goal.loop-rest-preserved
 loop-rest-preserved g c =
     let stream = c.args.self.stream.now in
-    let reads = ReadsRest (g.L.Link.reads_limited stream) g.L.Link.clock_read (g.L.Link.was_read stream) in
+    let reads = ReadsRest (g.L.Caller.reads_limited stream) g.L.Caller.clock_read (g.L.Caller.was_read stream) in
     let so_far = c.loop-rest.invariant.read in
     let reading : Reading = (Ok c.in-Ok.count, c.read_rest.new.room) in
     let more = brought_more so_far.0 reading in
@@ -38,10 +38,10 @@ loop-rest-preserved g c =
 pub returns-in_default : goal.returns-in_default
 returns-in_default g c =
     let stream = c.args.self.stream.now in
-    let reads = ReadsRest (g.L.Link.reads_limited stream) g.L.Link.clock_read (g.L.Link.was_read stream) in
+    let reads = ReadsRest (g.L.Caller.reads_limited stream) g.L.Caller.clock_read (g.L.Caller.was_read stream) in
     let so_far = c.loop-rest.invariant.read in
     let reading : Reading = (Ok c.in-Ok.count, c.read_rest.new.room) in
-    let new : g.row.L.Denot × ℕ = (c.read_rest.new.link, as_nanos c.read_rest.new.left) in
+    let new : g.row.L.Denot × ℕ = (c.read_rest.new.caller, as_nanos c.read_rest.new.left) in
     record {
       lingers = (
         _,
@@ -57,10 +57,10 @@ returns-in_default g c =
 pub returns-in_default-2 : goal.returns-in_default-2
 returns-in_default-2 g c =
     let stream = c.args.self.stream.now in
-    let reads = ReadsRest (g.L.Link.reads_limited stream) g.L.Link.clock_read (g.L.Link.was_read stream) in
+    let reads = ReadsRest (g.L.Caller.reads_limited stream) g.L.Caller.clock_read (g.L.Caller.was_read stream) in
     let so_far = c.loop-rest.invariant.read in
     let reading : Reading = (c.read_rest.result, c.read_rest.new.room) in
-    let new : g.row.L.Denot × ℕ = (c.read_rest.new.link, as_nanos c.read_rest.new.left) in
+    let new : g.row.L.Denot × ℕ = (c.read_rest.new.caller, as_nanos c.read_rest.new.left) in
     record {
       lingers = (
         _,

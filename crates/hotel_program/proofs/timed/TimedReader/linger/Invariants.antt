@@ -7,8 +7,8 @@ use Rattle.hotel_program.proofs.timed.TimedReader.linger.Given as goal
 
 abbrev pub invariant-loop-rest : goal.invariant-loop-rest
 invariant-loop-rest g l = record {
-  read : (readings : List Reading) × ReadsOn (ReadsRest (g.L.Link.reads_limited l.stream) g.L.Link.clock_read
-      (g.L.Link.was_read l.stream)) readings (l.initial.link, as_nanos l.initial.left) (l.link, as_nanos l.left)
+  read : (readings : List Reading) × ReadsOn (ReadsRest (g.L.Caller.reads_limited l.stream) g.L.Caller.clock_read
+      (g.L.Caller.was_read l.stream)) readings (l.initial.caller, as_nanos l.initial.left) (l.caller, as_nanos l.left)
       × (l.rest ≡ REST_BYTES - all_brought readings);
 }
 

@@ -11,8 +11,8 @@ invariant_of-self g c =
     let got = c.read_within-got.result in
     let left = as_nanos c.read_within-got.new.left in
     record {
-      timed = ∥∥₁_map self.timed (read_more g.L.Link self.stream.now _
-          (record { link = c.read_within-got.new.link; left = as_nanos c.patience-self.result; waits = false })
+      timed = ∥∥₁_map self.timed (read_more g.L.Caller self.stream.now _
+          (record { caller = c.read_within-got.new.caller; left = as_nanos c.patience-self.result; waits = false })
           (got, c.read_within-got.new.room) (
             left,
             c.read_within-got.ensures.timed,
@@ -26,8 +26,8 @@ invariant_of-self-else-is_first g c =
     let got = c.read_within-got.result in
     let left = as_nanos c.read_within-got.new.left in
     record {
-      timed = ∥∥₁_map self.timed (read_more g.L.Link self.stream.now _
-          (record { link = c.read_within-got.new.link; left = left; waits = self.waits })
+      timed = ∥∥₁_map self.timed (read_more g.L.Caller self.stream.now _
+          (record { caller = c.read_within-got.new.caller; left = left; waits = self.waits })
           (got, c.read_within-got.new.room) (
             left,
             c.read_within-got.ensures.timed,

@@ -21,97 +21,65 @@ change_tables-applied-requires g c = λ kept.
     let was = c.in-Ok.ensures.ready.keeps kept in
     subst (λ (d : Database). Fits c.args.change (rows_in d.trees)) (sym was.1) (c.requires was.0)
 
-pub returns-in-Ok-clause-rows : goal.returns-in-Ok-clause-rows
-returns-in-Ok-clause-rows g c = λ kept.
+pub returns-in-Ok : goal.returns-in-Ok
+returns-in-Ok g c =
+    let asked = c.in-Ok.ensures in
+    let ended = c.change_tables-applied.ensures in
     let new = state g.S.Store c.counting.new.self.conn in
     let applies : Applies c.args.change (state g.S.Store c.ask.new.self.conn) new c.counting.result =
     change_applies g.S.Store c.args.change c.ask.new.self c.change_tables-applied.new.self c.counting.new.self _ _
-    c.counting.ensures.same c.counting.ensures.conn c.change_tables-applied.ensures.applies in
-    let was = (c.in-Ok.ensures.ready.keeps (applies.was kept)).1 in
-    rows_are c.counting.result c.args.change (rows_in (state g.S.Store c.args.self.now.conn).now.trees)
-    (rows_in new.now.trees) (subst (λ (d : Database). OnOk c.counting.result (rows_in new.now.trees
-    ≡ made c.args.change (rows_in d.trees))) was (applies.whole kept)) (on_err_weaker c.counting.result
-    (λ (same : _). ap (λ (d : Database). rows_in d.trees) (same ∙ was)) (applies.same kept))
-
-pub returns-in-Ok-clause-rose : goal.returns-in-Ok-clause-rose
-returns-in-Ok-clause-rose g c =
-    let asked = c.in-Ok.ensures in
-    let ended = c.change_tables-applied.ensures in
-    ready_rose g.S.Store c.args.self.now c.ask.new.self c.counting.new.self _ asked.ready asked.no_fewer asked.counted
-    (told_by c.counting.result) (counts_rise (told_by c.counting.result) (failed c.ask.new.self)
-    (failed c.counting.new.self) (change_counts g.S.Store c.args.change c.ask.new.self c.change_tables-applied.new.self
-    c.counting.new.self _ _ c.counting.ensures.same c.counting.ensures.conn ended.memory ended.store
-    c.counting.ensures.counted))
-
-pub returns-in-Ok-clause-leaves : goal.returns-in-Ok-clause-leaves
-returns-in-Ok-clause-leaves g c =
-    let asked = c.in-Ok.ensures in
-    let applies : Applies c.args.change (state g.S.Store c.ask.new.self.conn) (state g.S.Store c.counting.new.self.conn)
-    c.counting.result =
-    change_applies g.S.Store c.args.change c.ask.new.self c.change_tables-applied.new.self c.counting.new.self _ _
-    c.counting.ensures.same c.counting.ensures.conn c.change_tables-applied.ensures.applies in
-    ready_leaves g.S.Store c.args.self.now c.ask.new.self c.counting.new.self _ asked.ready asked.no_fewer asked.counted
-    applies.crash
-    (change_leaves g.S.Store c.args.change c.ask.new.self c.change_tables-applied.new.self c.counting.new.self _ _
-    c.counting.ensures.same c.counting.ensures.conn c.change_tables-applied.ensures.applies
-    c.change_tables-applied.ensures.memory c.change_tables-applied.ensures.store c.counting.ensures.no_fewer
-    c.counting.ensures.counted)
-
-pub returns-in-Ok-clause-cause : goal.returns-in-Ok-clause-cause
-returns-in-Ok-clause-cause g c = λ honest store.
-    let asked = c.in-Ok.ensures in
-    let applies : Applies c.args.change (state g.S.Store c.ask.new.self.conn) (state g.S.Store c.counting.new.self.conn)
-    c.counting.result =
-    change_applies g.S.Store c.args.change c.ask.new.self c.change_tables-applied.new.self c.counting.new.self _ _
-    c.counting.ensures.same c.counting.ensures.conn c.change_tables-applied.ensures.applies in
-    let before : HasCleanDisk (state g.S.Store c.ask.new.self.conn) = omega (arith, applies.crash.clean, honest) in
-    ready_fails g.S.Store c.args.self.now c.ask.new.self c.counting.new.self _ asked.ready asked.no_fewer asked.counted
-    (TablesFail g.S.Store c.args.change) before (
-      c.ask.new.self.conn,
-      inl refl,
-      change_cause g.S.Store c.args.change c.ask.new.self c.change_tables-applied.new.self c.counting.new.self _ _
-          c.counting.ensures.same c.counting.ensures.conn c.change_tables-applied.ensures.cause honest store,
-    )
-
-pub returns-in-Ok-clause-stop : goal.returns-in-Ok-clause-stop
-returns-in-Ok-clause-stop g c =
-    let asked = c.in-Ok.ensures in
-    let applies : Applies c.args.change (state g.S.Store c.ask.new.self.conn) (state g.S.Store c.counting.new.self.conn)
-    c.counting.result =
-    change_applies g.S.Store c.args.change c.ask.new.self c.change_tables-applied.new.self c.counting.new.self _ _
-    c.counting.ensures.same c.counting.ensures.conn c.change_tables-applied.ensures.applies in
+    c.counting.ensures.same c.counting.ensures.conn ended.applies in
     record {
-      crash = ready_change g.S.Store c.args.self.now c.ask.new.self c.counting.new.self _ asked.ready asked.no_fewer
-          asked.counted c.args.change applies;
-      left = λ kept db left. g.met.S.Store.settled c.counting.new.self.conn.store db kept.1 left
-          ∙ sym (ap (λ (d : Database). d.trees) (applies.books.desk kept).settled);
+      whole = λ kept.
+          let was = (asked.ready.keeps (applies.was kept)).1 in
+          rows_are c.counting.result c.args.change (rows_in (state g.S.Store c.args.self.now.conn).now.trees)
+          (rows_in new.now.trees) (subst (λ (d : Database). OnOk c.counting.result (rows_in new.now.trees
+          ≡ made c.args.change (rows_in d.trees))) was (applies.whole kept)) (on_err_weaker c.counting.result
+          (λ (same : _). ap (λ (d : Database). rows_in d.trees) (same ∙ was)) (applies.same kept));
+      leaves = ready_leaves g.S.Store c.args.self.now c.ask.new.self c.counting.new.self _ asked.ready asked.no_fewer
+          asked.counted applies.crash
+          (change_leaves g.S.Store c.args.change c.ask.new.self c.change_tables-applied.new.self c.counting.new.self _ _
+          c.counting.ensures.same c.counting.ensures.conn ended.applies ended.memory ended.store
+          c.counting.ensures.no_fewer c.counting.ensures.counted);
+      rose = ready_rose g.S.Store c.args.self.now c.ask.new.self c.counting.new.self _ asked.ready asked.no_fewer
+          asked.counted (told_by c.counting.result) (counts_rise (told_by c.counting.result) (failed c.ask.new.self)
+          (failed c.counting.new.self) (change_counts g.S.Store c.args.change c.ask.new.self
+          c.change_tables-applied.new.self c.counting.new.self _ _ c.counting.ensures.same c.counting.ensures.conn
+          ended.memory ended.store c.counting.ensures.counted));
+      cause = λ honest store.
+          let before : HasCleanDisk (state g.S.Store c.ask.new.self.conn) =
+          omega (arith, applies.crash.clean, honest) in
+          ready_fails g.S.Store c.args.self.now c.ask.new.self c.counting.new.self _ asked.ready asked.no_fewer
+          asked.counted (TablesFail g.S.Store c.args.change) before (
+            c.ask.new.self.conn,
+            inl refl,
+            change_cause g.S.Store c.args.change c.ask.new.self c.change_tables-applied.new.self c.counting.new.self _ _
+                c.counting.ensures.same c.counting.ensures.conn ended.cause honest store,
+          );
+      stop = record {
+        crash = ready_change g.S.Store c.args.self.now c.ask.new.self c.counting.new.self _ asked.ready asked.no_fewer
+            asked.counted c.args.change applies;
+        left = λ kept db left. g.met.S.Store.settled c.counting.new.self.conn.store db kept.1 left
+            ∙ sym (ap (λ (d : Database). d.trees) (applies.books.desk kept).settled);
+      };
+      sure = λ never. absurd never;
     }
 
-pub returns-clause-rows : goal.returns-clause-rows
-returns-clause-rows g c = λ kept.
-    ap (λ (d : Database). rows_in d.trees) (c.in-Err.ensures.ready.keeps kept).1
-
-pub returns-clause-rose : goal.returns-clause-rose
-returns-clause-rose g c =
-    counts_rise (Some c.in-Err.why) (failed c.args.self.now) (failed c.ask.new.self) c.in-Err.ensures.counted
-
-pub returns-clause-leaves : goal.returns-clause-leaves
-returns-clause-leaves g c =
+pub returns : goal.returns
+returns g c =
     let asked = c.in-Err.ensures in
-    vain_leaves g.S.Store c.args.self.now c.ask.new.self c.in-Err.why asked.ready asked.no_fewer asked.counted
-
-pub returns-clause-cause : goal.returns-clause-cause
-returns-clause-cause g c =
-    let asked = c.in-Err.ensures in
-    vain_fails g.S.Store c.args.self.now c.ask.new.self c.in-Err.why asked.ready asked.no_fewer asked.counted
-    (TablesFail g.S.Store c.args.change)
-
-pub returns-clause-stop : goal.returns-clause-stop
-returns-clause-stop g c =
-    let asked = c.in-Err.ensures in
+    let why = c.in-Err.why in
     record {
-      crash = vain_change g.S.Store c.args.self.now c.ask.new.self c.in-Err.why asked.ready asked.no_fewer asked.counted
-          c.args.change;
-      left = λ kept db left. g.met.S.Store.settled c.ask.new.self.conn.store db kept.1 left
-          ∙ sym (ap (λ (d : Database). d.trees) (asked.ready.books.desk kept).settled);
+      whole = λ kept. ap (λ (d : Database). rows_in d.trees) (asked.ready.keeps kept).1;
+      leaves = vain_leaves g.S.Store c.args.self.now c.ask.new.self why asked.ready asked.no_fewer asked.counted;
+      rose = counts_rise (Some why) (failed c.args.self.now) (failed c.ask.new.self) asked.counted;
+      cause = vain_fails g.S.Store c.args.self.now c.ask.new.self why asked.ready asked.no_fewer asked.counted
+          (TablesFail g.S.Store c.args.change);
+      stop = record {
+        crash = vain_change g.S.Store c.args.self.now c.ask.new.self why asked.ready asked.no_fewer asked.counted
+            c.args.change;
+        left = λ kept db left. g.met.S.Store.settled c.ask.new.self.conn.store db kept.1 left
+            ∙ sym (ap (λ (d : Database). d.trees) (asked.ready.books.desk kept).settled);
+      };
+      sure = λ never. absurd never;
     }

@@ -1,0 +1,126 @@
+-- The lines of the five lists, and how a sink of lines and a look-up of a room end.
+use Rattle.std.specs.Prelude.{ℕ, ◌≡◌, ◌⊎◌, Bool, true, false, List, [], ◌∷◌, ◌++◌, codes, if◌then◌else◌, Option, Some}
+use Rattle.std.specs.Prelude.{None, Result, Ok, Err}
+use Rattle.std.specs.Fmt.{decimal}
+use Rattle.std.specs.Io.KnownBytes.{Keeps}
+use Rattle.csv.specs.Writing.{default_writer, row_text}
+use Rattle.keycard_rules.specs.{declared.kept.Kept.Ghosts as KeptOf, declared.issued.LookFault.LookFault}
+use Rattle.keycard_rules.specs.{Leaves.Leaves, Calls.LastCallFailed, Calls.NoCallFailed, Calls.Passes, Calls.Told}
+use Rattle.keycard_rules.specs.Calls.{all_answer}
+use Rattle.keycard_rules.specs.{Numerals.code_text, Note.Note, declared.note.Act.Act}
+use Rattle.keycard_rules.specs.declared.issued.LookFault.TheVariants as look
+use Rattle.keycard_rules.specs.declared.note.Act.TheVariants.{Entered, Left, Recoded}
+use Rattle.hotel_nights.specs.{Days.day_text, Moments.moment_of, Moments.moment_text, declared.stay.Stay.Stay}
+use Rattle.hotel_model.specs.{declared.rows.RoomRow.RoomRow, declared.list_rows.HouseRow.HouseRow}
+use Rattle.hotel_model.specs.{declared.list_rows.ChainRow.ChainRow}
+use Rattle.hotel_model.specs.{declared.list_rows.BehindRow.BehindRow, declared.list_rows.CodeState.CodeState}
+use Rattle.hotel_core.specs.declared.books.walks.WalkFault.{WalkFault}
+use Rattle.hotel_model.specs.declared.list_rows.CodeState.TheVariants as state
+use Rattle.hotel_core.specs.declared.books.walks.WalkFault.TheVariants as walk
+use Rattle.hotel_lists.specs.{Bytes.AppendsFront, declared.fault.ListFault.ListFault}
+use Rattle.hotel_lists.specs.declared.fault.ListFault.TheVariants as fault
+
+-- the line of these fields
+abbrev pub line_of : List (List ℕ) → List ℕ
+line_of fields = row_text default_writer fields
+
+-- a booked stay
+abbrev pub arrival_line : Stay → List ℕ
+arrival_line stay =
+    line_of (decimal stay.party ∷ stay.guest ∷ stay.kind ∷ day_text stay.arrive ∷ day_text stay.depart ∷ [])
+
+abbrev pub yes_or_no : Bool → List ℕ
+yes_or_no true = codes "yes"
+yes_or_no false = codes "no"
+
+-- a room with its party
+abbrev pub house_line : HouseRow → List ℕ
+house_line row = line_of (decimal row.room ∷ decimal row.party ∷ row.guest ∷ row.kind ∷ day_text row.depart
+    ∷ yes_or_no row.secured ∷ [])
+
+abbrev pub state_text : CodeState → List ℕ
+state_text state.Passed = codes "passed"
+state_text state.Held = codes "held"
+state_text state.Awaited = codes "awaited"
+
+-- a code of a room
+abbrev pub chain_line : ChainRow → List ℕ
+chain_line row = line_of (decimal row.place ∷ code_text row.code ∷ state_text row.state ∷ [])
+
+-- a room that is left behind
+abbrev pub behind_line : BehindRow → List ℕ
+behind_line row = line_of (decimal row.room ∷ code_text row.held ∷ code_text row.current ∷ decimal row.awaited ∷ [])
+
+-- what happened, the card (none for a recoding), and the two codes
+abbrev pub act_fields : Act → List (List ℕ)
+act_fields (Entered card link) = codes "in" ∷ decimal card ∷ code_text link.old_code ∷ code_text link.new_code ∷ []
+act_fields (Left card link) = codes "out" ∷ decimal card ∷ code_text link.old_code ∷ code_text link.new_code ∷ []
+act_fields (Recoded from to) = codes "recode" ∷ [] ∷ code_text from ∷ code_text to ∷ []
+
+-- a note
+abbrev pub note_line : Note → List ℕ
+note_line note = line_of (decimal note.room ∷ decimal note.fit ∷ decimal note.count ∷ act_fields note.act
+    ++ moment_text (moment_of note) ∷ [])
+
+-- the first line of each list
+abbrev pub arrivals_header : List ℕ
+arrivals_header = codes "party,guest,kind,arrive,depart\n"
+
+abbrev pub in_house_header : List ℕ
+in_house_header = codes "room,party,guest,kind,depart,secured\n"
+
+abbrev pub chain_header : List ℕ
+chain_header = codes "place,code,state\n"
+
+abbrev pub left_behind_header : List ℕ
+left_behind_header = codes "room,held,current,awaited\n"
+
+abbrev pub audit_header : List ℕ
+audit_header = codes "room,fit,count,kind,card,old,new,at\n"
+
+-- A writer stopped at a line: it took a prefix of it where the write failed, and nothing of it otherwise.
+abbrev pub StopsAtLine : Bool → Option (List ℕ) → Option (List ℕ) → List ℕ → Type 0
+StopsAtLine true old new line = AppendsFront old new line
+StopsAtLine false old new line = Keeps old new
+
+-- how a list ended, where its walk ended so, and the sink stopped for a failed write or not
+abbrev pub list_result : Result (Unit {0}) WalkFault → Bool → Result (Unit {0}) ListFault
+list_result (Ok done) write_failed = Ok tt
+list_result (Err walk.Memory) write_failed = Err fault.Memory
+list_result (Err walk.Store) write_failed = Err fault.Store
+list_result (Err walk.Stopped) write_failed = if write_failed then Err fault.Write else Err fault.Memory
+
+-- What the calls of a list reported that failed for this cause: the last one this. The list's own
+-- memory may have run out, which no call reported.
+abbrev pub ListFailed : LookFault → Told → Type 0
+ListFailed look.Memory told = (all_answer told ≡ true) ⊎ LastCallFailed look.Memory told
+ListFailed look.Store told = LastCallFailed look.Store told
+
+-- What the calls of a list reported that ended so. One that was written in full, or whose room isn't there, made a call
+-- or more.
+abbrev pub ListTold : Result (Unit {0}) ListFault → Told → Type 0
+ListTold (Ok done) told = NoCallFailed told
+ListTold (Err fault.NoRoom) told = NoCallFailed told
+ListTold (Err fault.Memory) told = ListFailed look.Memory told
+ListTold (Err fault.Store) told = ListFailed look.Store told
+ListTold (Err fault.Write) told = all_answer told ≡ true
+
+-- A list made these calls of the books, which reported what its end says, and left what was there.
+pub record LooksAt {B : Type 0} (K : KeptOf B) (old new : B) (result : Result (Unit {0}) ListFault) : Type 0 where
+  pub kept : K.is_clean new → K.is_kept old new
+  pub told : Told
+  pub calls : Passes (Leaves K) old told new
+  pub tells : ListTold result told
+
+-- no row and no header can have been written
+abbrev pub is_before_rows : Result (Unit {0}) ListFault → Bool
+is_before_rows (Ok done) = false
+is_before_rows (Err fault.NoRoom) = true
+is_before_rows (Err fault.Memory) = true
+is_before_rows (Err fault.Store) = true
+is_before_rows (Err fault.Write) = false
+
+-- the room is there, or it isn't and the answer is NoRoom, unless memory or the store failed
+abbrev pub FindsRoom : Option RoomRow → Result (Unit {0}) ListFault → Type 0
+FindsRoom (Some row) result = (result ≡ Err fault.NoRoom → ⊥) × (result ≡ Err fault.Write → ⊥)
+FindsRoom None result = is_before_rows result ≡ true

@@ -1,0 +1,155 @@
+//! The line of a row, as text of a CSV file.
+ghost use Rattle.std.specs.Prelude.{◌≡◌, ℕ, List, [], ◌∷◌, ◌++◌, OnOk};
+ghost use Rattle.std.specs.Fmt.{decimal};
+ghost use Rattle.keycard_rules.specs.Numerals.{code_text};
+ghost use Rattle.hotel_nights.specs.Moments.{moment_of, moment_text};
+ghost use Rattle.hotel_lists.specs.RowLines.{line_of, arrival_line, house_line, chain_line, behind_line, note_line};
+ghost use Rattle.hotel_lists.specs.RowLines.{yes_or_no, state_text};
+
+use crate::gathered::Gathered;
+use hotel_core::{BehindRow, ChainRow, CodeState, HouseRow};
+use hotel_nights::{Moment, Stay};
+use keycard_rules::{Act, Code, LockNote, Memory};
+
+/// A row that has a line.
+pub(crate) trait RowLine {
+    /// The text of its line.
+    ghost line: { Self → List ℕ };
+
+    /// Puts its line behind the lines that are gathered.
+    fn gather(&self, lines: &mut Gathered) -> Result<(), Memory>
+        ensures { OnOk result (lines.new ≡ lines.old ++ line self.now) };
+}
+
+impl RowLine for Stay {
+    ghost line = { arrival_line };
+
+    fn gather(&self, lines: &mut Gathered) -> Result<(), Memory> {
+        let mut party = itoa::Buffer::new();
+        let arrive = self.arrive.print();
+        let depart = self.depart.print();
+        lines.push(&[
+            party.format(self.party.value()).as_bytes(),
+            self.guest.text().as_bytes(),
+            self.kind.as_bytes(),
+            arrive.as_slice(),
+            depart.as_slice(),
+        ])
+    }
+}
+
+/// Whether the room is secured.
+fn secured_text(row: &HouseRow) -> &[u8]
+    ensures { result.now ≡ yes_or_no row.now.secured }
+{
+    if row.secured { b"yes" } else { b"no" }
+}
+
+impl RowLine for HouseRow {
+    ghost line = { house_line };
+
+    fn gather(&self, lines: &mut Gathered) -> Result<(), Memory> {
+        let mut room = itoa::Buffer::new();
+        let mut party = itoa::Buffer::new();
+        let depart = self.depart.print();
+        lines.push(&[
+            room.format(self.room.value()).as_bytes(),
+            party.format(self.party.value()).as_bytes(),
+            self.guest.text().as_bytes(),
+            self.kind.as_bytes(),
+            depart.as_slice(),
+            secured_text(self),
+        ])
+    }
+}
+
+fn state_text(state: CodeState) -> &'static [u8]
+    ensures { result.now ≡ state_text state }
+{
+    match state {
+        CodeState::Passed => b"passed",
+        CodeState::Held => b"held",
+        CodeState::Awaited => b"awaited",
+    }
+}
+
+impl RowLine for ChainRow {
+    ghost line = { chain_line };
+
+    fn gather(&self, lines: &mut Gathered) -> Result<(), Memory> {
+        let mut place = itoa::Buffer::new();
+        let code = self.code.print();
+        lines.push(&[
+            place.format(self.place).as_bytes(),
+            code.as_slice(),
+            state_text(self.state),
+        ])
+    }
+}
+
+impl RowLine for BehindRow {
+    ghost line = { behind_line };
+
+    fn gather(&self, lines: &mut Gathered) -> Result<(), Memory> {
+        let mut room = itoa::Buffer::new();
+        let mut awaited = itoa::Buffer::new();
+        let held = self.held.print();
+        let current = self.current.print();
+        lines.push(&[
+            room.format(self.room.value()).as_bytes(),
+            held.as_slice(),
+            current.as_slice(),
+            awaited.format(self.awaited).as_bytes(),
+        ])
+    }
+}
+
+/// The line of a note whose act has this kind, card and codes.
+fn note_fields(
+    lines: &mut Gathered,
+    note: &LockNote,
+    kind: &[u8],
+    card: &[u8],
+    old: Code,
+    new: Code,
+) -> Result<(), Memory>
+    ensures { OnOk result (lines.new ≡ lines.old ++ line_of (
+        decimal note.now.room ∷ decimal note.now.fit ∷ decimal note.now.count ∷ kind.now ∷ card.now
+        ∷ code_text old ∷ code_text new ∷ moment_text (moment_of note.now) ∷ [])) }
+{
+    let mut room = itoa::Buffer::new();
+    let mut fit = itoa::Buffer::new();
+    let mut count = itoa::Buffer::new();
+    let old = old.print();
+    let new = new.print();
+    let at = Moment::of(note).print();
+    lines.push(&[
+        room.format(note.room.value()).as_bytes(),
+        fit.format(note.fit.value()).as_bytes(),
+        count.format(note.count.value()).as_bytes(),
+        kind,
+        card,
+        old.as_slice(),
+        new.as_slice(),
+        at.as_slice(),
+    ])
+}
+
+impl RowLine for LockNote {
+    ghost line = { note_line };
+
+    fn gather(&self, lines: &mut Gathered) -> Result<(), Memory> {
+        let mut buffer = itoa::Buffer::new();
+        match self.act {
+            Act::Entered { card, link } => {
+                let card = buffer.format(card.value()).as_bytes();
+                note_fields(lines, self, b"in", card, link.old_code, link.new_code)
+            }
+            Act::Left { card, link } => {
+                let card = buffer.format(card.value()).as_bytes();
+                note_fields(lines, self, b"out", card, link.old_code, link.new_code)
+            }
+            Act::Recoded { from, to } => note_fields(lines, self, b"recode", b"", from, to),
+        }
+    }
+}

@@ -1,6 +1,0 @@
-use Rattle.std.proofs.Common.{◌-◌, length, drop}
-use Rattle.hotel_rows.specs.Lasts.{LastsOf}
-use Rattle.hotel_rows.proofs.damage.links.lasts_of.Given as goal
-
-abbrev pub invariant-loop-k : goal.invariant-loop-k
-invariant-loop-k l = LastsOf l.lasts.entries (drop (length l.cards - l.k) l.cards)

@@ -1,6 +1,0 @@
-use Rattle.std.proofs.Common.{◌-◌, length, drop}
-use Rattle.hotel_rows.specs.Owners.{OwnersOf}
-use Rattle.hotel_rows.proofs.damage.owners.owners_of.Given as goal
-
-abbrev pub invariant-loop-k : goal.invariant-loop-k
-invariant-loop-k l = OwnersOf l.owners.entries (drop (length l.cards - l.k) l.cards)

@@ -1,6 +1,0 @@
-use Rattle.std.proofs.Common.{◌-◌, length, drop}
-use Rattle.hotel_rows.specs.Placed.{PlacesOf}
-use Rattle.hotel_rows.proofs.damage.placed.place_codes.Given as goal
-
-abbrev pub invariant-loop-k : goal.invariant-loop-k
-invariant-loop-k l = PlacesOf l.placed.entries (drop (length l.codes - l.k) l.codes)
