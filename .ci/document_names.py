@@ -23,7 +23,7 @@ import sys
 TOP = pathlib.Path(__file__).resolve().parent.parent
 CRATES = {path.name: path for path in sorted((TOP / "crates").iterdir())}
 DOCUMENTS = [TOP / "README.md", *sorted((TOP / "docs").glob("*.md")), TOP / "bench" / "README.md"]
-TEST_CRATES = ("hotel_tests", "hotel_stored_tests", "hotel_client")
+TEST_CRATES = ("hotel_tests", "hotel_client")
 # The documents whose tables name clauses and tests.
 WITH_CLAUSES = ("PROOFS", "FAULTS", "LIMITS", "TESTING")
 # Words of other libraries that documents name.

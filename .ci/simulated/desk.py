@@ -9,6 +9,8 @@ from simulated.things import Card, day_text
 from simulated.wanted import CODE, Books
 from simulated.ways import file_of, line_of, same
 
+KILL = "kill", None, None
+
 
 class Desk:
     """`steps` are what was asked and answered: a command with its values, `file`, `kill`, `take` or `restore`. `now` is
@@ -23,25 +25,22 @@ class Desk:
         self.steps.append((*self.now, said))
         self.now = None
 
-    def kill(self, kill=True):
-        """The program is killed, or will be while it is asked."""
-        self.counts["kills"] += 1
-        self.steps.append(("kill", None, None))
-        if kill:
-            self.way.stop()
+    def kill(self):
+        """The program is killed while nobody asks it."""
+        self.steps.append(KILL)
+        self.way.stop()
 
     def kill_after(self, lines=1):
         """How many seconds a kill waits, if one comes to a request with so many lines; a line takes some 200 us."""
         if self.chance.random() >= self.kills or not self.books.rooms:
             return None
-        self.kill(False)
+        self.steps.append(KILL)
         return self.chance.random() * (0.0001 + 0.0002 * lines)
 
     def do(self, verb, **v):
         """Gives a command. Its card, its code or True if it is done; None if it is refused, or a note is seen."""
-        self.counts["commands"] += 1
-        wanted, kill, self.now = self.books.refusal(verb, v), self.kill_after(), (verb, v)
-        said = self.way.command(verb, v, kill)
+        wanted, self.now = self.books.refusal(verb, v), (verb, v)
+        said = self.way.command(verb, v, self.kill_after())
         if said is None:
             return None if wanted else self.find_out(verb, v)
         if wanted is None:
@@ -121,34 +120,39 @@ class Desk:
         return [f"{name} {room}" for room in rooms for name in ("chain", "audit-of")]
 
     def compare(self, lines):
-        """Asks for these lists, which have to be as wanted, and returns them."""
+        """Asks for these lists, which have to be as wanted, and returns the rows of each."""
         self.counts["lists"] += len(lines)
-        wanted, self.now = [self.books.list_of(line) for line in lines], ("lists", lines)
+        wanted, self.now = {line: self.books.list_of(line) for line in lines}, ("lists", lines)
         said = self.way.lists(lines)
-        for line, text in zip(lines, wanted) if said != "".join(wanted) else ():
+        for line in lines if said != "".join(wanted.values()) else ():
             self.now = "lists", [line]
-            same(line, text, self.way.lists([line]))
-        same(", ".join(lines), "".join(wanted), said)
+            same(line, wanted[line], self.way.lists([line]))
+        same(", ".join(lines), "".join(wanted.values()), said)
         self.now = None
-        return said
+        return {line: text.split("\n")[1:-1] for line, text in wanted.items()}
+
+    def compare_all(self):
+        return self.compare(["in-house", "left-behind", *self.lists_of(sorted(self.books.rooms))])
 
     def back_up(self, what, number, folder):
         """Takes a backup, or restores it; `hotel_backup` prints its day."""
-        self.counts[{"take": "backups", "restore": "restores"}[what]] += 1
+        self.counts[f"{what}s"] += 1
         self.now = what, number
         name, day = self.way.back_up(what, folder)
         same(f"the day of what `hotel_backup {what}` prints", day_text(self.books.day), day)
         self.said(day)
         return name
 
-    def take(self, _=None):
+    def take(self):
         name = self.back_up("take", len(self.backups), tempfile.mkdtemp(dir=self.way.folder))
-        self.backups.append((name, pickle.dumps(self.books)))
+        self.backups.append((name, pickle.dumps(self.books), len(self.steps)))
 
     def restore(self, number):
-        name, books = self.backups[number]
+        """Restores a backup, and returns after how many steps it was taken."""
+        name, books, taken = self.backups[number]
         self.books = pickle.loads(books)
         self.back_up("restore", number, name)
         for folder in self.way.folder.glob("before-*"):
             shutil.rmtree(folder)
-        self.compare(["in-house", "left-behind", *self.lists_of(sorted(self.books.rooms))])
+        self.compare_all()
+        return taken

@@ -9,32 +9,26 @@ NAMES = ["Ann", "Bo", "Zoë", "李", "O'Neil", '"Ed"', "=cmd()", "-1", "#9", "A&
 class Guests:
     """A part of Hotel. A guest is `booked`, `here` or `gone`; sleeps in `room`; and has `cards` in the pocket."""
 
-    def those(self, state):
-        return [guest for guest in self.guests if guest.state == state]
-
     def books_room(self):
         books, chance = self.desk.books, self.chance
         arrive = books.day + min(int(chance.expovariate(0.7)), 60) - (chance.random() < 0.03)
         v = {"kind": chance.choice(self.kinds if chance.random() < 0.97 else ["NONE", "NO"]),
-             "arrive": max(FIRST_DAY, min(arrive, LAST_DAY)), "nights": chance.choice([1, 1, 1, 1, 2, 2, 2, 3, 4]),
-             "guest": f"{chance.choice(NAMES)}{chance.choice([' ', ', ', '  '])}{self.event}"}
-        v["nights"] = v["nights"] if chance.random() < 0.98 else chance.randint(1, 90)
+             "arrive": max(FIRST_DAY, min(arrive, LAST_DAY)),
+             "nights": chance.choice([1, 1, 1, 1, 2, 2, 2, 3, 4]) if chance.random() < 0.98 else chance.randint(1, 90),
+             "guest": f"{chance.choice(NAMES)}{chance.choice([' ', ', ', '  '])}{self.desk.counts['events']}"}
         if self.desk.do("reserve", **v):
-            self.guests.append(types.SimpleNamespace(**v, party=len(books.stays), state="booked", room=None, cards=[]))
+            self.guests.append(types.SimpleNamespace(**v, departs=v["arrive"] + v["nights"], party=len(books.stays),
+                                                     state="booked", room=None, cards=[]))
 
-    def cancels(self):
-        guest = self.some(self.those("booked"))
-        if guest and self.desk.do("cancel", party=guest.party):
+    def cancels(self, guest):
+        if self.desk.do("cancel", party=guest.party):
             self.guests.remove(guest)
 
-    def arrives(self):
-        """A booked guest comes, mostly when expected, and is given a free room of the kind, and cards."""
-        due = [guest for guest in self.those("booked") if 0 <= self.desk.books.day - guest.arrive < guest.nights]
-        guest = self.some(self.those("booked") if self.chance.random() < 0.1 else due)
-        room = guest and self.some(self.free(guest.kind))
-        if not room or self.chance.random() < 0.05:
-            room = self.some(sorted(self.locks))
-        card = guest and self.desk.do("check-in", party=guest.party, room=room)
+    def arrives(self, guest):
+        """A booked guest comes, and is mostly given a free room of the kind, and cards."""
+        free = self.free(guest.kind) if self.chance.random() < 0.95 else []
+        room = self.chance.choice(free or sorted(self.locks))
+        card = self.desk.do("check-in", party=guest.party, room=room)
         if card:
             guest.state, guest.room, guest.cards = "here", room, [card]
             for _ in range(self.chance.choice([0, 0, 1, 2])):
@@ -42,34 +36,29 @@ class Guests:
             if self.chance.random() < 0.75:
                 self.goes_in(guest)
 
-    def goes_in(self, guest=None):
+    def goes_in(self, guest):
         """A guest tries a card, and if the door stays shut the others, newest first; and then asks staff."""
-        guest = guest or self.some(self.those("here"))
-        card = guest and self.some([card for card in guest.cards if card not in self.locks[guest.room].within])
+        card = self.some([card for card in guest.cards if card not in self.locks[guest.room].within])
         if card and not any(self.tries(tried, guest.room) for tried in [card, *sorted(guest.cards, reverse=True)]):
             if self.chance.random() < 0.7:
                 self.recodes(guest.room, card.new if self.chance.random() < 0.8 else None)
 
-    def goes_out(self, guest=None):
+    def goes_out(self, guest):
         """A guest goes out, now and then unseen by the lock."""
-        guest = guest or self.some(self.those("here"))
-        lock = guest and self.locks[guest.room]
-        for card in [card for card in lock.within if card in guest.cards] if lock else []:
+        lock = self.locks[guest.room]
+        for card in [card for card in lock.within if card in guest.cards]:
             if self.chance.random() < (0.67 if guest.state == "here" else 0.95):
                 lock.leaves(card, self.at())
 
-    def takes_spare(self, guest=None):
-        guest = guest or self.some(self.those("here"))
-        if guest:
-            guest.cards.append(self.desk.do("spare", party=guest.party))
+    def takes_spare(self, guest):
+        guest.cards.append(self.desk.do("spare", party=guest.party))
 
-    def loses(self):
+    def loses(self, guest):
         """A card is lost, and perhaps reported. Then the new one enters at once, or staff set the lock, or neither
         (docs/OPERATING.md, A lost card)."""
-        guest = self.some([guest for guest in self.those("here") if guest.cards])
-        if not guest:
-            return
         card, lock, others = self.some(guest.cards), self.locks[guest.room], len(guest.cards) - 1
+        if not card:
+            return
         guest.cards.remove(card)
         self.lost.append(card)
         if card in lock.within:
@@ -85,17 +74,15 @@ class Guests:
         for _ in range(min(2, others)):
             self.takes_spare(guest)
 
-    def comes_back(self):
+    def comes_back(self, card):
         """A card that was lost, or that a guest has kept, is tried at each door."""
-        card = self.some(self.lost)
-        for room in sorted(self.locks) if card else []:
+        for room in sorted(self.locks):
             if self.tries(card, room) and self.chance.random() < 0.9:
                 self.locks[room].leaves(card, self.at())
         self.lost = [kept for kept in self.lost[-99:] if kept != card or self.chance.random() < 0.7]
 
-    def moves(self):
-        guest = self.some(self.those("here"))
-        room = guest and self.some(self.free(guest.kind) if self.chance.random() < 0.9 else sorted(self.locks))
+    def moves(self, guest):
+        room = self.some(self.free(guest.kind) if self.chance.random() < 0.9 else sorted(self.locks))
         if room and self.chance.random() < 0.8:
             self.goes_out(guest)
         card = room and self.desk.do("transfer", party=guest.party, room=room)
@@ -106,21 +93,15 @@ class Guests:
             if self.chance.random() < 0.8:
                 self.goes_in(guest)
 
-    def departs(self):
-        """A guest goes at the end of the stay, earlier or later, mostly with a word."""
-        here, day = self.those("here"), self.desk.books.day
-        due = [guest for guest in here if guest.arrive + guest.nights <= day]
-        guest = self.some(due if due and self.chance.random() < 0.85 else here)
-        if guest and (guest in due or self.chance.random() < 0.5):
-            guest.state = "gone"
-            self.goes_out(guest)
-            if self.chance.random() < 0.85:
-                self.checks_out(guest)
+    def departs(self, guest):
+        """A guest goes, mostly with a word."""
+        guest.state = "gone"
+        self.goes_out(guest)
+        if self.chance.random() < 0.85:
+            self.checks_out(guest)
 
-    def checks_out(self, guest=None):
+    def checks_out(self, guest):
         """A guest is checked out, perhaps because staff see that the guest went without a word."""
-        guest = guest or self.some(self.those("gone"))
-        if guest:
-            self.desk.do("check-out", party=guest.party)
-            self.guests.remove(guest)
-            self.lost += guest.cards
+        self.desk.do("check-out", party=guest.party)
+        self.guests.remove(guest)
+        self.lost += guest.cards

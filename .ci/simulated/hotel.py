@@ -2,29 +2,39 @@
 import collections
 import csv
 import datetime
-import re
 import time
 
 from simulated.guests import Guests
 from simulated.staff import Staff
 from simulated.things import Lock, day_text, ordinal
-from simulated.wanted import CODE, LAST_DAY
+from simulated.wanted import LAST_DAY
 from simulated.ways import same
 
-# How often each comes, beside the others.
-EVENTS = {"books_room": 14, "arrives": 20, "goes_in": 18, "goes_out": 16, "departs": 14, "cancels": 2, "takes_spare": 3,
-          "loses": 3, "comes_back": 3, "moves": 4, "checks_out": 3, "sees_left_behind": 1, "replaces": 0.7, "reads": 4,
-          "reads_badly": 3, "errs": 5, "kills_idle": 0.3, "treats": 1, "builds": 0.005}
+# How often each comes, beside the others, and to one of whom.
+EVENTS = [(14, "books_room", None), (18, "arrives", "expected"), (2, "arrives", "booked"), (2, "cancels", "booked"),
+          (18, "goes_in", "here"), (16, "goes_out", "here"), (3, "takes_spare", "here"), (3, "loses", "here"),
+          (4, "moves", "here"), (12, "departs", "due"), (2, "departs", "here"), (3, "checks_out", "gone"),
+          (3, "comes_back", "lost card"), (4, "reads", None), (3, "reads_badly", None), (1, "sees_left_behind", None),
+          (0.7, "replaces", "lock"), (1, "treats", "lost lock"), (5, "errs", None), (0.3, "kills_idle", None),
+          (0.005, "builds", None)]
 
 
 class Hotel(Guests, Staff):
-    """A building and the people in it. `desk` is what they ask. `taken` has the event before each backup."""
+    """A building and the people in it. `desk` is what they ask."""
 
     def __init__(self, desk, chance, rooms, restores, lock=Lock):
         self.desk, self.chance, self.rooms, self.restore_chance, self.lock = desk, chance, rooms, restores, lock
         self.kinds = ["DBL"] if rooms < 4 else ["DBL", "SGL", "SUITE8"]
-        self.locks, self.old_locks, self.guests, self.lost = {}, [], [], []
-        self.mistimed, self.taken, self.second, self.event = set(), [], 0, 0
+        self.locks, self.old_locks, self.guests, self.lost, self.mistimed, self.second = {}, [], [], [], set(), 0
+
+    def those(self, what):
+        """The guests in this state, or the locks, or the cards that were lost."""
+        day, locks = self.desk.books.day, [lock for _, lock in sorted(self.locks.items())]
+        found = {"lock": locks, "lost lock": [lock for lock in locks if lock.is_lost], "lost card": self.lost,
+                 "due": [guest for guest in self.guests if guest.state == "here" and guest.departs <= day],
+                 "expected": [guest for guest in self.guests
+                              if guest.state == "booked" and guest.arrive <= day < guest.departs]}
+        return found[what] if what in found else [guest for guest in self.guests if guest.state == what]
 
     def some(self, among):
         return self.chance.choice(among) if among else None
@@ -37,12 +47,11 @@ class Hotel(Guests, Staff):
         return [room.number for room in self.desk.books.rooms.values() if room.kind == kind and not room.party]
 
     def sets_lock(self, room, fit, code):
-        self.locks[room] = self.lock(room, fit, code, self.event)
+        self.locks[room] = self.lock(room, fit, code, len(self.desk.steps))
         return self.locks[room]
 
     def tries(self, card, room):
         """A card is tried at a door. No door opens to a card of another room."""
-        self.desk.counts["cards tried"] += 1
         lock, is_unknown = self.locks[room], self.desk.books.cards.get(card.number) != card
         is_open = lock.enters(card, self.at())
         lock.may_be_lost |= is_open and is_unknown
@@ -55,7 +64,7 @@ class Hotel(Guests, Staff):
         if chance.random() < self.desk.way.looks:
             rooms = chance.sample(sorted(books.rooms), min(4, len(books.rooms)))
             day = min(LAST_DAY, books.day + chance.choice([0, chance.randint(0, 9)]))
-            notes = [f"audit-of {room}" for room in rooms[:chance.random() < 0.1]]
+            notes = [f"audit-of {rooms[0]}"] if chance.random() < 0.1 else []
             chains = [f"chain {room}" for room in rooms]
             self.desk.compare(["in-house", "left-behind", f"arrivals {day_text(day)}", *chains, *notes])
 
@@ -69,45 +78,42 @@ class Hotel(Guests, Staff):
         for room in self.chance.sample(range(1, 10_000), self.rooms):
             self.builds(room)
         for _ in range(days):
-            for name in self.chance.choices(list(EVENTS), list(EVENTS.values()), k=30 * self.rooms):
+            for _, name, what in self.chance.choices(EVENTS, [often for often, *_ in EVENTS], k=30 * self.rooms):
                 if time.monotonic() > until:
                     return
-                self.event += 1
                 self.desk.counts["events"] += 1
-                getattr(self, name)()
+                comes_to = [self.some(self.those(what))] if what else []
+                if None not in comes_to:
+                    getattr(self, name)(*comes_to)
                 self.look()
             self.ends_day()
             if self.desk.do("next-day") is None:
                 return
 
     def ends_day(self):
-        self.second, day = 0, self.desk.books.day
+        self.second, chance = 0, self.chance
         self.desk.counts["days"] += 1
-        for guest in [guest for guest in self.those("booked") if guest.arrive + guest.nights <= day + 1]:
+        for guest in [guest for guest in self.those("booked") if guest.departs <= self.desk.books.day + 1]:
             self.guests.remove(guest)
-            if self.chance.random() < 0.5:
+            if chance.random() < 0.5:
                 self.desk.do("cancel", party=guest.party)
-        if self.chance.random() < 2 * self.restore_chance:
+        if chance.random() < 2 * self.restore_chance:
             self.desk.take()
-            self.taken.append(self.event)
-            self.event += 1
-        if self.taken and self.chance.random() < self.restore_chance:
+        if self.desk.backups and chance.random() < self.restore_chance:
             self.restores()
-        locks, size = [self.locks[room] for room in sorted(self.locks)], self.chance.choice([1, 8])
-        for at in range(0, len(locks) if self.chance.random() < 0.7 else 0, size):
+        locks, size = self.those("lock"), chance.choice([1, 8])
+        for at in range(0, len(locks) if chance.random() < 0.7 else 0, size):
             self.imports(locks[at:at + size])
-        self.tries_all()
-        self.counts_codes()
-        self.counts_nights(day)
+        lists = self.desk.compare_all()
+        self.tries_all({int(row.split(",")[0]) for row in lists["in-house"] if row.endswith(",yes")})
+        self.counts_codes(lists)
+        self.counts_nights(list(csv.reader(lists["in-house"])))
 
-    def tries_all(self):
+    def tries_all(self, secured):
         """Each card ever issued is tried at each door, without turning the lock."""
-        rows = self.desk.compare(["in-house"]).split("\n")
-        secured = {int(row.split(",")[0]) for row in rows if row.endswith(",yes")}
         for number, lock in self.locks.items():
             room, cards = self.desk.books.rooms[number], self.desk.books.cards
             opening = [card for card in self.desk.issued if lock.code in card[2:4]]
-            self.desk.counts["doors tried"] += len(self.desk.issued)
             same(f"the rooms of the cards that open {number}", set(), {card.room for card in opening} - {number})
             if number in secured:
                 self.desk.counts["secured rooms"] += 1
@@ -122,25 +128,23 @@ class Hotel(Guests, Staff):
                     self.desk.counts["locks beside chains"] += 1
                     same(f"the code of the lock of {number}", room.held, lock.code)
 
-    def counts_codes(self):
-        """Each code that was ever answered is in one chain, once. A restore can lose codes."""
-        rooms = sorted(self.desk.books.rooms)
-        chains = self.desk.compare([f"chain {room}" for room in rooms])
-        codes = collections.Counter(re.findall(f",{CODE},", chains))
+    def counts_codes(self, lists):
+        """Each code that was ever answered is in one chain, once. A restore can lose codes. Notes of a list, as a file,
+        are seen."""
+        codes = collections.Counter(row.split(",")[1] for line, rows in lists.items() if line.startswith("chain ")
+                                    for row in rows)
         wanted = self.desk.codes & set(codes) if self.desk.counts["restores"] else self.desk.codes
         same("the codes of all chains", dict.fromkeys(wanted, 1), dict(codes))
-        self.desk.compare([f"audit-of {room}" for room in rooms])
+        rooms = sorted(self.desk.books.rooms)
         for room in self.chance.sample(rooms, min(3, len(rooms))):
             notes = [note for kept in self.desk.books.rooms[room].fits for note in kept][:2500]
             same(f"the answers to `audit-of {room}` as a file", set(), set(self.desk.send(notes)) - {"seen"})
 
-    def counts_nights(self, day):
+    def counts_nights(self, here):
         """On no night has a kind more stays than rooms, by the lists."""
-        here = list(csv.reader(self.desk.compare(["in-house"]).split("\n")[1:-1]))
-        rooms = collections.Counter(room.kind for room in self.desk.books.rooms.values())
-        for night in range(day, min(day + 4, LAST_DAY)):
-            booked = csv.reader(self.desk.compare([f"arrivals {day_text(night)}"]).split("\n")[1:-1])
-            here = [row for row in here if ordinal(row[4]) > night]
-            taken = collections.Counter([row[2] for row in booked] + [row[3] for row in here])
-            same(f"the kinds with too many stays on {day_text(night)}", {}, dict(taken - rooms))
+        day, rooms = self.desk.books.day, collections.Counter(room.kind for room in self.desk.books.rooms.values())
+        for line in [f"arrivals {day_text(night)}" for night in range(day, min(day + 4, LAST_DAY))]:
+            night, booked = line.split()[1], csv.reader(self.desk.compare([line])[line])
+            taken = collections.Counter([row[2] for row in booked] + [row[3] for row in here if row[4] > night])
+            same(f"the kinds with too many stays on {night}", {}, dict(taken - rooms))
             self.desk.counts["full nights"] += sum(taken[kind] == count for kind, count in rooms.items())

@@ -65,7 +65,8 @@ def command_lost(way, text, ask):
 
 def with_lock(**methods):
     """No bug of the program, but locks that do otherwise."""
-    bug = alters("", "$^", "")
+    def bug(_, text, ask):
+        return ask()
     bug.lock = type("Lock", (Lock,), methods)
     return bug
 

@@ -15,21 +15,22 @@ class Staff:
         awaited = self.desk.books.rooms[room].awaited
         if awaited and not lock.is_lost:
             lock.set_to(code if code in awaited and chance.random() < 0.9 else self.some(awaited), self.at())
-            # By another watch than the lock's: what the reader brings later is a conflict.
-            note = lock.log[-1]._replace(at=self.at()) if chance.random() < 0.2 else lock.log[-1]
-            self.mistimed |= {note[:3]} if note != lock.log[-1] else set()
-            if note != lock.log[-1] or chance.random() < 0.5:
+            note, is_by_hand = lock.log[-1], chance.random() < 0.6
+            if is_by_hand and chance.random() < 0.3:
+                # By another watch than the lock's: what the reader brings later is a conflict.
+                note = note._replace(at=self.at())
+                self.mistimed.add(note[:3])
+            if is_by_hand:
                 self.desk.do(VERBS[note.kind], note=note)
 
     def sees_left_behind(self):
-        rows = self.desk.compare(["left-behind"]).split("\n")[1:-1]
+        rows = self.desk.compare(["left-behind"])["left-behind"]
         if rows:
-            self.desk.counts["left behind"] += len(rows)
             self.recodes(int(self.some(rows).split(",")[0]))
 
-    def replaces(self):
+    def replaces(self, lock):
         """A lock is replaced, mostly as docs/OPERATING.md wants (A replaced lock); else its last notes are lost."""
-        lock, is_careful = self.some(list(self.locks.values())), self.chance.random() < 0.75
+        is_careful = self.chance.random() < 0.75
         for guest in [guest for guest in self.those("here") if guest.room == lock.room and is_careful]:
             guest.state = "gone"
             self.goes_out(guest)
@@ -65,18 +66,19 @@ class Staff:
             for note, answer in zip(notes, answers):
                 lock = self.locks[note.room]
                 if note.fit == lock.fit and note[:3] not in self.mistimed and answer not in (wanted, "seen"):
-                    same(f"what the lock has written: {row(note)}", wanted, wanted if lock.may_be_lost else answer)
+                    if not lock.may_be_lost:
+                        same(f"what the lock has written: {row(note)}", wanted, answer)
                     lock.is_lost = True
 
     def reads(self):
         """A reader brings the notes of some locks."""
         count = min(self.chance.choice([1, 1, 2, 12]), len(self.locks))
-        self.imports([self.locks[room] for room in self.chance.sample(sorted(self.locks), count)], self.event % 10 == 0)
+        self.imports(self.chance.sample(self.those("lock"), count), self.chance.random() < 0.1)
 
     def reads_badly(self):
         """A file that is late, cut, out of order, not whole, or of a lock that was replaced."""
-        chance, lock = self.chance, self.some([*self.locks.values(), *self.old_locks[-8:]])
-        notes = lock.log[-chance.randint(1, 30):]
+        chance = self.chance
+        notes = chance.choice(self.those("lock") + self.old_locks[-8:]).log[-chance.randint(1, 30):]
         if notes:
             self.desk.send(chance.choice([notes, notes[::-1], notes[::2]]), chance.choice([0, chance.randint(1, 50)]))
 
@@ -112,25 +114,24 @@ class Staff:
     def restores(self):
         """A backup is restored, and staff do what docs/OPERATING.md wants then (Backup and restore). Whom the copy
         doesn't know as the hotel does is checked out or cancelled; the cards may be found."""
-        number, today = self.chance.randrange(max(0, len(self.taken) - 4), len(self.taken)), self.desk.books.day
-        self.desk.restore(number)
+        today, count = self.desk.books.day, len(self.desk.backups)
+        taken = self.desk.restore(self.chance.randrange(max(0, count - 4), count))
         while self.desk.books.day < today:
-            self.desk.counts["days lost"] += 1
             self.desk.do("next-day")
         for lock in self.locks.values():
-            lock.may_be_lost, lock.is_lost = True, lock.is_lost or lock.since > self.taken[number]
+            lock.may_be_lost, lock.is_lost = True, lock.is_lost or lock.since > taken
         for room in sorted(set(self.locks) - set(self.desk.books.rooms)):
             self.builds(room)
-        for room in sorted(self.locks):
-            self.imports([self.locks[room]], is_whole=True)
+        for lock in self.those("lock"):
+            self.imports([lock], is_whole=True)
         known = {guest.party for guest in self.guests if self.is_known(guest)}
         for stay in [stay for stay in self.desk.books.stays.values() if stay.party not in known]:
             if stay.state != "over":
                 self.desk.do("cancel" if stay.state == "booked" else "check-out", party=stay.party)
         for guest in [guest for guest in self.guests if guest.party not in known]:
             self.forgets(guest)
-        for room in sorted(self.locks):
-            self.treats(room)
+        for lock in self.those("lost lock"):
+            self.treats(lock)
         for room, lock in self.locks.items():
             lock.may_be_lost = lock.is_lost or len(self.desk.books.rooms[room].fits[-1]) < len(lock.log)
 
@@ -145,17 +146,15 @@ class Staff:
         if guest.room:
             self.goes_out(guest)
 
-    def treats(self, room=None):
+    def treats(self, lock):
         """A lock that the desk has lost track of is set up as a replaced one, or set to the chain's last code."""
-        lock = self.some([lock for _, lock in sorted(self.locks.items()) if lock.is_lost and room in (None, lock.room)])
-        if lock:
-            self.desk.counts["locks treated"] += 1
-            for guest in [guest for guest in self.guests if guest.room == lock.room]:
-                self.forgets(guest)
-            known = self.desk.books.rooms[lock.room]
-            if known.party:
-                self.desk.do("check-out", party=known.party)
-            if lock.fit == len(known.fits) and self.chance.random() < 0.5:
-                lock.set_to(known.codes[-1], self.at())
-            else:
-                self.refits(lock.room)
+        self.desk.counts["locks treated"] += 1
+        for guest in [guest for guest in self.guests if guest.room == lock.room]:
+            self.forgets(guest)
+        known = self.desk.books.rooms[lock.room]
+        if known.party:
+            self.desk.do("check-out", party=known.party)
+        if lock.fit == len(known.fits) and self.chance.random() < 0.5:
+            lock.set_to(known.codes[-1], self.at())
+        else:
+            self.refits(lock.room)

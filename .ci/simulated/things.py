@@ -16,9 +16,9 @@ def ordinal(text):
 
 
 class Lock:
-    """A lock: a code and a log. `within` are the cards that it let in and didn't see leave; `read` is how many notes a
-    reader has brought; `since` is the event at which the lock was set. `may_be_lost`: the desk may have lost track of
-    the lock, by a restore or by a card that it doesn't know. `is_lost`: it has."""
+    """A lock: a code and a log. It was set after `since` steps of the desk; `within` are the cards that it let in and
+    didn't see leave; `read` is how many notes a reader has brought. `may_be_lost`: the desk may have lost track of the
+    lock, by a restore or by a card that it doesn't know. `is_lost`: it has."""
 
     def __init__(self, room, fit, code, since):
         self.room, self.fit, self.code, self.since = room, fit, code, since

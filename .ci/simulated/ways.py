@@ -6,7 +6,6 @@ import re
 import signal
 import socket
 import subprocess
-import threading
 import time
 import urllib.parse
 
@@ -46,18 +45,19 @@ def line_of(verb, v):
     return " ".join([verb, *texts(verb, v).values()])
 
 
-def file_of(notes, cut=0):
+def file_of(notes, cut):
     """An audit file of these notes: plain and without so many last bytes, or in one of the ways that docs/FORMATS.md
     allows (The file)."""
     text = "\n".join([HEADERS["audit-of"], *map(row, notes), ""])
     chance = random.Random(sum(note.count for note in notes))
-    ways = [chance.random() < 0.15 for _ in range(3)]
     if cut:
         return text[:-cut - 1].encode()
-    if ways[0] and all(note.fit == 1 for note in notes):
+    if chance.random() < 0.15 and all(note.fit == 1 for note in notes):
         text = re.sub(r"^(\w+),\w+,", r"\1,", text, flags=re.MULTILINE)
-    text = re.sub(r"[^,\n]+", r'"\g<0>"', text) if ways[1] else text
-    text = "\ufeff" + text.replace("T", " ").removesuffix("\n") if ways[2] else text
+    if chance.random() < 0.15:
+        text = re.sub(r"[^,\n]+", r'"\g<0>"', text)
+    if chance.random() < 0.15:
+        text = "\ufeff" + text.replace("T", " ").removesuffix("\n")
     return text.replace("\n", chance.choice(["\n", "\n", "\r\n", "\r"])).encode()
 
 
@@ -95,12 +95,13 @@ class ByScript(Way):
     looks = 0.5
 
     def run(self, given, kill, *words):
+        """The status, the output and the faults of a run; None if it was killed, or its answer isn't seen."""
         child = self.begun(*words)
-        killer = threading.Timer(0.015 + 150 * (kill or 0), child.kill)
-        if kill is not None:
-            killer.start()
-        said, faults = child.communicate(given, timeout=120)
-        killer.cancel()
+        try:
+            said, faults = child.communicate(given, timeout=120 if kill is None else 0.015 + 150 * kill)
+        except subprocess.TimeoutExpired:
+            child.kill()
+            said, faults = child.communicate()
         is_unseen = kill is not None and (child.returncode == -signal.SIGKILL or self.chance.random() < 0.4)
         return None if is_unseen else (child.returncode, said.decode(), faults.decode())
 
@@ -163,23 +164,23 @@ class ByHttp(Way):
         is unseen, or seen if it was whole."""
         if not self.server:
             self.start()
-        said, how = b"", None if kill is None else self.chance.choice("gone gone unseen unseen unseen seen".split())
-        began = time.monotonic()
+        how = None if kill is None else self.chance.choice("gone gone unseen unseen unseen seen".split())
+        said, is_killed, began = b"", how in ("unseen", "seen"), time.monotonic()
         try:
             with socket.create_connection(("127.0.0.1", self.port), timeout=60) as client:
                 client.sendall(asked)
                 until = time.perf_counter() + (kill or 0)
                 while time.perf_counter() < until:
                     pass
-                if how in ("unseen", "seen"):
+                if is_killed:
                     self.server.kill()
                 while how in (None, "seen") and (some := client.recv(65536)):
                     said += some
         except OSError:
             pass
         self.left -= 1
-        if self.left == 0 or how in ("seen", "unseen"):
-            self.stop(is_killed=how in ("seen", "unseen"))
+        if self.left == 0 or is_killed:
+            self.stop(is_killed)
         if how is None and not said:
             # The server waits one second for the first byte (docs/HTTP.md, Requests). This machine may be slower.
             same(f"is {asked!r:.300} answered", True, time.monotonic() - began > 0.9 and more > 0)
