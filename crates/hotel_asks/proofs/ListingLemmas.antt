@@ -7,11 +7,14 @@ use Rattle.hotel_model.proofs.{Lifted.ListRows.lists_lift, OfTables.RoomNumbers.
 use Rattle.hotel_model.proofs.{OfTables.RoomNumbers.room_not_there}
 use Rattle.hotel_model.specs.Lists.{chain}
 use Rattle.hotel_lists.specs.RowLines.{arrivals_header, in_house_header, chain_header, left_behind_header, audit_header}
+use Rattle.hotel_lists.specs.RowLines.{day_header, status_header, inside_header, free_header}
 use Rattle.hotel_lists.specs.RowLines.{arrival_line, house_line, chain_line, behind_line, note_line}
+use Rattle.hotel_lists.specs.RowLines.{day_line, status_line, inside_line, free_line}
 use Rattle.hotel_lists.specs.Listings.{listing, of_room}
 use Rattle.hotel_core.specs.declared.asks.ListAsk.{ListAsk}
 use Rattle.hotel_asks.specs.{Listings.listing_on, Listings.listing_over}
 use Rattle.hotel_core.specs.declared.asks.ListAsk.TheVariants.{Arrivals, InHouse, ChainOf, LeftBehind, AuditOf}
+use Rattle.hotel_core.specs.declared.asks.ListAsk.TheVariants.{BusinessDay, RoomStatus, Inside, Bookings, Availability}
 
 room_lifts : {R : Type 0} (h : History) (room : ℕ) (header : List ℕ) (line : R → List ℕ) (on_rows on_history : List R)
     → (is_room h room ≡ true → on_rows ≡ on_history)
@@ -40,6 +43,14 @@ listing_lifts h LeftBehind ok =
     ap (λ rows. Some (listing left_behind_header behind_line rows)) (lists_lift h ok).of_left_behind
 listing_lifts h (AuditOf room) ok = room_lifts h room audit_header note_line (notes_at (rows_of h).notes room)
     (notes h room) (λ t. (lists_lift h ok).of_audit room)
+listing_lifts h BusinessDay ok = ap (λ rows. Some (listing day_header day_line rows)) (lists_lift h ok).of_business_day
+listing_lifts h RoomStatus ok =
+    ap (λ rows. Some (listing status_header status_line rows)) (lists_lift h ok).of_room_status
+listing_lifts h Inside ok = ap (λ rows. Some (listing inside_header inside_line rows)) (lists_lift h ok).of_cards_inside
+listing_lifts h Bookings ok =
+    ap (λ rows. Some (listing arrivals_header arrival_line rows)) (lists_lift h ok).of_bookings
+listing_lifts h (Availability day nights) ok =
+    ap (λ rows. Some (listing free_header free_line rows)) ((lists_lift h ok).of_availability day nights)
 
 pub listing_stands : (h : History) (rows : Rows) (its_list : ListAsk)
     → StandsFor h rows → listing_on rows its_list ≡ listing_over h its_list

@@ -18,6 +18,7 @@ use Rattle.hotel_asks.specs.declared.verbs.Verb.{Verb}
 use Rattle.hotel_asks.specs.declared.verbs.Verb.TheVariants.{Begin, AddKind, AddRoom, Reserve, Cancel, CheckIn, Spare}
 use Rattle.hotel_asks.specs.declared.verbs.Verb.TheVariants.{Reissue, Transfer, CheckOut, Refit, NextDay, Entered, Left}
 use Rattle.hotel_asks.specs.declared.verbs.Verb.TheVariants.{Recoded, Arrivals, InHouse, ChainOf, LeftBehind, AuditOf}
+use Rattle.hotel_asks.specs.declared.verbs.Verb.TheVariants.{BusinessDay, RoomStatus, Inside, Bookings, Availability}
 
 -- whether it isn't the number of texts that is refused
 abbrev pub IsNumbered : {A : Type 0} → Result A ValueFault → Type 0
@@ -93,6 +94,11 @@ numbered InHouse [] n = tt
 numbered ChainOf (a ∷ []) n = made _ _ (made _ _ (read _ _))
 numbered LeftBehind [] n = tt
 numbered AuditOf (a ∷ []) n = made _ _ (made _ _ (read _ _))
+numbered BusinessDay [] n = tt
+numbered RoomStatus [] n = tt
+numbered Inside [] n = tt
+numbered Bookings [] n = tt
+numbered Availability (a ∷ b ∷ []) n = made _ _ (next _ _ (made _ _ (read _ _)) (read _ _))
 numbered _ _ n = absurd (omega arith)
 
 -- A reading that refuses the number is of texts that aren't as many as the verb has values.

@@ -16,6 +16,7 @@ use Rattle.hotel_asks.specs.declared.verbs.Verb.{Verb}
 use Rattle.hotel_asks.specs.declared.verbs.Verb.TheVariants.{Begin, AddKind, AddRoom, Reserve, Cancel, CheckIn, Spare}
 use Rattle.hotel_asks.specs.declared.verbs.Verb.TheVariants.{Reissue, Transfer, CheckOut, Refit, NextDay, Entered, Left}
 use Rattle.hotel_asks.specs.declared.verbs.Verb.TheVariants.{Recoded, Arrivals, InHouse, ChainOf, LeftBehind, AuditOf}
+use Rattle.hotel_asks.specs.declared.verbs.Verb.TheVariants.{BusinessDay, RoomStatus, Inside, Bookings, Availability}
 use Rattle.hotel_asks.specs.Values.{day_in, code_in, kind_in, nights_in, guest_in, room_in, lock_in, party_in, card_in}
 use Rattle.hotel_asks.specs.Values.{count_in, moment_in}
 use Rattle.hotel_asks.specs.Verbs.{is_list}
@@ -79,6 +80,11 @@ list_of InHouse [] = Ok list.InHouse
 list_of ChainOf (room ∷ []) = list.ChainOf <$> room_in room
 list_of LeftBehind [] = Ok list.LeftBehind
 list_of AuditOf (room ∷ []) = list.AuditOf <$> room_in room
+list_of BusinessDay [] = Ok list.BusinessDay
+list_of RoomStatus [] = Ok list.RoomStatus
+list_of Inside [] = Ok list.Inside
+list_of Bookings [] = Ok list.Bookings
+list_of Availability (day ∷ nights ∷ []) = (λ d n. list.Availability d n) <$> day_in Day day <*> nights_in nights
 list_of _ _ = Err Number
 
 -- What a verb and the texts of its values ask for.

@@ -1,13 +1,18 @@
 -- The listing of each list that can be asked for.
 use Rattle.std.specs.Prelude.{Option, Some}
 use Rattle.hotel_model.specs.{Rows.Rows, History.History, Cases.is_room, Notes.notes}
-use Rattle.hotel_model.specs.Lists.{arrivals, in_house, chain, left_behind}
+use Rattle.hotel_model.specs.Lists.{arrivals, in_house, chain, left_behind, business_day, room_status, cards_inside}
+use Rattle.hotel_model.specs.Lists.{bookings, availability}
 use Rattle.hotel_lists.specs.Listings.{Listing, listing, of_room, arrivals_listing, in_house_listing, chain_listing}
-use Rattle.hotel_lists.specs.Listings.{left_behind_listing, audit_listing}
+use Rattle.hotel_lists.specs.Listings.{left_behind_listing, audit_listing, business_day_listing, room_status_listing}
+use Rattle.hotel_lists.specs.Listings.{inside_listing, bookings_listing, availability_listing}
 use Rattle.hotel_lists.specs.RowLines.{arrivals_header, in_house_header, chain_header, left_behind_header, audit_header}
+use Rattle.hotel_lists.specs.RowLines.{day_header, status_header, inside_header, free_header}
 use Rattle.hotel_lists.specs.RowLines.{arrival_line, house_line, chain_line, behind_line, note_line}
+use Rattle.hotel_lists.specs.RowLines.{day_line, status_line, inside_line, free_line}
 use Rattle.hotel_core.specs.declared.asks.ListAsk.{ListAsk}
 use Rattle.hotel_core.specs.declared.asks.ListAsk.TheVariants.{Arrivals, InHouse, ChainOf, LeftBehind, AuditOf}
+use Rattle.hotel_core.specs.declared.asks.ListAsk.TheVariants.{BusinessDay, RoomStatus, Inside, Bookings, Availability}
 
 -- The listing of a list over a history.
 abbrev pub listing_over : History → ListAsk → Option Listing
@@ -16,6 +21,11 @@ listing_over h InHouse = Some (listing in_house_header house_line (in_house h))
 listing_over h (ChainOf room) = of_room (is_room h room) (listing chain_header chain_line (chain h room))
 listing_over h LeftBehind = Some (listing left_behind_header behind_line (left_behind h))
 listing_over h (AuditOf room) = of_room (is_room h room) (listing audit_header note_line (notes h room))
+listing_over h BusinessDay = Some (listing day_header day_line (business_day h))
+listing_over h RoomStatus = Some (listing status_header status_line (room_status h))
+listing_over h Inside = Some (listing inside_header inside_line (cards_inside h))
+listing_over h Bookings = Some (listing arrivals_header arrival_line (bookings h))
+listing_over h (Availability day nights) = Some (listing free_header free_line (availability h day nights))
 
 -- The same over the rows of the books.
 abbrev pub listing_on : Rows → ListAsk → Option Listing
@@ -24,3 +34,8 @@ listing_on rows InHouse = in_house_listing rows
 listing_on rows (ChainOf room) = chain_listing rows room
 listing_on rows LeftBehind = left_behind_listing rows
 listing_on rows (AuditOf room) = audit_listing rows room
+listing_on rows BusinessDay = business_day_listing rows
+listing_on rows RoomStatus = room_status_listing rows
+listing_on rows Inside = inside_listing rows
+listing_on rows Bookings = bookings_listing rows
+listing_on rows (Availability day nights) = availability_listing rows day nights

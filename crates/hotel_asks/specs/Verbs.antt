@@ -6,6 +6,7 @@ use Rattle.hotel_asks.specs.declared.verbs.Verb.{Verb}
 use Rattle.hotel_asks.specs.declared.verbs.Verb.TheVariants.{Begin, AddKind, AddRoom, Reserve, Cancel, CheckIn, Spare}
 use Rattle.hotel_asks.specs.declared.verbs.Verb.TheVariants.{Reissue, Transfer, CheckOut, Refit, NextDay, Entered, Left}
 use Rattle.hotel_asks.specs.declared.verbs.Verb.TheVariants.{Recoded, Arrivals, InHouse, ChainOf, LeftBehind, AuditOf}
+use Rattle.hotel_asks.specs.declared.verbs.Verb.TheVariants.{BusinessDay, RoomStatus, Inside, Bookings, Availability}
 
 -- The words of the verbs, in the order in which help lists them.
 abbrev pub verbs : List (List ℕ × Verb)
@@ -30,6 +31,11 @@ verbs =
     (codes "chain", ChainOf) ∷
     (codes "left-behind", LeftBehind) ∷
     (codes "audit-of", AuditOf) ∷
+    (codes "business-day", BusinessDay) ∷
+    (codes "room-status", RoomStatus) ∷
+    (codes "inside", Inside) ∷
+    (codes "bookings", Bookings) ∷
+    (codes "availability", Availability) ∷
     []
 
 -- A list is wanted.
@@ -39,6 +45,11 @@ is_list InHouse = true
 is_list ChainOf = true
 is_list LeftBehind = true
 is_list AuditOf = true
+is_list BusinessDay = true
+is_list RoomStatus = true
+is_list Inside = true
+is_list Bookings = true
+is_list Availability = true
 is_list _ = false
 
 -- Rows of this table as they lie in memory.

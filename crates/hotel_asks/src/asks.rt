@@ -3,7 +3,7 @@
 ghost use Rattle.std.specs.Prelude.{◌≡◌, true, Err, length, map, [], ◌∷◌, IfOk, OnErr, IsSomeAnd};
 ghost use Rattle.hotel_asks.specs.{Values.IsReading, Names.names_of, declared.values.AskFault.TheVariants.Values};
 ghost use Rattle.hotel_asks.specs.{declared.values.ValueFault.TheVariants.Number};
-ghost use Rattle.hotel_asks.specs.declared.verbs.Verb.TheVariants.{Reserve};
+ghost use Rattle.hotel_asks.specs.declared.verbs.Verb.TheVariants.{Reserve, Availability};
 ghost use Rattle.hotel_asks.specs.Asks.{copies, ask_copies, command_of, list_of, ask_of, accepted};
 
 use crate::notes::{read_card_report, read_recoding};
@@ -79,6 +79,15 @@ fn read_command(alloc: Global, verb: Verb, values: &[&[u8]]) -> Result<Command, 
     }
 }
 
+/// Reads for which nights it is asked what can be booked.
+fn read_availability(day: &[u8], nights: &[u8]) -> Result<ListAsk, ValueFault>
+    ensures { result ≡ list_of Availability (day.now ∷ nights.now ∷ []) }
+{
+    let day = read_day(ValueName::Day, day)?;
+    let nights = read_nights(nights)?;
+    Ok(ListAsk::Availability(day, nights))
+}
+
 /// Reads what the verb of a list and the texts of its values ask for.
 fn read_list(verb: Verb, values: &[&[u8]]) -> Result<ListAsk, ValueFault>
     ensures { result ≡ list_of verb (map (λ v. v.now) values.now) }
@@ -89,6 +98,11 @@ fn read_list(verb: Verb, values: &[&[u8]]) -> Result<ListAsk, ValueFault>
         (Verb::ChainOf, [room]) => Ok(ListAsk::ChainOf(read_room(room)?)),
         (Verb::LeftBehind, []) => Ok(ListAsk::LeftBehind),
         (Verb::AuditOf, [room]) => Ok(ListAsk::AuditOf(read_room(room)?)),
+        (Verb::BusinessDay, []) => Ok(ListAsk::BusinessDay),
+        (Verb::RoomStatus, []) => Ok(ListAsk::RoomStatus),
+        (Verb::Inside, []) => Ok(ListAsk::Inside),
+        (Verb::Bookings, []) => Ok(ListAsk::Bookings),
+        (Verb::Availability, [day, nights]) => read_availability(day, nights),
         _ => Err(ValueFault::Number),
     }
 }

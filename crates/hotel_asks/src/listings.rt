@@ -7,8 +7,9 @@ ghost use Rattle.hotel_asks.specs.Listings.{listing_on};
 
 use hotel_core::{ListAsk, Walks};
 use hotel_lists::{
-    IoCalls, ListFault, write_arrivals, write_audit_of, write_chain_of, write_in_house,
-    write_left_behind,
+    IoCalls, ListFault, write_arrivals, write_audit_of, write_availability, write_bookings,
+    write_business_day, write_chain_of, write_in_house, write_inside, write_left_behind,
+    write_room_status,
 };
 use std::alloc::Global;
 use std::io::Write;
@@ -32,5 +33,12 @@ pub fn write_list<W: Write, B: Walks>(
         ListAsk::ChainOf(room) => write_chain_of(alloc, books, *room, writer, calls),
         ListAsk::LeftBehind => write_left_behind(alloc, books, writer, calls),
         ListAsk::AuditOf(room) => write_audit_of(alloc, books, *room, writer, calls),
+        ListAsk::BusinessDay => write_business_day(alloc, books, writer, calls),
+        ListAsk::RoomStatus => write_room_status(alloc, books, writer, calls),
+        ListAsk::Inside => write_inside(alloc, books, writer, calls),
+        ListAsk::Bookings => write_bookings(alloc, books, writer, calls),
+        ListAsk::Availability(day, nights) => {
+            write_availability(alloc, books, *day, *nights, writer, calls)
+        }
     }
 }

@@ -29,10 +29,15 @@ pub enum Verb {
     ChainOf,
     LeftBehind,
     AuditOf,
+    BusinessDay,
+    RoomStatus,
+    Inside,
+    Bookings,
+    Availability,
 }
 
 /// The words of the verbs, in the order in which help lists them.
-pub static VERBS: [(&str, Verb); 20] = [
+pub static VERBS: [(&str, Verb); 25] = [
     ("begin", Verb::Begin),
     ("add-kind", Verb::AddKind),
     ("add-room", Verb::AddRoom),
@@ -53,6 +58,11 @@ pub static VERBS: [(&str, Verb); 20] = [
     ("chain", Verb::ChainOf),
     ("left-behind", Verb::LeftBehind),
     ("audit-of", Verb::AuditOf),
+    ("business-day", Verb::BusinessDay),
+    ("room-status", Verb::RoomStatus),
+    ("inside", Verb::Inside),
+    ("bookings", Verb::Bookings),
+    ("availability", Verb::Availability),
 ];
 
 impl Verb {
@@ -63,6 +73,8 @@ impl Verb {
         match self {
             Verb::Arrivals | Verb::InHouse | Verb::ChainOf | Verb::LeftBehind | Verb::AuditOf =>
                 true,
+            Verb::BusinessDay | Verb::RoomStatus | Verb::Inside | Verb::Bookings => true,
+            Verb::Availability => true,
             _ => false,
         }
     }
@@ -74,12 +86,14 @@ impl Verb {
     {
         match self {
             Verb::NextDay | Verb::InHouse | Verb::LeftBehind => &[],
+            Verb::BusinessDay | Verb::RoomStatus | Verb::Inside | Verb::Bookings => &[],
             Verb::Begin | Verb::Arrivals => &[ValueName::Day],
             Verb::AddKind => &[ValueName::Kind],
             Verb::Cancel | Verb::Spare | Verb::Reissue | Verb::CheckOut => &[ValueName::Party],
             Verb::Refit | Verb::ChainOf | Verb::AuditOf => &[ValueName::Room],
             Verb::AddRoom => &[ValueName::Room, ValueName::Kind],
             Verb::CheckIn | Verb::Transfer => &[ValueName::Party, ValueName::Room],
+            Verb::Availability => &[ValueName::Day, ValueName::Nights],
             Verb::Reserve => &[
                 ValueName::Kind,
                 ValueName::Arrive,

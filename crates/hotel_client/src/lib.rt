@@ -8,7 +8,7 @@
 //!     my_client: keycard_rules hotel_nights hotel_core hotel_lists hotel_audit hotel_http hotel_program hotel_tables
 //!
 //! - keycard_rules, hotel_nights: values. hotel_core: commands and replies, and books in memory, `ListBooks`.
-//! - hotel_lists: the five lists, and readers and writers for tests. hotel_audit: audit files.
+//! - hotel_lists: the lists, and readers and writers for tests. hotel_audit: audit files.
 //! - hotel_http: one request. hotel_program: scripts, a command line's arguments, connections. (The crate hotel_desk is
 //!   the program, and no crate can depend on a program.)
 //! - hotel_tables: books in a database. Whoever makes its connection names sqlite too; the tests here also name
@@ -16,7 +16,7 @@
 //!
 //! # Books of its own
 //!
-//! Three impls make a type books, and a fourth one, of `Walks`, hands the rows of the five lists to a sink, one by one.
+//! Three impls make a type books, and a fourth one, of `Walks`, hands the rows of the lists to a sink, one by one.
 //! The crate stopping_books has all four, over `ListBooks`.
 //!
 //! - `Kept` has no call. Its ghosts say what proofs know of a state. `issued`: the codes of the rows. `is_kept`: the

@@ -1,9 +1,12 @@
-//! The five lists, by their own calls over books of any kind.
+//! The lists, by their own calls over books of any kind.
 use crate::books_in_memory::two_entries_in_memory;
 use crate::commands::{check_in, desk_behind, first_booking, reserve};
-use crate::values::{day, party, room};
+use crate::values::{day, nights, party, room};
 use hotel_core::{Command, ListBooks, Walks};
-use hotel_lists::{arrivals, audit_of, chain_of, in_house, left_behind};
+use hotel_lists::{
+    arrivals, audit_of, availability, bookings, business_day, chain_of, in_house, inside,
+    left_behind, room_status,
+};
 use std::alloc::Global;
 use std::process::Abort;
 use std::test::Fail;
@@ -17,6 +20,11 @@ fn lists_of<B: Walks>(alloc: Global, books: &mut B) -> Result<Vec<u8>, Fail> {
     chain_of(alloc, books, room, &mut writer)?;
     left_behind(alloc, books, &mut writer)?;
     audit_of(alloc, books, room, &mut writer)?;
+    business_day(alloc, books, &mut writer)?;
+    room_status(alloc, books, &mut writer)?;
+    inside(alloc, books, &mut writer)?;
+    bookings(alloc, books, &mut writer)?;
+    availability(alloc, books, day(b"2031-05-01")?, nights(2)?, &mut writer)?;
     Ok(writer)
 }
 
@@ -31,6 +39,15 @@ room,held,current,awaited
 room,fit,count,kind,card,old,new,at
 101,1,1,in,1,0000000000a0,0000000000a1,2031-05-01T15:00:00
 101,1,2,in,1,0000000000a0,0000000000a1,2031-05-01T15:00:00
+day
+2031-05-01
+room,kind,party,secured,awaited
+101,DBL,1,yes,0
+room,card,party
+101,1,1
+party,guest,kind,arrive,depart
+kind,rooms,free
+DBL,1,0
 ";
 
 pub(crate) fn lists_are_written<B: Walks>(
@@ -56,6 +73,15 @@ place,code,state
 0,0000000000a0,held
 room,held,current,awaited
 room,fit,count,kind,card,old,new,at
+day
+2031-05-01
+room,kind,party,secured,awaited
+101,DBL,,no,0
+room,card,party
+party,guest,kind,arrive,depart
+1,\"Lee, Ann\",DBL,2031-05-01,2031-05-03
+kind,rooms,free
+DBL,1,0
 ";
 
 /// Of scenario `left-behind-recoded` before its notes.
@@ -69,6 +95,14 @@ place,code,state
 room,held,current,awaited
 101,0000000000a0,0000000000a2,2
 room,fit,count,kind,card,old,new,at
+day
+2031-05-01
+room,kind,party,secured,awaited
+101,DBL,2,no,2
+room,card,party
+party,guest,kind,arrive,depart
+kind,rooms,free
+DBL,1,0
 ";
 
 /// After the commands these are the lists.

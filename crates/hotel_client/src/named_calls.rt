@@ -1,6 +1,6 @@
 //! Calls that somebody else's program makes by name, with ample memory: notes that are read and reported, words,
 //! commands alone, and connections over a listener of its own.
-ghost use Rattle.std.specs.Prelude.{◌≡◌, OnOk};
+ghost use Rattle.std.specs.Prelude.{◌≡◌, Some, OnOk};
 ghost use Rattle.std.specs.Duration.{as_nanos};
 
 use crate::commands::checked_in;
@@ -15,7 +15,7 @@ use hotel_program::{
 use hotel_scenarios::desks::Desk;
 use keycard_rules::LockNote;
 use std::alloc::Global;
-use std::io::{self, ErrorKind, Read};
+use std::io::{self, ErrorKind, Read, Write};
 use std::test::Fail;
 use std::time::{Duration, Instant};
 
@@ -139,16 +139,17 @@ fn commands_alone(rt: HostRuntime) -> Result<(), Fail> {
     Ok(())
 }
 
-/// The bytes that a peer sends.
+/// A connection; what its peer sends is known to who calls it.
 #[derive(Drop)]
-struct Peer {
-    sends: &'static [u8],
-}
+struct Peer;
 
-/// How many of them were read.
+/// Calls a peer, of which it knows each byte.
 #[derive(Drop)]
-struct ReadSoFar {
-    count: usize,
+struct Call {
+    /// What the peer still sends.
+    sends: &'static [u8],
+    /// What it was given.
+    given: Vec<u8>,
 }
 
 /// A limit that is some time is set.
@@ -161,7 +162,11 @@ fn set(limit: Duration) -> io::Result<()>
     Ok(())
 }
 
-impl Caller<Peer> for ReadSoFar {
+impl Caller<Peer> for Call {
+    ghost remaining = { λ _ call. Some call.sends.now };
+
+    ghost contents = { λ _ call. Some call.given.items };
+
     ghost clock_read = { λ _ _ _. Unit {0} };
 
     ghost reads_limited = { λ _ _ _ _ _. Unit {0} };
@@ -178,44 +183,43 @@ impl Caller<Peer> for ReadSoFar {
         Instant::now(&NoClock)
     }
 
-    fn limit_reads(&mut self, _stream: &Peer, limit: Duration) -> io::Result<()> {
+    fn limit_reads(&mut self, _peer: &Peer, limit: Duration) -> io::Result<()> {
         set(limit)
     }
 
-    fn limit_writes(&mut self, _stream: &Peer, limit: Duration) -> io::Result<()> {
+    fn limit_writes(&mut self, _peer: &Peer, limit: Duration) -> io::Result<()> {
         set(limit)
     }
 
-    fn read_some(&mut self, stream: &Peer, room: &mut [u8]) -> io::Result<usize> {
-        let Some(rest) = stream.sends.get(self.count..) else {
-            return Ok(0);
-        };
-        let mut rest = rest;
-        let got = rest.read(room)?;
-        self.count = self.count.saturating_add(got);
-        Ok(got)
+    fn read_some(&mut self, _peer: &Peer, room: &mut [u8]) -> io::Result<usize> {
+        self.sends.read(room)
     }
 
-    fn write_some(&mut self, _stream: &Peer, bytes: &[u8]) -> io::Result<usize> {
-        Ok(bytes.len())
+    fn write_some(&mut self, _peer: &Peer, bytes: &[u8]) -> io::Result<usize> {
+        self.given.write(bytes)
     }
 
-    fn shut_writes(&mut self, _stream: &Peer) -> io::Result<()> {
+    fn shut_writes(&mut self, _peer: &Peer) -> io::Result<()> {
         Ok(())
     }
 }
 
 /// Peers that come one after the other; where one is missing, none can be taken.
 #[derive(Drop)]
-struct Peers {
+struct Peers<'a> {
+    alloc: Global,
     peers: &'static [Option<&'static [u8]>],
     count: usize,
+    /// What the last one sends that was taken.
+    sends: &'static [u8],
+    /// What all were given.
+    answers: &'a mut Vec<u8>,
 }
 
-impl Listener for Peers {
+impl<'a> Listener for Peers<'a> {
     type Stream = Peer;
 
-    type Caller = ReadSoFar;
+    type Caller = Call;
 
     ghost taken = { λ _ _ _. Unit {0} };
 
@@ -229,16 +233,25 @@ impl Listener for Peers {
         let next = self.peers.get(self.count);
         self.count = self.count.saturating_add(1);
         match next {
-            Some(Some(sends)) => Ok(Peer { sends }),
+            Some(Some(sends)) => {
+                self.sends = sends;
+                Ok(Peer)
+            }
             _ => Err(io::Error::from(ErrorKind::Other)),
         }
     }
 
-    fn caller(&mut self) -> ReadSoFar {
-        ReadSoFar { count: 0 }
+    fn caller(&mut self) -> Call {
+        Call {
+            sends: self.sends,
+            given: Vec::new(self.alloc),
+        }
     }
 
-    fn close(&mut self, _stream: Peer, _reads: ReadSoFar, _writes: ReadSoFar) {}
+    fn close(&mut self, _peer: Peer, _reads: Call, writes: Call) {
+        // (the test misses what found no room)
+        let _ = self.answers.extend_from_slice(&writes.given);
+    }
 
     fn wait(&mut self, _time: Duration) {}
 }
@@ -252,13 +265,26 @@ static PEERS: [Option<&[u8]>; 5] = [
     Some(b"POST /kinds HTTP/1.1\r\nHost: localhost\r\nContent-Length: 8\r\n\r\nkind=SGL"),
 ];
 
+/// What those are given that can be taken: of the one that sends nothing, no byte.
+const ANSWERS: &[u8] =
+    b"HTTP/1.1 200 OK\r\nContent-Type: text/plain; charset=utf-8\r\nContent-Length: 12\r\n\
+    Connection: close\r\n\r\nchecked out\n\
+    HTTP/1.1 404 Not Found\r\nContent-Type: text/plain; charset=utf-8\r\nContent-Length: 10\r\n\
+    Connection: close\r\n\r\nnot found\n\
+    HTTP/1.1 200 OK\r\nContent-Type: text/plain; charset=utf-8\r\nContent-Length: 11\r\n\
+    Connection: close\r\n\r\nkind added\n";
+
 #[test]
 fn connections_served(rt: HostRuntime) -> Result<(), Fail> {
     let mut desk = one_guest(rt.alloc())?;
+    let mut answers = Vec::new(rt.alloc());
     let mut faults = Vec::new(rt.alloc());
     let peers = Peers {
+        alloc: rt.alloc(),
         peers: &PEERS,
         count: 0,
+        sends: b"",
+        answers: &mut answers,
     };
     let status = serve_connections(
         rt.alloc(),
@@ -270,6 +296,7 @@ fn connections_served(rt: HostRuntime) -> Result<(), Fail> {
     );
     assert!(rt; status == 0);
     assert!(rt; faults.as_slice() == b"closed\nclosed\n".as_slice());
+    assert!(rt; answers.as_slice() == ANSWERS);
     let check_out = Command::CheckOut(party(1)?);
     assert!(rt; is_answered(&mut desk, &check_out, b"refused 9 NotInHouse\n", 3));
     let add_kind = Command::AddKind(kind(b"SGL")?);

@@ -1,5 +1,6 @@
 //! The worked scenarios over tables in memory, from bytes to bytes and exit status.
 use crate::connections::new_tables;
+use hotel_scenarios::clerks_lists::OF_CLERKS;
 use hotel_scenarios::many_rows::{locks_and_notes_are_found, many_rows_are_found};
 use hotel_scenarios::replaced_locks::OF_REPLACED_LOCKS;
 use hotel_scenarios::scenario_runs::scenario_holds;
@@ -28,6 +29,11 @@ fn scenarios_of_locks(rt: HostRuntime) -> Result<(), Fail> {
 #[test]
 fn scenarios_of_replaced_locks(rt: HostRuntime) -> Result<(), Fail> {
     scenarios_hold(rt.alloc(), &OF_REPLACED_LOCKS)
+}
+
+#[test]
+fn scenarios_of_clerks(rt: HostRuntime) -> Result<(), Fail> {
+    scenarios_hold(rt.alloc(), &OF_CLERKS)
 }
 
 #[test]

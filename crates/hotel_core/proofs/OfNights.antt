@@ -3,3 +3,5 @@ pub mod BlocksKept
 pub mod NightsStanding
 pub mod KindKeys
 pub mod RoomsByKind
+pub mod Fullest
+pub mod FreeRows

@@ -1,7 +1,7 @@
 //! What a desk may be asked.
 
 use hotel_model::Command;
-use hotel_nights::Day;
+use hotel_nights::{Day, Nights};
 use keycard_rules::RoomNo;
 
 /// What is asked of the desk.
@@ -24,4 +24,14 @@ pub enum ListAsk {
     LeftBehind,
     /// The notes of the room.
     AuditOf(RoomNo),
+    /// The business day.
+    BusinessDay,
+    /// All rooms, each with its party, and how its lock stands.
+    RoomStatus,
+    /// The cards inside rooms.
+    Inside,
+    /// The booked stays.
+    Bookings,
+    /// The kinds, and how many more stays of each are accepted from the day on, for so many nights.
+    Availability(Day, Nights),
 }

@@ -53,6 +53,13 @@ impl KindRooms {
         self.counts.get(kind).copied().unwrap_or(0)
     }
 
+    /// The kinds in order, each with how many rooms it has.
+    pub fn map(&self) -> &BTreeMap<KindCode, u32>
+        ensures { result.now.entries ≡ self.now }
+    {
+        &self.counts
+    }
+
     /// Adds a kind, which has no rooms yet; a refusal changes nothing.
     pub fn add_kind(&mut self, kind: KindCode) -> Result<(), Memory>
         requires { is_there self.old kind ≡ false }

@@ -2,8 +2,9 @@
 ghost use Rattle.std.specs.Prelude.{◌≡◌, ℕ, ◌+◌, ◌-◌, ◌*◌, ◌/◌, ◌^◌, ◌<◌, ◌≤◌, List, [], false, nat_le, IsOk};
 ghost use Rattle.std.specs.Prelude.{OnOk, OnErr};
 ghost use Rattle.hotel_nights.specs.Block.{one_if};
-ghost use Rattle.hotel_nights.specs.FullNight.{first_day, is_full, is_standing, takes};
+ghost use Rattle.hotel_nights.specs.FullNight.{first_day, is_full, is_standing, nights_taken, takes};
 ghost use Rattle.hotel_nights.specs.{declared.stay.Stay.Stay};
+ghost use Rattle.hotel_model.specs.Words.{greatest};
 ghost use Rattle.hotel_core.specs.NightIndex.{counted, spans, CountsNights};
 
 use crate::night_counts::{less, more};
@@ -199,5 +200,46 @@ impl NightIndex {
             → result ≡ first_day (is_full stays kind.now rooms) arrive (depart - arrive) }
     {
         self.first_full(kind, rooms, arrive, depart)
+    }
+
+    /// The most stays that take one night from `from` on and before `to`, all of one block.
+    fn most_in_part(&self, kind: &KindCode, from: u16, to: u16) -> usize
+        requires order { from < to }
+        requires one_block { to ≤ from / 32 * 32 + 32 }
+        ensures { result ≡ greatest (counted self.now kind.now) from (to - from) }
+    {
+        let counts = self
+            .blocks
+            .get(&(*kind, from / 32))
+            .copied()
+            .unwrap_or([0; 32]);
+        let mut most: usize = 0;
+        for night in from..to {
+            most = most.max(counts[usize::from(night % 32)]);
+        }
+        most
+    }
+
+    pub(crate) fn most_counted(&self, kind: &KindCode, arrive: Day, depart: Day) -> usize
+        ensures { result ≡ greatest (counted self.now kind.now) arrive (depart - arrive) }
+    {
+        let last = depart.number();
+        let mut first = arrive.number();
+        let mut most: usize = 0;
+        while first < last {
+            let end = end_of_part(first, last);
+            most = most.max(self.most_in_part(kind, first, end));
+            first = end;
+        }
+        most
+    }
+
+    /// The most of the stays that take one night from `arrive` on and before `depart` in rooms of the kind, where these
+    /// are the stays that are counted; 0 where there is no such night. It takes no memory.
+    pub fn most_taken(&self, kind: &KindCode, arrive: Day, depart: Day) -> usize
+        ensures { (stays : List Stay) → CountsNights self.now stays
+            → result ≡ greatest (nights_taken stays kind.now) arrive (depart - arrive) }
+    {
+        self.most_counted(kind, arrive, depart)
     }
 }

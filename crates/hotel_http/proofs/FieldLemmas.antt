@@ -67,15 +67,24 @@ any_of_map : {A B : Type 0} (p : B → Bool) (f : A → B) (xs : List A)
 any_of_map p f [] = refl
 any_of_map p f (x ∷ xs) = ap (λ b. p (f x) || b) (any_of_map p f xs)
 
+-- This holds of one field.
+pub any_at : {A B : Type 0} (p : B → Bool) (f : A → B) (hs : List A) (i : ℕ) (d : A)
+    → i < length hs → p (f (get_or hs i d)) ≡ true → list_any p (map f hs) ≡ true
+any_at p f hs i d h e = any_of_map p f hs ∙ list_any_at (λ x. p (f x)) hs i d h e
+
+-- It holds of none.
+pub any_none : {A B : Type 0} (p : B → Bool) (f : A → B) (hs : List A) (i : ℕ)
+    → length hs ≤ i → list_any (λ x. p (f x)) (take i hs) ≡ false → list_any p (map f hs) ≡ false
+any_none p f hs i h none = any_of_map p f hs ∙ ap (list_any (λ x. p (f x))) (sym (take_all i hs h)) ∙ none
+
 -- One field says that the client waits.
 pub expects_at : {A : Type 0} (f : A → Pair) (hs : List A) (i : ℕ) (d : A)
     → i < length hs → is_expectation (f (get_or hs i d)) ≡ true → expects_continue (map f hs) ≡ true
 unfolding expects_continue
-expects_at f hs i d h e = any_of_map is_expectation f hs ∙ list_any_at (λ x. is_expectation (f x)) hs i d h e
+expects_at f hs i d h e = any_at is_expectation f hs i d h e
 
 -- None of the fields says so.
 pub expects_none : {A : Type 0} (f : A → Pair) (hs : List A) (i : ℕ)
     → length hs ≤ i → list_any (λ x. is_expectation (f x)) (take i hs) ≡ false → expects_continue (map f hs) ≡ false
 unfolding expects_continue
-expects_none f hs i h none =
-    any_of_map is_expectation f hs ∙ ap (list_any (λ x. is_expectation (f x))) (sym (take_all i hs h)) ∙ none
+expects_none f hs i h none = any_none is_expectation f hs i h none

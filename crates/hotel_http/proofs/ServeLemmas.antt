@@ -1,8 +1,8 @@
 -- What comes of a request, as it is answered.
-use Rattle.std.proofs.Common.{◌≡◌, ◌≤◌, ◌∙◌, ℕ, List, [], ◌∷◌, ◌++◌, refl, sym, ap, subst, inl, inr}
-use Rattle.std.proofs.Common.{append-nil}
-use Rattle.std.proofs.Common.{Option, Some, None, IfSome, Result, Ok, Err, Bool, true, false, OnOk, OnErr}
-use Rattle.hotel_core.proofs.{Names.Stream, Names.failure_in, Names.History, Names.Reached, Names.rows_of}
+use Rattle.std.proofs.Common.{◌≡◌, ◌∙◌, ℕ, List, [], ◌∷◌, refl, sym, ap, subst, inl, inr}
+use Rattle.std.proofs.Common.{take}
+use Rattle.std.proofs.Common.{Option, Some, None, IfSome, Result, Ok, Err, Bool, false, OnOk, OnErr}
+use Rattle.hotel_core.proofs.{Names.Stream, Names.failure_in, Names.History}
 use Rattle.keycard_rules.specs.{declared.kept.Kept.Ghosts as KeptOf}
 use Rattle.keycard_rules.specs.declared.issued.LookFault.TheVariants as look
 use Rattle.keycard_rules.specs.Calls.{LeaveAll, NoCallFailed, Told}
@@ -16,7 +16,7 @@ use Rattle.hotel_model.specs.Rows.{Rows}
 use Rattle.hotel_core.specs.{Books.Happens.HappensBy, Books.Stepped.Stepped}
 use Rattle.hotel_model.specs.declared.reply.Reply.TheVariants as reply
 use Rattle.hotel_lists.specs.{Bytes.AppendsFront, declared.calls.WriteFailed.WriteFailed}
-use Rattle.hotel_lists.proofs.{BytesLemmas.front_next, CallsLemmas.last_of}
+use Rattle.hotel_lists.proofs.CallsLemmas.{last_of}
 use Rattle.hotel_core.specs.declared.asks.Ask.TheVariants as ask
 use Rattle.hotel_lists.specs.{Listings.Listing, RowLines.ListTold, RowLines.LooksAt, declared.fault.ListFault.ListFault}
 use Rattle.hotel_lists.specs.declared.fault.ListFault.TheVariants as fault
@@ -31,6 +31,7 @@ use Rattle.hotel_http.specs.{declared.serve.Served.Served, declared.status.Statu
 use Rattle.hotel_http.specs.{declared.status.Status.TheVariants.Success, declared.requests.Request.Request}
 use Rattle.hotel_http.specs.{declared.serve.Exchange.Exchange, declared.serve.ServeFault.ServeFault}
 use Rattle.hotel_http.specs.{declared.serve.ServeFault.TheVariants.Write, Answer.list_answer, Body.interim_where}
+use Rattle.hotel_http.specs.declared.origins.Origins.{Origins}
 use Rattle.hotel_http.specs.Request.{EndsRequest, Requests, wanted_of}
 use Rattle.hotel_http.specs.declared.requests.Received.{Received}
 use Rattle.hotel_http.specs.Serve.{FullAnswer, full_answer, rejected, replied, imported, list_reply, end_of}
@@ -138,11 +139,8 @@ after_interim : (before : List ℕ) (out : FullAnswer) (old mid new : Option (Li
     → EndsAs out before old new end
 after_interim before out old mid new (Ok served) first ends =
     (ends.0, ends.1, Appends-trans old mid new before out.text first ends.2)
-after_interim before out old mid new (Err cut) first ends = (
-  ends.0,
-  subst (AppendsFront old new) (append-nil (before ++ out.text))
-      (front_next old mid new before out.text [] first ends.1),
-)
+after_interim before out old mid new (Err cut) first ends =
+    (ends.0, (ends.1.0, ends.1.1, Appends-trans old mid new before (take ends.1.0 out.text) first ends.1.2))
 
 pub behind_interim : {S : Type 0} {K : KeptOf S} {rows : S → Rows} {a b : S}
     (came : History → Stream → FullAnswer → Told → History → Stream → Type 0) (s t : Stream) (before : List ℕ)
@@ -157,31 +155,31 @@ behind_interim came s t before old mid new end first it = record {
 }
 
 -- a request that was read is answered
-pub request_served : {S : Type 0} (K : KeptOf S) (rows : S → Rows) (a b : S) (s t : Stream)
-    (known old mid new : Option (List ℕ)) (got : Received) (request : Request) (end : Result Served Cut)
-    → got.asks ≡ Ok request → EndsRequest known old mid (Ok got)
+pub request_served : (origins : Origins) {S : Type 0} (K : KeptOf S) (rows : S → Rows) (a b : S) (s t : Stream)
+    (known left old mid new : Option (List ℕ)) (got : Received) (request : Request) (end : Result Served Cut)
+    → got.asks ≡ Ok request → EndsRequest origins known left old mid (Ok got)
     → HappensBy K rows a (Answered (TaskComes request.task request.body.items) s t [] mid new end) b
-    → WasAnswered known (λ wanted awaited ends. HappensBy K rows a
+    → WasAnswered origins known (λ wanted awaited ends. HappensBy K rows a
     (Answered (Comes wanted) s t (interim_where awaited) old new ends) b) end
-request_served K rows a b s t known old mid new got request end is (awaited, first, requests) went = (
+request_served origins K rows a b s t known left old mid new got request end is (awaited, first, requests) went = (
   Ok (request.task, request.body.items),
   awaited,
-  subst (λ (asks : Result Request Rejection). IfSome known (λ input. Requests input awaited (wanted_of asks))) is
-      requests,
+  subst (λ (asks : Result Request Rejection). IfSome known
+      (λ input. Requests origins input awaited (wanted_of asks))) is requests,
   behind_interim (TaskComes request.task request.body.items) s t (interim_where awaited) old mid new end first went,
 )
 
 -- a rejection is answered
-pub rejection_served : {S : Type 0} (K : KeptOf S) (rows : S → Rows) (a : S) (s : Stream)
-    (known old mid new : Option (List ℕ)) (got : Received) (why : Rejection) (end : Result Served Cut)
-    → got.asks ≡ Err why → EndsRequest known old mid (Ok got) → EndsAs (rejected why) [] mid new end
-    → WasAnswered known (λ wanted awaited ends. HappensBy K rows a
+pub rejection_served : (origins : Origins) {S : Type 0} (K : KeptOf S) (rows : S → Rows) (a : S) (s : Stream)
+    (known left old mid new : Option (List ℕ)) (got : Received) (why : Rejection) (end : Result Served Cut)
+    → got.asks ≡ Err why → EndsRequest origins known left old mid (Ok got) → EndsAs (rejected why) [] mid new end
+    → WasAnswered origins known (λ wanted awaited ends. HappensBy K rows a
     (Answered (Comes wanted) s s (interim_where awaited) old new ends) a) end
-rejection_served K rows a s known old mid new got why end is (awaited, first, requests) ends = (
+rejection_served origins K rows a s known left old mid new got why end is (awaited, first, requests) ends = (
   Err why,
   awaited,
-  subst (λ (asks : Result Request Rejection). IfSome known (λ input. Requests input awaited (wanted_of asks))) is
-      requests,
+  subst (λ (asks : Result Request Rejection). IfSome known
+      (λ input. Requests origins input awaited (wanted_of asks))) is requests,
   behind_interim (Comes (Err why)) s s (interim_where awaited) old mid new end first
       (rejection_came K rows a s why mid new end ends),
 )

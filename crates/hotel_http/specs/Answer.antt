@@ -10,9 +10,9 @@ use Rattle.hotel_http.specs.{declared.rejection.Method.TheVariants.Post}
 use Rattle.hotel_http.specs.{declared.rejection.Rejection.Rejection, declared.status.Status.Status}
 use Rattle.hotel_http.specs.{declared.answer.Media.Media}
 use Rattle.hotel_http.specs.declared.rejection.Rejection.TheVariants as rejection
-use Rattle.hotel_http.specs.declared.status.Status.TheVariants.{Success, BadRequest, NotFound, MethodNotAllowed}
-use Rattle.hotel_http.specs.declared.status.Status.TheVariants.{Conflict, ContentTooLarge, HeadTooLarge, NotImplemented}
-use Rattle.hotel_http.specs.declared.status.Status.TheVariants.{Unavailable}
+use Rattle.hotel_http.specs.declared.status.Status.TheVariants.{Success, BadRequest, Forbidden, NotFound}
+use Rattle.hotel_http.specs.declared.status.Status.TheVariants.{MethodNotAllowed, Conflict, ContentTooLarge}
+use Rattle.hotel_http.specs.declared.status.Status.TheVariants.{HeadTooLarge, NotImplemented, Unavailable}
 use Rattle.hotel_http.specs.{declared.answer.Media.TheVariants.Plain, declared.answer.Media.TheVariants.Csv}
 use Rattle.hotel_http.specs.{Status.number_of, Status.phrase_of}
 
@@ -52,6 +52,7 @@ memory_text = reply_text (reply.Refused refusal.Memory)
 abbrev pub rejection_status : Rejection → Status
 rejection_status rejection.BadRequest = BadRequest
 rejection_status rejection.HeadTooLarge = HeadTooLarge
+rejection_status rejection.Foreign = Forbidden
 rejection_status rejection.NotImplemented = NotImplemented
 rejection_status rejection.BodyTooLarge = ContentTooLarge
 rejection_status rejection.NotFound = NotFound
@@ -63,6 +64,7 @@ rejection_status rejection.Memory = Unavailable
 abbrev pub rejection_body : Rejection → List ℕ
 rejection_body rejection.BadRequest = codes "bad request\n"
 rejection_body rejection.HeadTooLarge = codes "head too large\n"
+rejection_body rejection.Foreign = codes "foreign\n"
 rejection_body rejection.NotImplemented = codes "not implemented\n"
 rejection_body rejection.BodyTooLarge = codes "too large\n"
 rejection_body rejection.NotFound = codes "not found\n"

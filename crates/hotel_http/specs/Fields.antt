@@ -1,6 +1,6 @@
 -- What the field lines of a head say of the body.
-use Rattle.std.specs.Prelude.{◌≡◌, ℕ, ◌<◌, Bool, true, false, ◌&&◌, List, [], ◌∷◌, length, map, filter, if◌then◌else◌}
-use Rattle.std.specs.Prelude.{◌==◌, nat_lt, codes, Result, Ok, Err}
+use Rattle.std.specs.Prelude.{◌≡◌, ℕ, ◌<◌, Bool, ◌&&◌, List, [], ◌∷◌, length, map, filter, if◌then◌else◌}
+use Rattle.std.specs.Prelude.{nat_lt, codes, Result, Ok, Err}
 use Rattle.std.specs.List.{list_all, list_any}
 use Rattle.std.specs.Char.{is_ascii_digit}
 use Rattle.std.specs.Str.{str_eq_ignore_ascii_case}
@@ -28,12 +28,6 @@ IsFoundIn values Absent = values ≡ []
 IsFoundIn values (Once value) = values ≡ value.now ∷ []
 IsFoundIn values Often = 1 < length values
 
--- HTTP/1.1 has one Host, and HTTP/1.0 at most one
-abbrev pub is_host_wrong : ℕ → List (List ℕ) → Bool
-is_host_wrong minor [] = minor == 1
-is_host_wrong minor (host ∷ []) = false
-is_host_wrong minor (host ∷ other ∷ hosts) = true
-
 -- one or more decimal digits
 abbrev pub is_number : List ℕ → Bool
 is_number text = nat_lt 0 (length text) && list_all is_ascii_digit text
@@ -57,11 +51,10 @@ abbrev pub plain_length : List (List ℕ) → List (List ℕ) → Result ℕ Rej
 plain_length [] lengths = body_length lengths
 plain_length (coding ∷ codings) lengths = Err NotImplemented
 
--- The length of the body, or the first rejection: by Host, then Transfer-Encoding, then Content-Length.
-unfoldable pub framing : ℕ → List Pair → Result ℕ Rejection
-framing minor fields =
-    if is_host_wrong minor (values_named (codes "host") fields) then Err BadRequest
-    else plain_length (values_named (codes "transfer-encoding") fields) (values_named (codes "content-length") fields)
+-- The length of the body, or the first rejection: by Transfer-Encoding, then Content-Length.
+unfoldable pub framing : List Pair → Result ℕ Rejection
+framing fields =
+    plain_length (values_named (codes "transfer-encoding") fields) (values_named (codes "content-length") fields)
 
 -- the field says that the client waits for a 100
 abbrev pub is_expectation : Pair → Bool

@@ -1,5 +1,6 @@
 pub mod Head
 pub mod Fields
+pub mod Origins
 pub mod Form
 pub mod Routes
 pub mod Plan

@@ -6,6 +6,7 @@ use Rattle.std.specs.Str.{bytes_eq}
 use Rattle.keycard_rules.specs.Results.{◌>>=◌}
 use Rattle.httparse.specs.{Grammar.RequestHead, Spans.name_and_value}
 use Rattle.hotel_http.specs.{Fields.Pair, Fields.framing, Fields.expects_continue, Routes.target_of, Routes.method_of}
+use Rattle.hotel_http.specs.{Origins.admitted, declared.origins.Origins.Origins}
 use Rattle.hotel_http.specs.{declared.rejection.Method.Method}
 use Rattle.hotel_http.specs.{declared.rejection.Method.TheVariants.Get, declared.rejection.Method.TheVariants.Post}
 use Rattle.hotel_http.specs.{declared.rejection.Rejection.Rejection}
@@ -53,14 +54,16 @@ plan_of minor fields target announced =
       ignored = nat_lt size announced;
     }
 
--- What a head asks for, or the first rejection: by its fields, then its path, then its method.
+-- What is asked for, or the first rejection: by the body's fields, then the path, then the method.
 unfoldable pub planned : ℕ → List ℕ → List ℕ → List Pair → Result Plan Rejection
 planned minor method target fields = do
-  announced ← framing minor fields
+  announced ← framing fields
   found ← routed (path_of target)
   asked ← allowed method found
   Ok (plan_of minor fields asked announced)
 
--- What a head asks for.
-abbrev pub plan_in : RequestHead → Result Plan Rejection
-plan_in head = planned head.minor head.method head.target (map name_and_value head.fields)
+-- What a head asks for, or the first rejection: by its sender, then by what is asked.
+unfoldable pub plan_in : Origins → RequestHead → Result Plan Rejection
+plan_in origins head = do
+  let_in ← admitted origins head.minor (map name_and_value head.fields)
+  planned head.minor head.method head.target (map name_and_value head.fields)

@@ -6,7 +6,8 @@ use Rattle.hotel_lists.specs.Reads.{ReadsWhile}
 use Rattle.httparse.specs.{Grammar.RequestHead, Spans.name_and_value}
 use Rattle.hotel_lists.specs.{Bytes.AppendsFront, declared.bytes.ReadFault.ReadFault}
 use Rattle.hotel_lists.specs.declared.bytes.ReadFault.TheVariants as more
-use Rattle.hotel_http.specs.{declared.plan.Plan.Plan, declared.rejection.Rejection.Rejection}
+use Rattle.hotel_http.specs.{declared.origins.Origins.Origins, declared.plan.Plan.Plan}
+use Rattle.hotel_http.specs.{declared.rejection.Rejection.Rejection}
 use Rattle.hotel_http.specs.{declared.requests.Request.Request, declared.requests.RequestFault.RequestFault}
 use Rattle.hotel_http.specs.{declared.requests.Received.Received}
 use Rattle.hotel_http.specs.declared.rejection.Rejection.TheVariants as rejection
@@ -66,53 +67,15 @@ abbrev pub follows_head : Result Plan Rejection → Result ℕ Rejection → Boo
 follows_head (Ok plan) announced = plan.ignored
 follows_head (Err why) announced = is_some_body announced
 
-abbrev pub may_follow : RequestHead → Bool
-may_follow head = follows_head (plan_in head) (framing head.minor (map name_and_value head.fields))
-
 -- The input has no head, and this is why.
 abbrev pub IsHeadless : List ℕ → Wanted → Type 0
 IsHeadless input wanted =
     (IsBad input × (wanted ≡ Err rejection.BadRequest)) ⊎ (IsTooLarge input × (wanted ≡ Err rejection.HeadTooLarge))
 
--- The input asks for this, with an interim answer before it or not: by its head and what stands behind that; or it has
--- no head.
-abbrev pub Requests : List ℕ → Bool → Wanted → Type 0
-Requests input awaited wanted =
-    ((head : RequestHead) × (rest : List ℕ) × BeginsWith input head rest × (awaited ≡ awaits (plan_in head))
-    × IsAsked (plan_in head) (path_of head.target) rest wanted)
-    ⊎ ((awaited ≡ false) × IsHeadless input wanted)
-
--- Whether more of this input may follow what is read of it: as its head says; or it has no head.
-abbrev pub MayFollow : List ℕ → Bool → Type 0
-MayFollow input follows =
-    ((head : RequestHead) × (rest : List ℕ) × BeginsWith input head rest × (follows ≡ may_follow head))
-    ⊎ ((follows ≡ true) × (IsBad input ⊎ IsTooLarge input))
-
--- The client of this input awaits an interim answer.
-abbrev pub IsAwaited : List ℕ → Type 0
-IsAwaited input = (head : RequestHead) × (rest : List ℕ) × BeginsWith input head rest × (awaits (plan_in head) ≡ true)
-
 -- More bytes of a body are wanted behind these: a plan has a body, of which they are not all.
 abbrev pub WantsBody : Result Plan Rejection → List ℕ → Type 0
 WantsBody (Err why) rest = ⊥
 WantsBody (Ok plan) rest = length rest < plan.size
-
--- What was read behind bytes that begin with a head: nothing where none was wanted, and nothing more once its body was
--- there.
-abbrev pub ReadsBehind : RequestHead → ℕ → List ℕ → Option (List ℕ) → Option (List ℕ) → Type 0
-ReadsBehind head len bytes old new =
-    Keeps old new ⊎ ReadsWhile (λ came. WantsBody (plan_in head) (drop len (bytes ++ came))) old new
-
--- More bytes of a request are wanted behind these: of its head, or of the body of its plan. Behind a head that is
--- rejected none are.
-abbrev pub WantsMore : List ℕ → Type 0
-WantsMore bytes = WantsHead bytes ⊎ ((head : RequestHead) × (rest : List ℕ) × BeginsWith bytes head rest
-    × WantsBody (plan_in head) rest)
-
--- Nothing was written, or the interim answer where the client awaits it.
-abbrev pub AtMostInterim : Option (List ℕ) → Option (List ℕ) → Option (List ℕ) → Type 0
-AtMostInterim known old new =
-    (awaited : Bool) × Appends old new (interim_where awaited) × (awaited ≡ true → IfSome known IsAwaited)
 
 -- What a request that was read comes to.
 abbrev pub wanted_of : Result Request Rejection → Wanted
@@ -134,24 +97,68 @@ EndsBody plan path begun known old new (Err Write) = (plan.awaited ≡ true) × 
 EndsBody plan path begun known old new (Err Read) = Appends old new (interim_where plan.awaited)
 EndsBody plan path begun known old new (Err Memory) = Appends old new (interim_where plan.awaited)
 
--- What a head asks for was read, or not; what stands behind the head is said by the bytes that the reader still had.
-abbrev pub EndsHead : RequestHead → (List ℕ → List ℕ) → Option (List ℕ) → Option (List ℕ) → Option (List ℕ)
-    → Result Received RequestFault → Type 0
-EndsHead head behind known old new (Ok got) =
-    Appends old new (interim_where (awaits (plan_in head)))
-    × IfSome known (λ left. IsAsked (plan_in head) (path_of head.target) (behind left) (wanted_of got.asks))
-EndsHead head behind known old new (Err Closed) = ⊥
-EndsHead head behind known old new (Err Write) = (awaits (plan_in head) ≡ true) × AppendsFront old new interim_text
-EndsHead head behind known old new (Err Read) = Appends old new (interim_where (awaits (plan_in head)))
-EndsHead head behind known old new (Err Memory) = Appends old new (interim_where (awaits (plan_in head)))
+-- Requests that come from these origins alone are answered as they ask.
+module _ (origins : Origins) where
+  -- More of a request may follow its head that isn't read.
+  abbrev pub may_follow : RequestHead → Bool
+  may_follow head = follows_head (plan_in origins head) (framing (map name_and_value head.fields))
 
--- A request was read, or not.
-abbrev pub EndsRequest : Option (List ℕ) → Option (List ℕ) → Option (List ℕ)
-    → Result Received RequestFault → Type 0
-EndsRequest known old new (Ok got) =
-    (awaited : Bool) × Appends old new (interim_where awaited)
-    × IfSome known (λ input. Requests input awaited (wanted_of got.asks))
-EndsRequest known old new (Err Closed) = Appends old new [] × IfSome known (λ input. input ≡ [])
-EndsRequest known old new (Err Write) = AppendsFront old new interim_text × IfSome known IsAwaited
-EndsRequest known old new (Err Read) = AtMostInterim known old new
-EndsRequest known old new (Err Memory) = AtMostInterim known old new
+  -- The input asks for this, with an interim answer before it or not: by its head and what stands behind that; or it
+  -- has no head.
+  abbrev pub Requests : List ℕ → Bool → Wanted → Type 0
+  Requests input awaited wanted =
+      ((head : RequestHead) × (rest : List ℕ) × BeginsWith input head rest × (awaited ≡ awaits (plan_in origins head))
+      × IsAsked (plan_in origins head) (path_of head.target) rest wanted)
+      ⊎ ((awaited ≡ false) × IsHeadless input wanted)
+
+  -- Whether more of this input may follow what is read of it: as its head says; or it has no head.
+  abbrev pub MayFollow : List ℕ → Bool → Type 0
+  MayFollow input follows =
+      ((head : RequestHead) × (rest : List ℕ) × BeginsWith input head rest × (follows ≡ may_follow head))
+      ⊎ ((follows ≡ true) × (IsBad input ⊎ IsTooLarge input))
+
+  -- This input has a head, whose client awaits an interim answer or not.
+  abbrev pub Awaits : Bool → List ℕ → Type 0
+  Awaits awaited input = (head : RequestHead) × (rest : List ℕ) × BeginsWith input head rest
+      × (awaits (plan_in origins head) ≡ awaited)
+
+  -- What was read behind bytes that begin with a head: nothing where none was wanted, and nothing more once its body
+  -- was there.
+  abbrev pub ReadsBehind : RequestHead → ℕ → List ℕ → Option (List ℕ) → Option (List ℕ) → Type 0
+  ReadsBehind head len bytes old new =
+      Keeps old new ⊎ ReadsWhile (λ came. WantsBody (plan_in origins head) (drop len (bytes ++ came))) old new
+
+  -- More bytes of a request are wanted behind these: of its head, or of the body of its plan. Behind a head that is
+  -- rejected none are.
+  abbrev pub WantsMore : List ℕ → Type 0
+  WantsMore bytes = WantsHead bytes ⊎ ((head : RequestHead) × (rest : List ℕ) × BeginsWith bytes head rest
+      × WantsBody (plan_in origins head) rest)
+
+  -- A request wasn't read whole: within its head, and nothing was written; or behind it, and the interim answer was,
+  -- where the client awaits it.
+  abbrev pub IsUnread : Option (List ℕ) → Option (List ℕ) → Option (List ℕ) → Option (List ℕ) → Type 0
+  IsUnread known left old new = (Appends old new [] × ReadsWhile WantsHead known left)
+      ⊎ ((awaited : Bool) × Appends old new (interim_where awaited) × IfSome known (Awaits awaited))
+
+  -- What a head asks for was read, or not; what stands behind the head is said by the bytes that the reader still had.
+  abbrev pub EndsHead : RequestHead → (List ℕ → List ℕ) → Option (List ℕ) → Option (List ℕ) → Option (List ℕ)
+      → Result Received RequestFault → Type 0
+  EndsHead head behind known old new (Ok got) =
+      Appends old new (interim_where (awaits (plan_in origins head)))
+      × IfSome known (λ left. IsAsked (plan_in origins head) (path_of head.target) (behind left) (wanted_of got.asks))
+  EndsHead head behind known old new (Err Closed) = ⊥
+  EndsHead head behind known old new (Err Write) =
+      (awaits (plan_in origins head) ≡ true) × AppendsFront old new interim_text
+  EndsHead head behind known old new (Err Read) = Appends old new (interim_where (awaits (plan_in origins head)))
+  EndsHead head behind known old new (Err Memory) = Appends old new (interim_where (awaits (plan_in origins head)))
+
+  -- A request was read, or not. The reader had what is known, and has what is left of it.
+  abbrev pub EndsRequest : Option (List ℕ) → Option (List ℕ) → Option (List ℕ) → Option (List ℕ)
+      → Result Received RequestFault → Type 0
+  EndsRequest known left old new (Ok got) =
+      (awaited : Bool) × Appends old new (interim_where awaited)
+      × IfSome known (λ input. Requests input awaited (wanted_of got.asks))
+  EndsRequest known left old new (Err Closed) = Appends old new [] × IfSome known (λ input. input ≡ [])
+  EndsRequest known left old new (Err Write) = AppendsFront old new interim_text × IfSome known (Awaits true)
+  EndsRequest known left old new (Err Read) = IsUnread known left old new
+  EndsRequest known left old new (Err Memory) = IsUnread known left old new

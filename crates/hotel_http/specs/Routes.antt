@@ -31,6 +31,11 @@ route_table =
     (codes "/rooms/{room}/chain", Asks verb.ChainOf) ∷
     (codes "/left-behind", Asks verb.LeftBehind) ∷
     (codes "/rooms/{room}/audit", Asks verb.AuditOf) ∷
+    (codes "/business-day", Asks verb.BusinessDay) ∷
+    (codes "/room-status", Asks verb.RoomStatus) ∷
+    (codes "/inside", Asks verb.Inside) ∷
+    (codes "/bookings", Asks verb.Bookings) ∷
+    (codes "/availability/{day}/{nights}", Asks verb.Availability) ∷
     []
 
 -- the method of what a path asks for: lists are got

@@ -1,6 +1,6 @@
 -- What comes of a request: its answer, and the history of the books after it.
-use Rattle.std.specs.Prelude.{◌≡◌, ◌⊎◌, ℕ, Bool, true, false, List, [], ◌∷◌, ◌++◌, Option, Some, None, IfSome}
-use Rattle.std.specs.Prelude.{Result, Ok, Err, codes}
+use Rattle.std.specs.Prelude.{◌≡◌, ◌≤◌, ◌⊎◌, ℕ, Bool, true, false, List, [], ◌∷◌, ◌++◌, length, take, Option, Some}
+use Rattle.std.specs.Prelude.{None, IfSome, Result, Ok, Err, codes}
 use Rattle.std.specs.{Io.KnownBytes.Appends, Option.unwrap_or}
 use Rattle.rand_core.specs.Stream.{Stream}
 use Rattle.keycard_rules.specs.{declared.issued.LookFault.LookFault, declared.kept.Kept.Ghosts as KeptOf}
@@ -36,7 +36,8 @@ use Rattle.hotel_http.specs.declared.tasks.Task.TheVariants as task
 use Rattle.hotel_http.specs.Answer.{rejection_answer, rejection_status, reply_answer, reply_status, list_answer}
 use Rattle.hotel_http.specs.{AuditAnswer.lines_answer, AuditAnswer.fault_answer, AuditAnswer.import_status}
 use Rattle.hotel_http.specs.{Body.interim_text, Body.interim_where, Head.WantsHead}
-use Rattle.hotel_http.specs.{Request.Wanted, Request.Requests, Request.IsAwaited, Request.AtMostInterim}
+use Rattle.hotel_http.specs.{Request.Wanted, Request.Requests, Request.Awaits, Request.IsUnread}
+use Rattle.hotel_http.specs.declared.origins.Origins.{Origins}
 use Rattle.hotel_http.specs.{Status.number_of}
 
 -- An answer: its bytes, its status, and whether the books took something of the request.
@@ -111,11 +112,12 @@ Comes (Err why) h s out told h' s' = (out ≡ rejected why) × (told ≡ []) × 
 abbrev pub AnswerEnd : Type 0
 AnswerEnd = Result Served Cut
 
--- The answer was written behind this text, whole; or a prefix of both.
+-- The answer was written behind this text, whole; or a prefix of it was.
 abbrev pub EndsAs : FullAnswer → List ℕ → Option (List ℕ) → Option (List ℕ) → AnswerEnd → Type 0
 EndsAs out before old new (Ok served) =
     (served.status ≡ out.status) × (served.acted ≡ out.acted) × Appends old new (before ++ out.text)
-EndsAs out before old new (Err cut) = (cut.acted ≡ out.acted) × AppendsFront old new (before ++ out.text)
+EndsAs out before old new (Err cut) = (cut.acted ≡ out.acted)
+    × ((n : ℕ) × (n ≤ length out.text) × Appends old new (before ++ take n out.text))
 
 -- This came of calls that reported this, and its answer was written so behind this text.
 abbrev pub Answered : (History → Stream → FullAnswer → Told → History → Stream → Type 0) → Stream → Stream → List ℕ
@@ -149,37 +151,39 @@ abbrev pub text_in : {A : Type 0} → (A → List ℕ) → Result A ListFault �
 text_in items (Ok text) = Ok (items text)
 text_in items (Err why) = Err why
 
--- A request was read and answered: this holds of what it asks for, whether there was an interim answer, and how its
--- answer ended.
-abbrev pub WasAnswered : Option (List ℕ) → (Wanted → Bool → AnswerEnd → Type 0) → AnswerEnd → Type 0
-WasAnswered known went end = (wanted : Wanted) × (awaited : Bool)
-    × IfSome known (λ input. Requests input awaited wanted) × went wanted awaited end
+-- Requests that come from these origins alone are answered as they ask.
+module _ (origins : Origins) where
+  -- A request was read and answered: this holds of what it asks for, whether there was an interim answer, and how its
+  -- answer ended.
+  abbrev pub WasAnswered : Option (List ℕ) → (Wanted → Bool → AnswerEnd → Type 0) → AnswerEnd → Type 0
+  WasAnswered known went end = (wanted : Wanted) × (awaited : Bool)
+      × IfSome known (λ input. Requests origins input awaited wanted) × went wanted awaited end
 
--- The interim answer was cut short: the client awaits it, and nothing was read but for the head.
-abbrev pub InterimCut : Option (List ℕ) → Option (List ℕ) → Option (List ℕ) → Option (List ℕ) → Type 0
-InterimCut known left old new =
-    AppendsFront old new interim_text × IfSome known IsAwaited × ReadsWhile WantsHead known left
+  -- The interim answer was cut short: the client awaits it, and nothing was read but for the head.
+  abbrev pub InterimCut : Option (List ℕ) → Option (List ℕ) → Option (List ℕ) → Option (List ℕ) → Type 0
+  InterimCut known left old new =
+      AppendsFront old new interim_text × IfSome known (Awaits origins true) × ReadsWhile WantsHead known left
 
--- How a request was served: it was answered; or its answer or the interim one was cut short; or no request was read.
--- Where it wasn't begun, this is the same as before. The reader had what is known, and has what is left of it.
-abbrev pub Serves : Option (List ℕ) → Option (List ℕ) → Option (List ℕ) → Option (List ℕ) → Type 0
-    → (Wanted → Bool → AnswerEnd → Type 0) → Result Served ServeFault → Type 0
-Serves known left old new same went (Ok served) = WasAnswered known went (Ok served)
-Serves known left old new same went (Err (Write acted)) =
-    WasAnswered known went (Err (record { acted = acted }))
-    ⊎ (same × (acted ≡ false) × InterimCut known left old new)
-Serves known left old new same went (Err Closed) = same × Appends old new [] × IfSome known (λ input. input ≡ [])
-Serves known left old new same went (Err Read) = same × AtMostInterim known old new
-Serves known left old new same went (Err Memory) = same × AtMostInterim known old new
+  -- How a request was served: it was answered; or its answer or the interim one was cut short; or no request was read.
+  -- Where it wasn't begun, this is the same as before. The reader had what is known, and has what is left of it.
+  abbrev pub Serves : Option (List ℕ) → Option (List ℕ) → Option (List ℕ) → Option (List ℕ) → Type 0
+      → (Wanted → Bool → AnswerEnd → Type 0) → Result Served ServeFault → Type 0
+  Serves known left old new same went (Ok served) = WasAnswered known went (Ok served)
+  Serves known left old new same went (Err (Write acted)) =
+      WasAnswered known went (Err (record { acted = acted }))
+      ⊎ (same × (acted ≡ false) × InterimCut known left old new)
+  Serves known left old new same went (Err Closed) = same × Appends old new [] × IfSome known (λ input. input ≡ [])
+  Serves known left old new same went (Err Read) = same × IsUnread origins known left old new
+  Serves known left old new same went (Err Memory) = same × IsUnread origins known left old new
 
--- A request was served over these books, with codes from this source. The answer's bytes are those that the writer's
--- contents grew by.
-abbrev pub ServesOver : {B R : Type 0} → KeptOf B → (B → Rows) → (R → Stream) → Option (List ℕ) → Option (List ℕ)
-    → Option (List ℕ) → Option (List ℕ) → B × R → B × R → Result Served ServeFault → Type 0
-ServesOver K rows stream known left old new before after =
-    Serves known left old new ((after.0 ≡ before.0) × (after.1 ≡ before.1))
-    (λ wanted awaited end. HappensBy K rows before.0 (Answered (Comes wanted) (stream before.1) (stream after.1)
-    (interim_where awaited) old new end) after.0)
+  -- A request was served over these books, with codes from this source. The answer's bytes are those that the writer's
+  -- contents grew by.
+  abbrev pub ServesOver : {B R : Type 0} → KeptOf B → (B → Rows) → (R → Stream) → Option (List ℕ) → Option (List ℕ)
+      → Option (List ℕ) → Option (List ℕ) → B × R → B × R → Result Served ServeFault → Type 0
+  ServesOver K rows stream known left old new before after =
+      Serves known left old new ((after.0 ≡ before.0) × (after.1 ≡ before.1))
+      (λ wanted awaited end. HappensBy K rows before.0 (Answered (Comes wanted) (stream before.1) (stream after.1)
+      (interim_where awaited) old new end) after.0)
 
 -- The request that was answered, or why it wasn't.
 abbrev pub served_in : Result Exchange ServeFault → Result Served ServeFault

@@ -1,14 +1,15 @@
 -- The numbers and phrases of statuses.
 use Rattle.std.specs.Prelude.{ℕ, List, codes}
 use Rattle.hotel_http.specs.declared.status.Status.{Status}
-use Rattle.hotel_http.specs.declared.status.Status.TheVariants.{Success, BadRequest, NotFound, MethodNotAllowed}
-use Rattle.hotel_http.specs.declared.status.Status.TheVariants.{Conflict, ContentTooLarge, HeadTooLarge, NotImplemented}
-use Rattle.hotel_http.specs.declared.status.Status.TheVariants.{Unavailable}
+use Rattle.hotel_http.specs.declared.status.Status.TheVariants.{Success, BadRequest, Forbidden, NotFound}
+use Rattle.hotel_http.specs.declared.status.Status.TheVariants.{MethodNotAllowed, Conflict, ContentTooLarge}
+use Rattle.hotel_http.specs.declared.status.Status.TheVariants.{HeadTooLarge, NotImplemented, Unavailable}
 
 -- the number of a status
 abbrev pub number_of : Status → ℕ
 number_of Success = 200
 number_of BadRequest = 400
+number_of Forbidden = 403
 number_of NotFound = 404
 number_of MethodNotAllowed = 405
 number_of Conflict = 409
@@ -21,6 +22,7 @@ number_of Unavailable = 503
 abbrev pub phrase_of : Status → List ℕ
 phrase_of Success = codes "OK"
 phrase_of BadRequest = codes "Bad Request"
+phrase_of Forbidden = codes "Forbidden"
 phrase_of NotFound = codes "Not Found"
 phrase_of MethodNotAllowed = codes "Method Not Allowed"
 phrase_of Conflict = codes "Conflict"

@@ -1,6 +1,6 @@
 -- What a route asks for, by its path and the form behind the head.
-use Rattle.std.specs.Prelude.{ℕ, ◌+◌, ◌==◌, nat_lt, Bool, false, if◌then◌else◌, List, [], ◌∷◌, ◌++◌, length}
-use Rattle.std.specs.Prelude.{take, drop, codes, Option, Some, None, option_map}
+use Rattle.std.specs.Prelude.{ℕ, ◌+◌, ◌-◌, ◌==◌, nat_lt, Bool, false, List, [], ◌∷◌, ◌++◌, length}
+use Rattle.std.specs.Prelude.{take, drop, codes, Option, Some, option_map}
 use Rattle.std.specs.List.{position_or_len}
 use Rattle.hotel_nights.specs.Days.{◌>>=◌}
 use Rattle.hotel_core.specs.declared.asks.Ask.{Ask}
@@ -19,9 +19,17 @@ after_slash path = drop (position_or_len (λ b. b == 47) path + 1) path
 abbrev pub before_slash : List ℕ → List ℕ
 before_slash path = take (position_or_len (λ b. b == 47) path) path
 
+-- what stands behind the first part of a path, as 101/chain of /rooms/101/chain
+abbrev pub after_first : List ℕ → List ℕ
+after_first path = after_slash (after_slash path)
+
 -- the second part of a path, as 101 of /rooms/101/chain
 abbrev pub second_part : List ℕ → List ℕ
-second_part path = before_slash (after_slash (after_slash path))
+second_part path = before_slash (after_first path)
+
+-- the third part of a path, as 2 of /availability/2031-05-01/2
+abbrev pub third_part : List ℕ → List ℕ
+third_part path = before_slash (after_slash (after_first path))
 
 -- The names of the form's fields that a verb's route has for its values, in their order.
 abbrev pub fields_of : Verb → List (List ℕ)
@@ -33,9 +41,10 @@ fields_of CheckIn = codes "room" ∷ []
 fields_of Transfer = codes "room" ∷ []
 fields_of _ = []
 
--- The text of the value that is no field of the form, if the verb has one: the second part of the path.
-abbrev pub part_of : Verb → List ℕ → List (List ℕ)
-part_of verb path = if nat_lt (length (fields_of verb)) (length (names_of verb)) then second_part path ∷ [] else []
+-- The texts of the values that are no fields of the form: the second part of the path, and the third, as far as the
+-- verb has such values.
+abbrev pub parts_of : Verb → List ℕ → List (List ℕ)
+parts_of verb path = take (length (names_of verb) - length (fields_of verb)) (second_part path ∷ third_part path ∷ [])
 
 -- The texts of a form's fields of these names, each of which stands once.
 abbrev pub field_texts : List (List ℕ) → List Pair → Option (List (List ℕ))
@@ -45,9 +54,9 @@ field_texts (name ∷ names) form = do
   texts ← field_texts names form
   Some (text ∷ texts)
 
--- The texts of a verb's values, in their order: one from the path, if any, and then those of the form.
+-- The texts of a verb's values, in their order: those from the path, if any, and then those of the form.
 abbrev pub texts_of : Verb → List ℕ → List Pair → Option (List (List ℕ))
-texts_of verb path form = option_map (λ texts. part_of verb path ++ texts) (field_texts (fields_of verb) form)
+texts_of verb path form = option_map (λ texts. parts_of verb path ++ texts) (field_texts (fields_of verb) form)
 
 -- What a verb asks for, its values from the path or the form; nothing where one is missing, stands twice or is refused.
 abbrev pub ask_of_request : Verb → List ℕ → List ℕ → Option Ask

@@ -107,6 +107,7 @@ pub(crate) fn rejection_status(why: Rejection) -> Status
     match why {
         Rejection::BadRequest | Rejection::Unread => Status::BadRequest,
         Rejection::HeadTooLarge => Status::HeadTooLarge,
+        Rejection::Foreign => Status::Forbidden,
         Rejection::NotImplemented => Status::NotImplemented,
         Rejection::BodyTooLarge => Status::ContentTooLarge,
         Rejection::NotFound => Status::NotFound,
@@ -122,6 +123,7 @@ fn rejection_body(why: Rejection) -> &'static [u8]
     match why {
         Rejection::BadRequest => b"bad request\n",
         Rejection::HeadTooLarge => b"head too large\n",
+        Rejection::Foreign => b"foreign\n",
         Rejection::NotImplemented => b"not implemented\n",
         Rejection::BodyTooLarge => b"too large\n",
         Rejection::NotFound => b"not found\n",

@@ -19,7 +19,7 @@ pub enum Named<'b> {
 }
 
 /// Whether two texts are the same but for the case of their letters.
-fn is_same_text(a: &[u8], b: &[u8]) -> bool
+pub(crate) fn is_same_text(a: &[u8], b: &[u8]) -> bool
     ensures { result ≡ str_eq_ignore_ascii_case a.now b.now }
 {
     a.eq_ignore_ascii_case(b)
@@ -36,7 +36,7 @@ fn once_more<'b>(found: Named<'b>, value: &'b [u8]) -> Named<'b>
 }
 
 /// Looks for the fields of a name, in any case of its letters.
-fn find_named<'b>(bytes: &'b [u8], headers: &[HeaderSpan], name: &[u8]) -> Named<'b>
+pub(crate) fn find_named<'b>(bytes: &'b [u8], headers: &[HeaderSpan], name: &[u8]) -> Named<'b>
     requires { All (IsHeaderWithin (length bytes.now)) headers.now }
     ensures { IsFoundIn (values_named name.now (map (header_bytes bytes.now) headers.now)) result }
 {
@@ -47,17 +47,6 @@ fn find_named<'b>(bytes: &'b [u8], headers: &[HeaderSpan], name: &[u8]) -> Named
         }
     }
     found
-}
-
-/// Whether the Host fields are wrong for the minor version of HTTP/1.
-fn is_host_wrong(found: Named<'_>, minor: u8) -> bool
-    ensures { (values : List (List ℕ)) → IsFoundIn values found.entry → result ≡ spec.is_host_wrong minor values }
-{
-    match found {
-        Named::Absent => minor == 1,
-        Named::Once(_) => false,
-        Named::Often => true,
-    }
 }
 
 /// The length that a value of Content-Length says. A body is no longer than an audit file may be.
@@ -103,19 +92,12 @@ fn plain_length(codings: Named<'_>, lengths: Named<'_>) -> Result<usize, Rejecti
     }
 }
 
-/// The length of the body that follows a head, or the first rejection. `minor` is the minor version of HTTP/1.
+/// The length of the body that follows a head, or the first rejection.
 #[tactic(auto, unfolding(crate::specs::Fields::framing))]
-pub(crate) fn read_framing(
-    bytes: &[u8],
-    headers: &[HeaderSpan],
-    minor: u8,
-) -> Result<usize, Rejection>
+pub(crate) fn read_framing(bytes: &[u8], headers: &[HeaderSpan]) -> Result<usize, Rejection>
     requires { All (IsHeaderWithin (length bytes.now)) headers.now }
-    ensures { result ≡ framing minor (map (header_bytes bytes.now) headers.now) }
+    ensures { result ≡ framing (map (header_bytes bytes.now) headers.now) }
 {
-    if is_host_wrong(find_named(bytes, headers, b"host"), minor) {
-        return Err(Rejection::BadRequest);
-    }
     let codings = find_named(bytes, headers, b"transfer-encoding");
     plain_length(codings, find_named(bytes, headers, b"content-length"))
 }

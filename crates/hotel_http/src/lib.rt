@@ -3,8 +3,9 @@
 //! - src: requests reads and judges, and has no books: what is left of a request is a `Request`, or a `Rejection` with
 //!   its own status and text. serve asks the books. All answers but a list's text are written from buffers of fixed
 //!   size.
-//! - specs: Head, Fields: what an input begins with. Routes, Plan, Body, Form, Tasks, Request: what it asks for, or the
-//!   first rejection. Status, Answer, AuditAnswer, Serve: the bytes of answers, and what comes of a request.
+//! - specs: Head, Fields, Origins: what an input begins with, and whether it comes from a web page. Routes, Plan, Body,
+//!   Form, Tasks, Request: what it asks for, or the first rejection. Status, Answer, AuditAnswer, Serve: the bytes of
+//!   answers, and what comes of a request.
 #![tactic(auto)]
 
 mod answer;
@@ -14,13 +15,17 @@ mod buffer;
 mod fields;
 mod form;
 mod head;
+mod origins;
 mod plan;
 mod rejection;
 mod requests;
 mod routes;
 mod serve;
+mod service;
 mod status;
 mod tasks;
 
+pub use origins::Origins;
 pub use routes::{Routes, make_routes};
 pub use serve::{Exchange, ServeFault, Served, serve_by, serve_one};
+pub use service::Service;

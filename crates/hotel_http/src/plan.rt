@@ -82,8 +82,8 @@ fn is_awaited(minor: u8, size: usize, bytes: &[u8], headers: &[HeaderSpan]) -> b
     minor == 1 && size > 0 && expects_continue(bytes, headers)
 }
 
-/// What a head asks for, or the first rejection. The headers are those of the head that the bytes begin with, `minor`
-/// is its minor version of HTTP/1.
+/// What is asked for, or the first rejection. The headers are those of the head that the bytes begin with, `minor` is
+/// its minor version of HTTP/1.
 #[tactic(auto, unfolding(crate::specs::Plan::planned))]
 pub(crate) fn make_plan(
     routes: &Routes,
@@ -96,7 +96,7 @@ pub(crate) fn make_plan(
     requires { All (IsHeaderWithin (length bytes.now)) headers.now }
     ensures { result ≡ planned minor method.now target.now (map (header_bytes bytes.now) headers.now) }
 {
-    let announced = read_framing(bytes, headers, minor)?;
+    let announced = read_framing(bytes, headers)?;
     let found = find_route(routes, path_part(target))?;
     let target = allow(method, found)?;
     let size = size_read(method_of(target), announced);

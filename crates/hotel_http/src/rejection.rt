@@ -14,6 +14,8 @@ pub enum Rejection {
     BadRequest,
     /// The head has too many bytes or fields.
     HeadTooLarge,
+    /// It comes from a web page, and none may ask.
+    Foreign,
     /// The body is coded for its transfer.
     NotImplemented,
     /// The body has too many bytes.

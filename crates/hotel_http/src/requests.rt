@@ -16,9 +16,10 @@ ghost use Rattle.hotel_http.specs.declared.requests.RequestFault.TheVariants.{Wr
 use crate::body::{read_body, write_interim};
 use crate::fields::read_framing;
 use crate::head::{HEAD_FIELDS, Judged, head_part, read_head};
+use crate::origins::admit;
 use crate::plan::{Plan, make_plan, path_part};
 use crate::rejection::Rejection;
-use crate::routes::Routes;
+use crate::service::Service;
 use crate::tasks::{Task, read_task};
 use hotel_lists::{IoCalls, ReadFault, WriteFailed};
 use httparse::spans::{EMPTY_HEADER_SPAN, HeaderSpan, RequestSpans};
@@ -89,9 +90,9 @@ fn refused(why: Rejection, follows: bool) -> Received
 fn announces_body(front: &[u8], headers: &[HeaderSpan], spans: &RequestSpans) -> bool
     requires { IsRequestWithin front.now headers.now spans.now }
     ensures { (head : RequestHead) → IsRequestAt front.now headers.now spans.now head
-        → result ≡ is_some_body (framing head.minor (map name_and_value head.fields)) }
+        → result ≡ is_some_body (framing (map name_and_value head.fields)) }
 {
-    match read_framing(front, &headers[..spans.headers], spans.version) {
+    match read_framing(front, &headers[..spans.headers]) {
         Ok(announced) => announced > 0,
         Err(_) => true,
     }
@@ -110,19 +111,22 @@ fn target_text<'b>(front: &'b [u8], spans: &RequestSpans) -> &'b str
 }
 
 /// What a head asks for, or the first rejection.
+#[tactic(auto, unfolding(crate::specs::Plan::plan_in))]
 fn plan_head(
-    routes: &Routes,
+    service: Service<'_>,
     front: &[u8],
     headers: &[HeaderSpan],
     spans: &RequestSpans,
 ) -> Result<Plan, Rejection>
     requires { IsRequestWithin front.now headers.now spans.now }
-    ensures { (head : RequestHead) → IsRequestAt front.now headers.now spans.now head → result ≡ plan_in head }
+    ensures { (head : RequestHead) → IsRequestAt front.now headers.now spans.now head
+        → result ≡ plan_in service.entry.origins head }
 {
+    let fields = &headers[..spans.headers];
+    admit(service.origins, spans.version, front, fields)?;
     let method = spans.method.of(front);
     let target = target_text(front, spans);
-    let fields = &headers[..spans.headers];
-    make_plan(routes, spans.version, method, target, front, fields)
+    make_plan(service.routes, spans.version, method, target, front, fields)
 }
 
 /// What a plan asks for with the body that was read, which may be too short.
@@ -178,7 +182,7 @@ fn behind(bytes: &[u8], len: usize) -> &[u8]
 /// Reads what a head and the bytes behind it ask for. The bytes begin with the head.
 fn read_behind_head<R: Read, W: Write>(
     alloc: Global,
-    routes: &Routes,
+    service: Service<'_>,
     reader: &mut R,
     writer: &mut W,
     bytes: &[u8],
@@ -188,17 +192,18 @@ fn read_behind_head<R: Read, W: Write>(
 ) -> Result<Received, RequestFault>
     requires { IsRequestWithin (take HEAD_BYTES bytes.now) headers.now spans.now }
     ensures ends { (head : RequestHead) → IsRequestAt (take HEAD_BYTES bytes.now) headers.now spans.now head
-        → EndsHead head (λ left. drop spans.now.len (bytes.now ++ left)) (R.remaining reader.old)
-        (W.contents writer.old) (W.contents writer.new) result }
+        → EndsHead service.entry.origins head (λ left. drop spans.now.len (bytes.now ++ left))
+        (R.remaining reader.old) (W.contents writer.old) (W.contents writer.new) result }
     ensures follows { (head : RequestHead) → IsRequestAt (take HEAD_BYTES bytes.now) headers.now spans.now head
-        → IfOk result (λ got. got.follows ≡ may_follow head) }
+        → IfOk result (λ got. got.follows ≡ may_follow service.entry.origins head) }
     ensures wanted { (head : RequestHead) → IsRequestAt (take HEAD_BYTES bytes.now) headers.now spans.now head
-        → ReadsBehind head spans.now.len bytes.now (R.remaining reader.old) (R.remaining reader.new) }
+        → ReadsBehind service.entry.origins head spans.now.len bytes.now (R.remaining reader.old)
+        (R.remaining reader.new) }
     ensures before { OnErrOf result Write (Keeps (R.remaining reader.old) (R.remaining reader.new)) }
     ensures calls { CountsCalls calls.old calls.new (OnErrOf result Read) (OnErrOf result Write) }
 {
     let front = head_part(bytes);
-    match plan_head(routes, front, headers, spans) {
+    match plan_head(service, front, headers, spans) {
         Err(why) => Ok(refused(why, announces_body(front, headers, spans))),
         Ok(plan) => {
             let path = path_part(target_text(front, spans));
@@ -212,14 +217,16 @@ fn read_behind_head<R: Read, W: Write>(
 #[tactic(auto, using(crate::proofs::RequestLemmas::head_read))]
 pub(crate) fn read_request<R: Read, W: Write>(
     alloc: Global,
-    routes: &Routes,
+    service: Service<'_>,
     reader: &mut R,
     writer: &mut W,
     calls: &mut IoCalls,
 ) -> Result<Received, RequestFault>
-    ensures ends { EndsRequest (R.remaining reader.old) (W.contents writer.old) (W.contents writer.new) result }
-    ensures follows { IfOk result (λ got. IfSome (R.remaining reader.old) (λ input. MayFollow input got.follows)) }
-    ensures wanted { ReadsWhile WantsMore (R.remaining reader.old) (R.remaining reader.new) }
+    ensures ends { EndsRequest service.entry.origins (R.remaining reader.old) (R.remaining reader.new)
+        (W.contents writer.old) (W.contents writer.new) result }
+    ensures follows { IfOk result
+        (λ got. IfSome (R.remaining reader.old) (λ input. MayFollow service.entry.origins input got.follows)) }
+    ensures wanted { ReadsWhile (WantsMore service.entry.origins) (R.remaining reader.old) (R.remaining reader.new) }
     ensures before { OnErrOf result Write (ReadsWhile WantsHead (R.remaining reader.old) (R.remaining reader.new)) }
     ensures calls { CountsCalls calls.old calls.new (OnErrOf result Read) (OnErrOf result Write) }
 {
@@ -231,7 +238,7 @@ pub(crate) fn read_request<R: Read, W: Write>(
         Judged::Malformed => Ok(refused(Rejection::BadRequest, true)),
         Judged::TooLarge => Ok(refused(Rejection::HeadTooLarge, true)),
         Judged::Whole(spans) => read_behind_head(
-            alloc, routes, reader, writer, &bytes, &headers, &spans, calls,
+            alloc, service, reader, writer, &bytes, &headers, &spans, calls,
         ),
     }
 }

@@ -91,6 +91,14 @@ pub fn make_routes(alloc: Global) -> Result<Routes, InsertError>
             ("/rooms/{room}/chain", Target::Asks(Verb::ChainOf)),
             ("/left-behind", Target::Asks(Verb::LeftBehind)),
             ("/rooms/{room}/audit", Target::Asks(Verb::AuditOf)),
+            ("/business-day", Target::Asks(Verb::BusinessDay)),
+            ("/room-status", Target::Asks(Verb::RoomStatus)),
+            ("/inside", Target::Asks(Verb::Inside)),
+            ("/bookings", Target::Asks(Verb::Bookings)),
+            (
+                "/availability/{day}/{nights}",
+                Target::Asks(Verb::Availability),
+            ),
         ],
     )?;
     Ok(Routes { router })

@@ -6,6 +6,7 @@ ghost use Rattle.hotel_lists.specs.Calls.{CountsCalls, CountsWrites, OnErrOf};
 ghost use Rattle.hotel_asks.specs.Listings.{listing_on};
 ghost use Rattle.hotel_lists.specs.Reads.{ReadsWhile};
 ghost use Rattle.hotel_http.specs.Request.{MayFollow, WantsMore};
+ghost use Rattle.hotel_http.specs.declared.origins.Origins.TheVariants.{Any};
 ghost use Rattle.hotel_core.specs.declared.asks.Ask.TheVariants as ask;
 ghost use Rattle.hotel_http.specs.declared.serve.ServeFault.TheVariants.{Read, Write};
 ghost use Rattle.hotel_http.specs.Serve.{rejected, replied, is_accepted, taken_before_fault, AskComes};
@@ -17,9 +18,11 @@ ghost use Rattle.hotel_http.specs.Serve.{serve_fault_text};
 
 use crate::answer::{rejection_status, reply_status, write_csv, write_rejection, write_reply};
 use crate::audit_answer::{fault_status, write_audit, write_fault};
+use crate::origins::Origins;
 use crate::rejection::Rejection;
 use crate::requests::{Received, Request, RequestFault, read_request};
-use crate::routes::{Routes, make_routes};
+use crate::routes::make_routes;
+use crate::service::Service;
 use crate::status::Status;
 use crate::tasks::Task;
 use hotel_asks::{Ask, ListAsk, write_list};
@@ -282,26 +285,28 @@ fn answer_request<W: Write, B: Walks, R: Rng>(
     }
 }
 
-/// Reads one request, carries out what it asks for, and answers, as `serve_one` does. The caller made the table of
-/// routes, once for all its requests, and no memory is taken for it here. The reads and writes are added to the calls.
-/// It says too whether more of the request may come, so that who closes a connection knows what its peer may send.
+/// Reads one request, carries out what it asks for, and answers, as `serve_one` does. Where it doesn't come from these
+/// origins, the answer is 403. The caller made the table of routes, once for all its requests, and no memory is taken
+/// for it here. The reads and writes are added to the calls. It says too whether more of the request may come, so that
+/// who closes a connection knows what its peer may send.
 pub fn serve_by<I: Read, W: Write, B: Walks, R: Rng>(
     alloc: Global,
-    routes: &Routes,
+    service: Service<'_>,
     reader: &mut I,
     writer: &mut W,
     books: &mut B,
     source: &mut R,
     calls: &mut IoCalls,
 ) -> Result<Exchange, ServeFault>
-    ensures serves { ServesOver B.Kept B.rows R.stream (I.remaining reader.old) (I.remaining reader.new)
-        (W.contents writer.old) (W.contents writer.new)
+    ensures serves { ServesOver service.entry.origins B.Kept B.rows R.stream
+        (I.remaining reader.old) (I.remaining reader.new) (W.contents writer.old) (W.contents writer.new)
         (books.old, source.old) (books.new, source.new) (served_in result) }
-    ensures follows { IfOk result (λ done. IfSome (I.remaining reader.old) (λ input. MayFollow input done.follows)) }
-    ensures wanted { ReadsWhile WantsMore (I.remaining reader.old) (I.remaining reader.new) }
+    ensures follows { IfOk result
+        (λ done. IfSome (I.remaining reader.old) (λ input. MayFollow service.entry.origins input done.follows)) }
+    ensures wanted { ReadsWhile (WantsMore service.entry.origins) (I.remaining reader.old) (I.remaining reader.new) }
     ensures calls { CountsCalls calls.old calls.new (OnErrOf result Read) (IfUnwritten (served_in result)) }
 {
-    let Received { asks, follows } = read_request(alloc, routes, reader, writer, calls)?;
+    let Received { asks, follows } = read_request(alloc, service, reader, writer, calls)?;
     match asks {
         Ok(request) => {
             let served = answer_request(alloc, &request, writer, books, source, calls)?;
@@ -319,7 +324,8 @@ pub fn serve_by<I: Read, W: Write, B: Walks, R: Rng>(
 ///
 /// The body is read whole before a command or an import begins. All memory but theirs is taken before it; their answers
 /// are written from buffers of fixed size, and a list's text is made whole before its answer begins. The interrupted
-/// reads and writes of the call are counted together; the thousandth is a fault. The writer is not flushed.
+/// reads and writes of the call are counted together; the thousandth is a fault. The writer is not flushed. Wherever a
+/// request comes from, it is answered as it asks.
 #[tactic(auto, using(crate::proofs::RequestLemmas::none_read))]
 pub fn serve_one<I: Read, W: Write, B: Walks, R: Rng>(
     alloc: Global,
@@ -328,15 +334,19 @@ pub fn serve_one<I: Read, W: Write, B: Walks, R: Rng>(
     books: &mut B,
     source: &mut R,
 ) -> Result<Served, ServeFault>
-    ensures serves { ServesOver B.Kept B.rows R.stream (I.remaining reader.old) (I.remaining reader.new)
+    ensures serves { ServesOver Any B.Kept B.rows R.stream (I.remaining reader.old) (I.remaining reader.new)
         (W.contents writer.old) (W.contents writer.new) (books.old, source.old) (books.new, source.new) result }
-    ensures wanted { ReadsWhile WantsMore (I.remaining reader.old) (I.remaining reader.new) }
+    ensures wanted { ReadsWhile (WantsMore Any) (I.remaining reader.old) (I.remaining reader.new) }
 {
     let Ok(routes) = make_routes(alloc) else {
         return Err(ServeFault::Memory);
     };
+    let service = Service {
+        origins: Origins::Any,
+        routes: &routes,
+    };
     let mut calls = IoCalls::none();
-    match serve_by(alloc, &routes, reader, writer, books, source, &mut calls) {
+    match serve_by(alloc, service, reader, writer, books, source, &mut calls) {
         Ok(done) => Ok(done.served),
         Err(why) => Err(why),
     }

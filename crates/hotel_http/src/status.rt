@@ -8,6 +8,7 @@ ghost use Rattle.hotel_http.specs.Status.{number_of, phrase_of};
 pub enum Status {
     Success,
     BadRequest,
+    Forbidden,
     NotFound,
     MethodNotAllowed,
     Conflict,
@@ -25,6 +26,7 @@ impl Status {
         match self {
             Status::Success => 200,
             Status::BadRequest => 400,
+            Status::Forbidden => 403,
             Status::NotFound => 404,
             Status::MethodNotAllowed => 405,
             Status::Conflict => 409,
@@ -43,6 +45,7 @@ impl Status {
         match self {
             Status::Success => b"OK",
             Status::BadRequest => b"Bad Request",
+            Status::Forbidden => b"Forbidden",
             Status::NotFound => b"Not Found",
             Status::MethodNotAllowed => b"Method Not Allowed",
             Status::Conflict => b"Conflict",

@@ -1,9 +1,10 @@
 //! What a route asks for, by its path and the form behind the head.
 
-ghost use Rattle.std.specs.Prelude.{◌≡◌, ◌≤◌, ◌<◌, true, length, map, IfOk, OnErr};
+ghost use Rattle.std.specs.Prelude.{◌≡◌, ◌≤◌, ◌+◌, true, length, map, IfOk, OnErr};
 ghost use Rattle.hotel_asks.specs.declared.texts.TheConstants.{MOST_VALUES};
-ghost use Rattle.hotel_http.specs.Tasks.{after_slash, before_slash, second_part, fields_of, part_of, texts_of};
-ghost use Rattle.hotel_http.specs.Tasks.{ask_of_request, has_fields, task_in, reads_form};
+ghost use Rattle.hotel_http.specs.declared.tasks.TheConstants.{MOST_PARTS};
+ghost use Rattle.hotel_http.specs.Tasks.{after_slash, before_slash, after_first, second_part, third_part, fields_of};
+ghost use Rattle.hotel_http.specs.Tasks.{parts_of, texts_of, ask_of_request, has_fields, task_in, reads_form};
 
 use crate::form::{Form, read_form};
 use crate::routes::Target;
@@ -37,17 +38,34 @@ fn before_slash(path: &str) -> &str
     }
 }
 
+/// What stands behind the first part of a path, as 101/chain of /rooms/101/chain.
+fn after_first(path: &str) -> &str
+    ensures { result.now ≡ after_first path.now }
+{
+    after_slash(after_slash(path))
+}
+
 /// The second part of a path, as 101 of /rooms/101/chain.
 fn second_part(path: &str) -> &str
     ensures { result.now ≡ second_part path.now }
 {
-    before_slash(after_slash(after_slash(path)))
+    before_slash(after_first(path))
 }
+
+/// The third part of a path, as 2 of /availability/2031-05-01/2.
+fn third_part(path: &str) -> &str
+    ensures { result.now ≡ third_part path.now }
+{
+    before_slash(after_slash(after_first(path)))
+}
+
+/// The most values that a verb has in its path.
+const MOST_PARTS: usize = 2;
 
 /// The names of the form's fields that a verb's route has for its values, in their order.
 fn fields_of<'a>(verb: Verb) -> &'a [&'a str]
     ensures names { map (λ name. name.now) result.now ≡ fields_of verb }
-    ensures few { length result.now < MOST_VALUES }
+    ensures few { length result.now + MOST_PARTS ≤ MOST_VALUES }
 {
     match verb {
         Verb::Begin => &["day"],
@@ -59,14 +77,19 @@ fn fields_of<'a>(verb: Verb) -> &'a [&'a str]
     }
 }
 
-/// The text of the value that is no field of the form, if the verb has one: the second part of the path.
-fn part_of<'p>(verb: Verb, path: &'p str) -> ValueTexts<'p>
-    ensures texts { result ≡ part_of verb path.now }
-    ensures few { length result ≤ 1 }
+/// The texts of the values that are no fields of the form: the second part of the path, and the third, as far as the
+/// verb has such values.
+fn parts_of<'p>(verb: Verb, path: &'p str) -> ValueTexts<'p>
+    ensures texts { result ≡ parts_of verb path.now }
+    ensures few { length result ≤ MOST_PARTS }
 {
+    let parts = verb.values().len().saturating_sub(fields_of(verb).len());
     let mut texts = ValueTexts::new();
-    if fields_of(verb).len() < verb.values().len() {
+    if parts > 0 {
         texts.push(second_part(path).as_bytes());
+    }
+    if parts > 1 {
+        texts.push(third_part(path).as_bytes());
     }
     texts
 }
@@ -75,7 +98,7 @@ fn part_of<'p>(verb: Verb, path: &'p str) -> ValueTexts<'p>
 fn texts_of<'t>(verb: Verb, path: &'t str, form: &'t Form<'_>) -> Option<ValueTexts<'t>>
     ensures { result ≡ texts_of verb path.now form.now }
 {
-    let mut texts = part_of(verb, path);
+    let mut texts = parts_of(verb, path);
     for name in fields_of(verb) {
         texts.push(form.text(name)?.as_bytes());
     }
@@ -93,7 +116,7 @@ fn ask_by_verb(
     ensures memory { OnErr result (has_fields verb ≡ true) }
 {
     if fields_of(verb).is_empty() {
-        return accept_ask(alloc, verb, &part_of(verb, path));
+        return accept_ask(alloc, verb, &parts_of(verb, path));
     }
     let form = read_form(alloc, body)?;
     match texts_of(verb, path, &form) {

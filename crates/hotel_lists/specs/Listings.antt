@@ -5,9 +5,13 @@ use Rattle.std.specs.List.{concat}
 use Rattle.std.specs.Io.KnownBytes.{Appends}
 use Rattle.hotel_model.specs.{Rows.Rows, Rows.notes_at, Refinement.Lookups.room_at}
 use Rattle.hotel_model.specs.Refinement.ListsOnRows.{arrivals_on, in_house_on, chain_on, left_behind_on}
+use Rattle.hotel_model.specs.Refinement.ListsOnRows.{business_day_on, room_status_on, cards_inside_on, bookings_on}
+use Rattle.hotel_model.specs.Refinement.ListsOnRows.{availability_on}
 use Rattle.hotel_lists.specs.{Bytes.AppendsFront, declared.fault.ListFault.ListFault}
 use Rattle.hotel_lists.specs.RowLines.{arrivals_header, in_house_header, chain_header, left_behind_header, audit_header}
+use Rattle.hotel_lists.specs.RowLines.{day_header, status_header, inside_header, free_header}
 use Rattle.hotel_lists.specs.RowLines.{arrival_line, house_line, chain_line, behind_line, note_line}
+use Rattle.hotel_lists.specs.RowLines.{day_line, status_line, inside_line, free_line}
 use Rattle.hotel_lists.specs.declared.fault.ListFault.TheVariants as fault
 
 -- A list's header and its lines.
@@ -41,6 +45,21 @@ left_behind_listing rows = Some (listing left_behind_header behind_line (left_be
 abbrev pub audit_listing : Rows → ℕ → Option Listing
 audit_listing rows room =
     of_room (is_some (room_at rows room)) (listing audit_header note_line (notes_at rows.notes room))
+
+abbrev pub business_day_listing : Rows → Option Listing
+business_day_listing rows = Some (listing day_header day_line (business_day_on rows))
+
+abbrev pub room_status_listing : Rows → Option Listing
+room_status_listing rows = Some (listing status_header status_line (room_status_on rows))
+
+abbrev pub inside_listing : Rows → Option Listing
+inside_listing rows = Some (listing inside_header inside_line (cards_inside_on rows))
+
+abbrev pub bookings_listing : Rows → Option Listing
+bookings_listing rows = Some (listing arrivals_header arrival_line (bookings_on rows))
+
+abbrev pub availability_listing : Rows → ℕ → ℕ → Option Listing
+availability_listing rows day nights = Some (listing free_header free_line (availability_on rows day nights))
 
 -- A list in full: its header and its lines; where its room isn't there, what is said then.
 abbrev pub in_full : List ℕ → Option Listing → List ℕ

@@ -1,4 +1,4 @@
--- The lines of the five lists, and how a sink of lines and a look-up of a room end.
+-- The lines of the lists, and how a sink of lines and a look-up of a room end.
 use Rattle.std.specs.Prelude.{ℕ, ◌≡◌, ◌⊎◌, Bool, true, false, List, [], ◌∷◌, ◌++◌, codes, if◌then◌else◌, Option, Some}
 use Rattle.std.specs.Prelude.{None, Result, Ok, Err}
 use Rattle.std.specs.Fmt.{decimal}
@@ -14,6 +14,8 @@ use Rattle.hotel_nights.specs.{Days.day_text, Moments.moment_of, Moments.moment_
 use Rattle.hotel_model.specs.{declared.rows.RoomRow.RoomRow, declared.list_rows.HouseRow.HouseRow}
 use Rattle.hotel_model.specs.{declared.list_rows.ChainRow.ChainRow}
 use Rattle.hotel_model.specs.{declared.list_rows.BehindRow.BehindRow, declared.list_rows.CodeState.CodeState}
+use Rattle.hotel_model.specs.{declared.list_rows.StatusRow.StatusRow, declared.list_rows.InsideRow.InsideRow}
+use Rattle.hotel_model.specs.{declared.list_rows.FreeRow.FreeRow}
 use Rattle.hotel_core.specs.declared.books.walks.WalkFault.{WalkFault}
 use Rattle.hotel_model.specs.declared.list_rows.CodeState.TheVariants as state
 use Rattle.hotel_core.specs.declared.books.walks.WalkFault.TheVariants as walk
@@ -62,7 +64,29 @@ abbrev pub note_line : Note → List ℕ
 note_line note = line_of (decimal note.room ∷ decimal note.fit ∷ decimal note.count ∷ act_fields note.act
     ++ moment_text (moment_of note) ∷ [])
 
--- the first line of each list
+-- the business day
+abbrev pub day_line : ℕ → List ℕ
+day_line day = line_of (day_text day ∷ [])
+
+-- a party's number, or nothing where there is no party
+abbrev pub party_field : Option ℕ → List ℕ
+party_field None = []
+party_field (Some party) = decimal party
+
+-- a room with its registered party, if any
+abbrev pub status_line : StatusRow → List ℕ
+status_line row = line_of (decimal row.room ∷ row.kind ∷ party_field row.party ∷ yes_or_no row.secured
+    ∷ decimal row.awaited ∷ [])
+
+-- a card inside a room
+abbrev pub inside_line : InsideRow → List ℕ
+inside_line row = line_of (decimal row.room ∷ decimal row.card ∷ decimal row.party ∷ [])
+
+-- a kind with its free rooms
+abbrev pub free_line : FreeRow → List ℕ
+free_line row = line_of (row.kind ∷ decimal row.rooms ∷ decimal row.free ∷ [])
+
+-- the first line of each list; bookings have that of arrivals
 abbrev pub arrivals_header : List ℕ
 arrivals_header = codes "party,guest,kind,arrive,depart\n"
 
@@ -77,6 +101,18 @@ left_behind_header = codes "room,held,current,awaited\n"
 
 abbrev pub audit_header : List ℕ
 audit_header = codes "room,fit,count,kind,card,old,new,at\n"
+
+abbrev pub day_header : List ℕ
+day_header = codes "day\n"
+
+abbrev pub status_header : List ℕ
+status_header = codes "room,kind,party,secured,awaited\n"
+
+abbrev pub inside_header : List ℕ
+inside_header = codes "room,card,party\n"
+
+abbrev pub free_header : List ℕ
+free_header = codes "kind,rooms,free\n"
 
 -- A writer stopped at a line: it took a prefix of it where the write failed, and nothing of it otherwise.
 abbrev pub StopsAtLine : Bool → Option (List ℕ) → Option (List ℕ) → List ℕ → Type 0

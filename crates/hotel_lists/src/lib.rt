@@ -26,10 +26,14 @@ pub use bytes::{
 };
 pub use calls::{IoCalls, LAST_INTERRUPTION, ReadFailed, WriteFailed};
 pub use fault::ListFault;
-pub use lists::{arrivals, audit_of, chain_of, in_house, left_behind};
+pub use lists::{
+    arrivals, audit_of, availability, bookings, business_day, chain_of, in_house, inside,
+    left_behind, room_status,
+};
 pub use test_streams::{
     FailingReader, FailingWriter, FullWriter, InterruptedReader, InterruptedWriter,
 };
 pub use write_lists::{
-    write_arrivals, write_audit_of, write_chain_of, write_in_house, write_left_behind,
+    write_arrivals, write_audit_of, write_availability, write_bookings, write_business_day,
+    write_chain_of, write_in_house, write_inside, write_left_behind, write_room_status,
 };

@@ -1,16 +1,19 @@
-//! The five lists as text: a header, and a line for each row.
+//! The lists as text: a header, and a line for each row.
 ghost use Rattle.std.specs.Prelude.{◌≡◌, [], Err};
 ghost use Rattle.hotel_lists.specs.Listings.{ListEnds, arrivals_listing, in_house_listing, chain_listing};
 ghost use Rattle.hotel_lists.specs.{Listings.left_behind_listing, Listings.audit_listing, RowLines.LooksAt};
+ghost use Rattle.hotel_lists.specs.Listings.{business_day_listing, room_status_listing, inside_listing};
+ghost use Rattle.hotel_lists.specs.Listings.{bookings_listing, availability_listing};
 ghost use Rattle.hotel_lists.specs.declared.fault.ListFault.TheVariants.{NoRoom};
 
 use crate::calls::IoCalls;
 use crate::fault::ListFault;
 use crate::write_lists::{
-    write_arrivals, write_audit_of, write_chain_of, write_in_house, write_left_behind,
+    write_arrivals, write_audit_of, write_availability, write_bookings, write_business_day,
+    write_chain_of, write_in_house, write_inside, write_left_behind, write_room_status,
 };
 use hotel_core::Walks;
-use hotel_nights::Day;
+use hotel_nights::{Day, Nights};
 use keycard_rules::RoomNo;
 use std::alloc::Global;
 use std::io::Write;
@@ -84,4 +87,78 @@ pub fn audit_of<B: Walks, W: Write>(
     ensures books { LooksAt B.Kept books.old books.new result }
 {
     write_audit_of(alloc, books, room, writer, &mut IoCalls::none())
+}
+
+/// Writes the business day, once it is set.
+pub fn business_day<B: Walks, W: Write>(
+    alloc: Global,
+    books: &mut B,
+    writer: &mut W,
+) -> Result<(), ListFault>
+    ensures text { B.is_honest books.new → ListEnds [] (business_day_listing (B.rows books.old)) (W.contents writer.old)
+        (W.contents writer.new) result }
+    ensures no_room { result ≡ Err NoRoom → ⊥ }
+    ensures books { LooksAt B.Kept books.old books.new result }
+{
+    write_business_day(alloc, books, writer, &mut IoCalls::none())
+}
+
+/// Writes all rooms, by room: each with its registered party, whether it is secured, and how many codes its
+/// lock awaits.
+pub fn room_status<B: Walks, W: Write>(
+    alloc: Global,
+    books: &mut B,
+    writer: &mut W,
+) -> Result<(), ListFault>
+    ensures text { B.is_honest books.new → ListEnds [] (room_status_listing (B.rows books.old)) (W.contents writer.old)
+        (W.contents writer.new) result }
+    ensures no_room { result ≡ Err NoRoom → ⊥ }
+    ensures books { LooksAt B.Kept books.old books.new result }
+{
+    write_room_status(alloc, books, writer, &mut IoCalls::none())
+}
+
+/// Writes the cards inside rooms, by room and card, each with the party that it was given to.
+pub fn inside<B: Walks, W: Write>(
+    alloc: Global,
+    books: &mut B,
+    writer: &mut W,
+) -> Result<(), ListFault>
+    ensures text { B.is_honest books.new → ListEnds [] (inside_listing (B.rows books.old)) (W.contents writer.old)
+        (W.contents writer.new) result }
+    ensures no_room { result ≡ Err NoRoom → ⊥ }
+    ensures books { LooksAt B.Kept books.old books.new result }
+{
+    write_inside(alloc, books, writer, &mut IoCalls::none())
+}
+
+/// Writes the booked stays, by party.
+pub fn bookings<B: Walks, W: Write>(
+    alloc: Global,
+    books: &mut B,
+    writer: &mut W,
+) -> Result<(), ListFault>
+    ensures text { B.is_honest books.new → ListEnds [] (bookings_listing (B.rows books.old)) (W.contents writer.old)
+        (W.contents writer.new) result }
+    ensures no_room { result ≡ Err NoRoom → ⊥ }
+    ensures books { LooksAt B.Kept books.old books.new result }
+{
+    write_bookings(alloc, books, writer, &mut IoCalls::none())
+}
+
+/// Writes the kinds, in the order of their letters: each with its rooms, and with how many bookings for so many
+/// nights from the day on would be accepted one after the other.
+pub fn availability<B: Walks, W: Write>(
+    alloc: Global,
+    books: &mut B,
+    day: Day,
+    nights: Nights,
+    writer: &mut W,
+) -> Result<(), ListFault>
+    ensures text { B.is_honest books.new → ListEnds [] (availability_listing (B.rows books.old) day nights)
+        (W.contents writer.old) (W.contents writer.new) result }
+    ensures no_room { result ≡ Err NoRoom → ⊥ }
+    ensures books { LooksAt B.Kept books.old books.new result }
+{
+    write_availability(alloc, books, day, nights, writer, &mut IoCalls::none())
 }

@@ -4,12 +4,13 @@ ghost use Rattle.std.specs.Fmt.{decimal};
 ghost use Rattle.keycard_rules.specs.Numerals.{code_text};
 ghost use Rattle.hotel_nights.specs.Moments.{moment_of, moment_text};
 ghost use Rattle.hotel_lists.specs.RowLines.{line_of, arrival_line, house_line, chain_line, behind_line, note_line};
-ghost use Rattle.hotel_lists.specs.RowLines.{yes_or_no, state_text};
+ghost use Rattle.hotel_lists.specs.RowLines.{day_line, status_line, inside_line, free_line};
+ghost use Rattle.hotel_lists.specs.RowLines.{yes_or_no, state_text, party_field};
 
 use crate::gathered::Gathered;
-use hotel_core::{BehindRow, ChainRow, CodeState, HouseRow};
-use hotel_nights::{Moment, Stay};
-use keycard_rules::{Act, Code, LockNote, Memory};
+use hotel_core::{BehindRow, ChainRow, CodeState, FreeRow, HouseRow, InsideRow, StatusRow};
+use hotel_nights::{Day, Moment, Stay};
+use keycard_rules::{Act, Code, LockNote, Memory, PartyNo};
 
 /// A row that has a line.
 pub(crate) trait RowLine {
@@ -38,11 +39,11 @@ impl RowLine for Stay {
     }
 }
 
-/// Whether the room is secured.
-fn secured_text(row: &HouseRow) -> &[u8]
-    ensures { result.now ≡ yes_or_no row.now.secured }
+/// Whether a room is secured, as its row says it.
+fn secured_text<'a>(secured: bool) -> &'a [u8]
+    ensures { result.now ≡ yes_or_no secured }
 {
-    if row.secured { b"yes" } else { b"no" }
+    if secured { b"yes" } else { b"no" }
 }
 
 impl RowLine for HouseRow {
@@ -58,7 +59,7 @@ impl RowLine for HouseRow {
             self.guest.text().as_bytes(),
             self.kind.as_bytes(),
             depart.as_slice(),
-            secured_text(self),
+            secured_text(self.secured),
         ])
     }
 }
@@ -151,5 +152,70 @@ impl RowLine for LockNote {
             }
             Act::Recoded { from, to } => note_fields(lines, self, b"recode", b"", from, to),
         }
+    }
+}
+
+impl RowLine for Day {
+    ghost line = { day_line };
+
+    fn gather(&self, lines: &mut Gathered) -> Result<(), Memory> {
+        let day = self.print();
+        lines.push(&[day.as_slice()])
+    }
+}
+
+/// A party's number; an empty text where there is no party.
+fn party_field<'b>(party: Option<PartyNo>, buffer: &'b mut itoa::Buffer) -> &'b [u8]
+    ensures { result.now ≡ party_field party }
+{
+    match party {
+        Some(party) => buffer.format(party.value()).as_bytes(),
+        None => b"",
+    }
+}
+
+impl RowLine for StatusRow {
+    ghost line = { status_line };
+
+    fn gather(&self, lines: &mut Gathered) -> Result<(), Memory> {
+        let mut room = itoa::Buffer::new();
+        let mut party = itoa::Buffer::new();
+        let mut awaited = itoa::Buffer::new();
+        lines.push(&[
+            room.format(self.room.value()).as_bytes(),
+            self.kind.as_bytes(),
+            party_field(self.party, &mut party),
+            secured_text(self.secured),
+            awaited.format(self.awaited).as_bytes(),
+        ])
+    }
+}
+
+impl RowLine for InsideRow {
+    ghost line = { inside_line };
+
+    fn gather(&self, lines: &mut Gathered) -> Result<(), Memory> {
+        let mut room = itoa::Buffer::new();
+        let mut card = itoa::Buffer::new();
+        let mut party = itoa::Buffer::new();
+        lines.push(&[
+            room.format(self.room.value()).as_bytes(),
+            card.format(self.card.value()).as_bytes(),
+            party.format(self.party.value()).as_bytes(),
+        ])
+    }
+}
+
+impl RowLine for FreeRow {
+    ghost line = { free_line };
+
+    fn gather(&self, lines: &mut Gathered) -> Result<(), Memory> {
+        let mut rooms = itoa::Buffer::new();
+        let mut free = itoa::Buffer::new();
+        lines.push(&[
+            self.kind.as_bytes(),
+            rooms.format(self.rooms).as_bytes(),
+            free.format(self.free).as_bytes(),
+        ])
     }
 }

@@ -1,13 +1,17 @@
-//! The five lists: which rows each has, and the walk that hands them over.
+//! The lists: which rows each has, and the walk that hands them over.
 ghost use Rattle.std.specs.Prelude.{List, Bool, false};
 ghost use Rattle.hotel_model.specs.Rows.{Rows};
 ghost use Rattle.hotel_core.specs.{Books.Reads.is_any, Books.Walks.WalksOver};
 ghost use Rattle.hotel_model.specs.Refinement.ListsOnRows.{arrivals_on, in_house_on, chain_on, left_behind_on};
+ghost use Rattle.hotel_model.specs.Refinement.ListsOnRows.{business_day_on, room_status_on, cards_inside_on};
+ghost use Rattle.hotel_model.specs.Refinement.ListsOnRows.{bookings_on, availability_on};
 ghost use Rattle.hotel_model.specs.Rows.{notes_at};
 
 use crate::row_lines::RowLine;
-use hotel_core::{BehindRow, ChainRow, HouseRow, Sink, WalkFault, Walks};
-use hotel_nights::{Day, Stay};
+use hotel_core::{
+    BehindRow, ChainRow, FreeRow, HouseRow, InsideRow, Sink, StatusRow, WalkFault, Walks,
+};
+use hotel_nights::{Day, Nights, Stay};
 use keycard_rules::{LockNote, RoomNo};
 
 /// A list that books have.
@@ -103,5 +107,88 @@ impl<B: Walks> WalkedList<B> for AuditOf {
 
     fn walk<S: Sink<LockNote>>(&self, books: &mut B, sink: &mut S) -> Result<(), WalkFault> {
         books.walk_audit(self.0, sink)
+    }
+}
+
+/// The business day, once it is set. It is looked up; no walk hands it over.
+#[derive(Clone, Copy)]
+pub(crate) struct BusinessDay;
+
+impl<B: Walks> WalkedList<B> for BusinessDay {
+    type Row = Day;
+
+    ghost rows = { λ _ rows. business_day_on rows };
+
+    ghost takes_memory = { λ _. false };
+
+    fn walk<S: Sink<Day>>(&self, books: &mut B, sink: &mut S) -> Result<(), WalkFault> {
+        if let Some(day) = books.day()? {
+            sink.take(&day)?;
+        }
+        Ok(())
+    }
+}
+
+/// All rooms, each with its registered party.
+#[derive(Clone, Copy)]
+pub(crate) struct RoomStatus;
+
+impl<B: Walks> WalkedList<B> for RoomStatus {
+    type Row = StatusRow;
+
+    ghost rows = { λ _ rows. room_status_on rows };
+
+    ghost takes_memory = { λ _. false };
+
+    fn walk<S: Sink<StatusRow>>(&self, books: &mut B, sink: &mut S) -> Result<(), WalkFault> {
+        books.walk_room_status(sink)
+    }
+}
+
+/// The cards inside rooms.
+#[derive(Clone, Copy)]
+pub(crate) struct Inside;
+
+impl<B: Walks> WalkedList<B> for Inside {
+    type Row = InsideRow;
+
+    ghost rows = { λ _ rows. cards_inside_on rows };
+
+    ghost takes_memory = { λ _. false };
+
+    fn walk<S: Sink<InsideRow>>(&self, books: &mut B, sink: &mut S) -> Result<(), WalkFault> {
+        books.walk_inside(sink)
+    }
+}
+
+/// The booked stays.
+#[derive(Clone, Copy)]
+pub(crate) struct Bookings;
+
+impl<B: Walks> WalkedList<B> for Bookings {
+    type Row = Stay;
+
+    ghost rows = { λ _ rows. bookings_on rows };
+
+    ghost takes_memory = { λ _. false };
+
+    fn walk<S: Sink<Stay>>(&self, books: &mut B, sink: &mut S) -> Result<(), WalkFault> {
+        books.walk_bookings(sink)
+    }
+}
+
+/// The kinds, each with its free rooms from a day on.
+#[derive(Clone, Copy)]
+pub(crate) struct Availability(pub(crate) Day, pub(crate) Nights);
+
+impl<B: Walks> WalkedList<B> for Availability {
+    type Row = FreeRow;
+
+    ghost rows = { λ list rows. availability_on rows list.0 list.1 };
+
+    ghost takes_memory = { λ _. false };
+
+    fn walk<S: Sink<FreeRow>>(&self, books: &mut B, sink: &mut S) -> Result<(), WalkFault> {
+        books.walk_availability(self.0, self.1, sink)
     }
 }

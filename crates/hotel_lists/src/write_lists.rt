@@ -1,10 +1,12 @@
-//! The five lists as text, within a call whose reads and writes are counted. The writes of a list are added to them.
+//! The lists as text, within a call whose reads and writes are counted. The writes of a list are added to them.
 ghost use Rattle.std.specs.Prelude.{◌≡◌, [], Some, is_some, Err};
 ghost use Rattle.hotel_model.specs.Refinement.Lookups.{room_at};
 ghost use Rattle.hotel_lists.specs.Calls.{CountsWrites, OnErrOf};
 ghost use Rattle.hotel_lists.specs.declared.fault.ListFault.TheVariants.{NoRoom, Write};
 ghost use Rattle.hotel_lists.specs.Listings.{ListEnds, listing, of_room, arrivals_listing, in_house_listing};
 ghost use Rattle.hotel_lists.specs.Listings.{chain_listing, left_behind_listing, audit_listing};
+ghost use Rattle.hotel_lists.specs.Listings.{business_day_listing, room_status_listing, inside_listing};
+ghost use Rattle.hotel_lists.specs.Listings.{bookings_listing, availability_listing};
 ghost use Rattle.hotel_lists.specs.RowLines.{LooksAt, FindsRoom};
 
 use crate::bytes::write_bytes;
@@ -12,14 +14,17 @@ use crate::calls::IoCalls;
 use crate::fault::ListFault;
 use crate::gathered::Gathered;
 use crate::line_sink::{LineSink, listed};
-use crate::walked_lists::{Arrivals, AuditOf, ChainOf, InHouse, LeftBehind, WalkedList};
+use crate::walked_lists::{
+    Arrivals, AuditOf, Availability, Bookings, BusinessDay, ChainOf, InHouse, Inside, LeftBehind,
+    RoomStatus, WalkedList,
+};
 use hotel_core::Walks;
-use hotel_nights::Day;
+use hotel_nights::{Day, Nights};
 use keycard_rules::{LookFault, RoomNo};
 use std::alloc::Global;
 use std::io::Write;
 
-/// The headers of the lists.
+/// The headers of the lists. Bookings have that of arrivals.
 const ARRIVALS: &[u8] = b"party,guest,kind,arrive,depart\n";
 
 const HOUSE: &[u8] = b"room,party,guest,kind,depart,secured\n";
@@ -29,6 +34,14 @@ const CHAIN: &[u8] = b"place,code,state\n";
 const BEHIND: &[u8] = b"room,held,current,awaited\n";
 
 const AUDIT: &[u8] = b"room,fit,count,kind,card,old,new,at\n";
+
+const DAY: &[u8] = b"day\n";
+
+const STATUS: &[u8] = b"room,kind,party,secured,awaited\n";
+
+const INSIDE: &[u8] = b"room,card,party\n";
+
+const FREE: &[u8] = b"kind,rooms,free\n";
 
 /// Whether the room is there, or why no list of it is written.
 fn find_room<B: Walks>(books: &mut B, room: RoomNo) -> Result<(), ListFault>
@@ -167,4 +180,95 @@ pub fn write_audit_of<B: Walks, W: Write>(
     ensures calls { CountsWrites calls.old calls.new (OnErrOf result Write) }
 {
     write_room_rows(alloc, books, room, &AuditOf(room), AUDIT, writer, calls)
+}
+
+/// Writes the business day, once it is set.
+pub fn write_business_day<B: Walks, W: Write>(
+    alloc: Global,
+    books: &mut B,
+    writer: &mut W,
+    calls: &mut IoCalls,
+) -> Result<(), ListFault>
+    ensures text { B.is_honest books.new → ListEnds [] (business_day_listing (B.rows books.old)) (W.contents writer.old)
+        (W.contents writer.new) result }
+    ensures no_room { result ≡ Err NoRoom → ⊥ }
+    ensures books { LooksAt B.Kept books.old books.new result }
+    ensures calls { CountsWrites calls.old calls.new (OnErrOf result Write) }
+{
+    write_rows(alloc, books, &BusinessDay, DAY, writer, calls)
+}
+
+/// Writes all rooms, by room: each with its registered party, whether it is secured, and how many codes its
+/// lock awaits.
+pub fn write_room_status<B: Walks, W: Write>(
+    alloc: Global,
+    books: &mut B,
+    writer: &mut W,
+    calls: &mut IoCalls,
+) -> Result<(), ListFault>
+    ensures text { B.is_honest books.new → ListEnds [] (room_status_listing (B.rows books.old)) (W.contents writer.old)
+        (W.contents writer.new) result }
+    ensures no_room { result ≡ Err NoRoom → ⊥ }
+    ensures books { LooksAt B.Kept books.old books.new result }
+    ensures calls { CountsWrites calls.old calls.new (OnErrOf result Write) }
+{
+    write_rows(alloc, books, &RoomStatus, STATUS, writer, calls)
+}
+
+/// Writes the cards inside rooms, by room and card, each with the party that it was given to.
+pub fn write_inside<B: Walks, W: Write>(
+    alloc: Global,
+    books: &mut B,
+    writer: &mut W,
+    calls: &mut IoCalls,
+) -> Result<(), ListFault>
+    ensures text { B.is_honest books.new → ListEnds [] (inside_listing (B.rows books.old)) (W.contents writer.old)
+        (W.contents writer.new) result }
+    ensures no_room { result ≡ Err NoRoom → ⊥ }
+    ensures books { LooksAt B.Kept books.old books.new result }
+    ensures calls { CountsWrites calls.old calls.new (OnErrOf result Write) }
+{
+    write_rows(alloc, books, &Inside, INSIDE, writer, calls)
+}
+
+/// Writes the booked stays, by party.
+pub fn write_bookings<B: Walks, W: Write>(
+    alloc: Global,
+    books: &mut B,
+    writer: &mut W,
+    calls: &mut IoCalls,
+) -> Result<(), ListFault>
+    ensures text { B.is_honest books.new → ListEnds [] (bookings_listing (B.rows books.old)) (W.contents writer.old)
+        (W.contents writer.new) result }
+    ensures no_room { result ≡ Err NoRoom → ⊥ }
+    ensures books { LooksAt B.Kept books.old books.new result }
+    ensures calls { CountsWrites calls.old calls.new (OnErrOf result Write) }
+{
+    write_rows(alloc, books, &Bookings, ARRIVALS, writer, calls)
+}
+
+/// Writes the kinds, in the order of their letters: each with its rooms, and with how many bookings for so many
+/// nights from the day on would be accepted one after the other.
+pub fn write_availability<B: Walks, W: Write>(
+    alloc: Global,
+    books: &mut B,
+    day: Day,
+    nights: Nights,
+    writer: &mut W,
+    calls: &mut IoCalls,
+) -> Result<(), ListFault>
+    ensures text { B.is_honest books.new → ListEnds [] (availability_listing (B.rows books.old) day nights)
+        (W.contents writer.old) (W.contents writer.new) result }
+    ensures no_room { result ≡ Err NoRoom → ⊥ }
+    ensures books { LooksAt B.Kept books.old books.new result }
+    ensures calls { CountsWrites calls.old calls.new (OnErrOf result Write) }
+{
+    write_rows(
+        alloc,
+        books,
+        &Availability(day, nights),
+        FREE,
+        writer,
+        calls,
+    )
 }

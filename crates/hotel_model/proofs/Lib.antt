@@ -8,3 +8,4 @@ pub mod SoundRows
 pub mod Lifted
 pub mod LeadsOn
 pub mod Reissued
+pub mod FreeNights

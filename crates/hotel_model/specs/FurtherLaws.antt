@@ -1,24 +1,51 @@
--- What is proved beside: what a reissue leaves as it is, where an issued code is listed, and the limits.
-use Rattle.std.specs.Prelude.{ℕ, ◌≡◌, ◌↔◌, List, ◌∷◌, ◌++◌, length, Some}
+-- What is proved beside: what a reissue leaves as it is, which bookings are kept, where an issued code is listed, and
+-- the limits.
+use Rattle.std.specs.Prelude.{ℕ, ◌≡◌, ◌≤◌, ◌<◌, ◌+◌, ◌↔◌, Bool, true, false, List, ◌∷◌, ◌++◌, length, Some}
 use Rattle.keycard_rules.specs.declared.numbers.TheConstants.{LAST_NUMBER, LAST_ROOM}
 use Rattle.hotel_nights.specs.declared.guest.TheConstants.{GUEST_BYTES}
 use Rattle.hotel_nights.specs.declared.kind.TheConstants.{KIND_BYTES}
 use Rattle.hotel_model.specs.declared.rows.CodeRow.{CodeRow}
 use Rattle.hotel_model.specs.declared.command.Command.TheVariants as command
+use Rattle.hotel_model.specs.declared.reply.Reply.{Reply}
+use Rattle.hotel_model.specs.declared.reply.Reply.TheVariants.{Refused}
+use Rattle.hotel_model.specs.declared.reply.Refusal.TheVariants.{PastArrival, PastEnd, KindFull}
 use Rattle.hotel_model.specs.Rows.{at_number}
 use Rattle.hotel_model.specs.Event.{Event}
 use Rattle.hotel_model.specs.History.{History, ◌▷◌}
 use Rattle.hotel_model.specs.Issued.{all_issued, issued}
 use Rattle.hotel_model.specs.Guests.{registered}
 use Rattle.hotel_model.specs.Stays.{stays}
+use Rattle.hotel_model.specs.Cases.{is_kind}
 use Rattle.hotel_model.specs.Answer.{answer_to}
 use Rattle.hotel_model.specs.Run.{Reached}
+use Rattle.hotel_model.specs.Lists.{free}
 
 -- After an accepted reissue each room has the party that it had, and the stays are the same.
 abbrev pub ReissuesKeep : Type 0
 ReissuesKeep = (h : History) (ahead : List ℕ) (party : ℕ) (event : Event) → Reached h
     → (answer_to h ahead (command.Reissue party)).happens ≡ Some event
     → ((r : ℕ) → registered (h ▷ event) r ≡ registered h r) × (stays (h ▷ event) ≡ stays h)
+
+-- the reply refuses a booking for its nights: they begin before the business day, or end after the calendar, or on one
+-- of them each room of the kind is taken
+abbrev pub refuses_nights : Reply → Bool
+refuses_nights (Refused PastArrival) = true
+refuses_nights (Refused PastEnd) = true
+refuses_nights (Refused (KindFull night)) = true
+refuses_nights _ = false
+
+-- A booking of a kind that is there isn't refused for its nights exactly where the kind is free for them.
+abbrev pub FreeIsKept : Type 0
+FreeIsKept = (h : History) (ahead guest kind : List ℕ) (arrive nights : ℕ) → Reached h
+    → is_kind h kind ≡ true → 1 ≤ nights
+    → (refuses_nights (answer_to h ahead (command.Reserve guest kind arrive nights)).reply ≡ false)
+    ↔ (0 < free h kind arrive nights)
+
+-- After an accepted booking the kind is free for its nights once less.
+abbrev pub BookingsTakeOne : Type 0
+BookingsTakeOne = (h : History) (ahead guest kind : List ℕ) (arrive nights : ℕ) (event : Event) → Reached h → 1 ≤ nights
+    → (answer_to h ahead (command.Reserve guest kind arrive nights)).happens ≡ Some event
+    → free h kind arrive nights ≡ free (h ▷ event) kind arrive nights + 1
 
 -- A code is listed with a room and a place exactly where it stands at this place among the codes that were issued at
 -- that room.

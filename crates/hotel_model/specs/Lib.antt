@@ -55,7 +55,7 @@ pub mod SoundFits
 pub mod Sound
 -- The histories that can be reached, the rows that stand for them, and runs of commands with their replies.
 pub mod Run
--- The rows of the five lists.
+-- The rows of the lists.
 pub mod Lists
 -- What a note moved: exactly the codes that it records.
 pub mod Moved
@@ -65,7 +65,7 @@ pub mod Headline
 pub mod Leads
 -- What is proved of the definitions: they are what they say.
 pub mod Laws
--- What is proved beside: what a reissue leaves, where an issued code is listed, and the limits.
+-- What is proved beside: what a reissue leaves, which bookings are kept, where an issued code is listed, the limits.
 pub mod FurtherLaws
 -- The code's own terms, between the rows and the model.
 pub mod Refinement

@@ -1,21 +1,26 @@
--- The rows of the five lists, read off a history.
-use Rattle.std.specs.Prelude.{ℕ, Bool, List, [], ◌∷◌, ◌++◌, Option, Some, None, ◌+◌, ◌&&◌, if◌then◌else◌, nat_le}
-use Rattle.std.specs.Prelude.{nat_lt, length, filter, filter_map}
+-- The rows of the lists, read off a history.
+use Rattle.std.specs.Prelude.{ℕ, Bool, false, List, [], ◌∷◌, ◌++◌, Option, Some, None, ◌+◌, ◌-◌, ◌&&◌, if◌then◌else◌}
+use Rattle.std.specs.Prelude.{nat_le, nat_lt, length, map, filter, filter_map, option_map}
 use Rattle.std.specs.Map.{keys_of, values_of}
+use Rattle.keycard_rules.specs.declared.note.TheConstants.{LAST_DAY}
 use Rattle.hotel_nights.specs.declared.stay.Stay.{Stay}
 use Rattle.hotel_model.specs.declared.list_rows.HouseRow.{HouseRow}
 use Rattle.hotel_model.specs.declared.list_rows.ChainRow.{ChainRow}
 use Rattle.hotel_model.specs.declared.list_rows.BehindRow.{BehindRow}
 use Rattle.hotel_model.specs.declared.list_rows.CodeState.{CodeState}
 use Rattle.hotel_model.specs.declared.list_rows.CodeState.TheVariants.{Passed, Held, Awaited}
-use Rattle.hotel_model.specs.Words.{said_of}
-use Rattle.hotel_model.specs.Rows.{at_number}
+use Rattle.hotel_model.specs.declared.list_rows.StatusRow.{StatusRow}
+use Rattle.hotel_model.specs.declared.list_rows.InsideRow.{InsideRow}
+use Rattle.hotel_model.specs.declared.list_rows.FreeRow.{FreeRow}
+use Rattle.hotel_model.specs.Words.{said_of, greatest}
+use Rattle.hotel_model.specs.Rows.{InsideKey, at_number}
 use Rattle.hotel_model.specs.History.{History}
 use Rattle.hotel_model.specs.Issued.{current}
+use Rattle.hotel_model.specs.Cards.{cards}
 use Rattle.hotel_model.specs.Lock.{held}
 use Rattle.hotel_model.specs.Ledger.{passed, awaited}
-use Rattle.hotel_model.specs.Guests.{registered, secured}
-use Rattle.hotel_model.specs.Stays.{rooms, stays, is_booked_state}
+use Rattle.hotel_model.specs.Guests.{registered, insiders, secured}
+use Rattle.hotel_model.specs.Stays.{day, kinds, rooms, stays, is_booked_state, nights, rooms_of}
 
 -- a booked stay that takes the night of a day
 abbrev pub arrives_on : ℕ → Stay → Bool
@@ -64,3 +69,56 @@ behind_row h room = if nat_le 2 (length (awaited h room)) then Some
 -- Rooms with two awaited codes or more, by room.
 abbrev pub left_behind : History → List BehindRow
 left_behind h = filter_map (behind_row h) (keys_of (rooms h))
+
+-- The business day, once it is set.
+abbrev pub business_day : History → List ℕ
+business_day h = said_of (day h) [] (λ d. d ∷ [])
+
+-- the row of a room of a kind
+abbrev pub status_row : History → ℕ → List ℕ → StatusRow
+status_row h room kind = record {
+  room = room;
+  kind = kind;
+  party = registered h room;
+  secured = secured h room;
+  awaited = length (awaited h room);
+}
+
+-- All rooms, by room.
+abbrev pub room_status : History → List StatusRow
+room_status h = map (λ e. status_row h e.0 e.1) (rooms h)
+
+-- the row of a card inside a room, with the party that it was given to
+abbrev pub inside_row : History → InsideKey → Option InsideRow
+inside_row h e = option_map
+    (λ card. let r : InsideRow = record { room = e.0; card = e.1; party = card.party } in r) (at_number (cards h) e.1)
+
+-- The cards inside rooms, by room and card.
+abbrev pub cards_inside : History → List InsideRow
+cards_inside h = filter_map (inside_row h) (insiders h)
+
+-- a booked stay: not in house, done or cancelled
+abbrev pub is_booking : Stay → Bool
+is_booking stay = is_booked_state stay.state
+
+-- Booked stays, by party.
+abbrev pub bookings : History → List Stay
+bookings h = filter is_booking (values_of (stays h))
+
+-- so many nights from a day on can be booked, if rooms are left: a business day is set, the nights begin on it or
+-- later, and the departure is in the calendar
+abbrev pub are_ahead : Option ℕ → ℕ → ℕ → Bool
+are_ahead today d n = said_of today false (λ t. nat_le t d && nat_le (d + n) LAST_DAY)
+
+-- Free: how many bookings of a kind for so many nights from a day on would be accepted, one after the other. They are
+-- the kind's rooms less the most stays, booked and in house, that take one of these nights.
+abbrev pub free : History → List ℕ → ℕ → ℕ → ℕ
+free h kind d n = if are_ahead (day h) d n then rooms_of h kind - greatest (nights h kind) d n else 0
+
+-- the row of a kind, for so many nights from a day on
+abbrev pub free_row : History → ℕ → ℕ → List ℕ → FreeRow
+free_row h d n kind = record { kind = kind; rooms = rooms_of h kind; free = free h kind d n }
+
+-- Kinds with their rooms, and what is free of them for so many nights from a day on, by kind.
+abbrev pub availability : History → ℕ → ℕ → List FreeRow
+availability h d n = map (free_row h d n) (kinds h)

@@ -7,6 +7,7 @@ pub mod AuditListComesBackWithFits
 pub mod AuditRoundTrip
 pub mod AuditTwice
 pub mod AwayAndBack
+pub mod ClerkAsks
 pub mod CodeDrawnTwice
 pub mod DeskDay
 pub mod EndOfCalendar

@@ -1,6 +1,6 @@
 //! Laws of the model, which make no call: what a caller may rest on beside the contracts of the calls.
 ghost use Rattle.hotel_model.specs.{Headline.Assured, History.History};
-ghost use Rattle.hotel_model.specs.FurtherLaws.{CodesAreListed, LimitsAre, ReissuesKeep};
+ghost use Rattle.hotel_model.specs.FurtherLaws.{BookingsTakeOne, CodesAreListed, FreeIsKept, LimitsAre, ReissuesKeep};
 ghost use Rattle.hotel_model.specs.{Laws.RunsAgree, Laws.RunsCompute, Laws.RunsJoin, Laws.RunsReach, Laws.StartsStand};
 ghost use Rattle.hotel_model.specs.{Run.Reached};
 ghost use Rattle.hotel_model.specs.{Sound.RulesAreTested, Refinement.Lift.AnswersLift, Refinement.Lift.ChangesFit};
@@ -49,6 +49,13 @@ pub fn starts_stand()
 /// An accepted reissue leaves who is registered, and the stays.
 pub fn reissues_keep()
     ensures { ReissuesKeep }
+{}
+
+/// What a kind is free of for some nights is what bookings are accepted: one is refused for its nights exactly where
+/// none is free, and after an accepted one one less is.
+pub fn free_is_kept()
+    ensures kept { FreeIsKept }
+    ensures one_less { BookingsTakeOne }
 {}
 
 /// The list of all issued codes has each code of each room, at its place, and no other: what fresh means is read off

@@ -1,5 +1,6 @@
 //! The model of the desk: the types of commands, replies, changes and rows, their laws, and the computed scenes. Of
-//! code it has `CodeState::at`, the rows of a new room, and the texts of refusals. docs/MODEL.md says how to read it.
+//! code it has `CodeState::at`, `StatusRow::of_room`, the rows of a new room, and the texts of refusals. docs/MODEL.md
+//! says how to read it.
 //!
 //! - src: command, reply, change, rows and list_rows are the types; laws and scenes are functions with an empty body.
 //! - specs: the model, in the reading order of Lib.antt. Refinement is the code's own terms, between the rows and the
@@ -21,8 +22,9 @@ mod scenes;
 pub use change::{Change, InsideMove};
 pub use command::Command;
 pub use laws::{
-    answers_lift, assured, changes_fit, rules_are_tested, runs_compute, runs_join, starts_stand,
+    answers_lift, assured, changes_fit, free_is_kept, rules_are_tested, runs_compute, runs_join,
+    starts_stand,
 };
-pub use list_rows::{BehindRow, ChainRow, CodeState, HouseRow};
+pub use list_rows::{BehindRow, ChainRow, CodeState, FreeRow, HouseRow, InsideRow, StatusRow};
 pub use reply::{Refusal, Reply};
 pub use rows::{CodeRow, FitRow, NextNumbers, RoomRow};

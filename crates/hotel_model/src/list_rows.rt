@@ -1,9 +1,10 @@
 //! The rows of the lists.
 ghost use Rattle.std.specs.Prelude.{◌≡◌};
-ghost use Rattle.hotel_model.specs.Refinement.ListsOnRows.{state_at};
+ghost use Rattle.hotel_model.specs.Refinement.ListsOnRows.{state_at, status_row_on};
 
+use crate::rows::RoomRow;
 use hotel_nights::{Day, Guest, KindCode};
-use keycard_rules::{Code, PartyNo, RoomNo};
+use keycard_rules::{CardNo, Code, PartyNo, RoomNo};
 
 /// A room in which a party is registered, with the party's stay.
 #[derive(Debug, Drop)]
@@ -62,4 +63,51 @@ pub struct BehindRow {
     pub current: Code,
     /// How many codes the lock has not taken yet.
     pub awaited: u32,
+}
+
+/// A room as it stands now.
+#[derive(Clone, Copy, PartialEq, Eq, Debug)]
+pub struct StatusRow {
+    pub room: RoomNo,
+    pub kind: KindCode,
+    /// The party that is registered at the room.
+    pub party: Option<PartyNo>,
+    /// Whether, since the last issue at the room, a card with the current code entered while no card was inside.
+    pub secured: bool,
+    /// How many codes the lock has not taken yet.
+    pub awaited: u32,
+}
+
+impl StatusRow {
+    /// How a room stands, by its row in the books.
+    pub fn of_room(row: &RoomRow) -> StatusRow
+        ensures { result ≡ status_row_on row.now }
+    {
+        StatusRow {
+            room: row.room,
+            kind: row.kind,
+            party: row.party,
+            secured: row.secured,
+            awaited: row.codes.saturating_sub(row.lock_place).saturating_sub(1),
+        }
+    }
+}
+
+/// A card that is inside a room.
+#[derive(Clone, Copy, PartialEq, Eq, Debug)]
+pub struct InsideRow {
+    pub room: RoomNo,
+    pub card: CardNo,
+    /// The party that the card was given to.
+    pub party: PartyNo,
+}
+
+/// A kind, and what is left of it for some nights.
+#[derive(Clone, Copy, PartialEq, Eq, Debug)]
+pub struct FreeRow {
+    pub kind: KindCode,
+    /// How many rooms the kind has.
+    pub rooms: u32,
+    /// How many bookings for these nights would be accepted, one after the other.
+    pub free: u32,
 }

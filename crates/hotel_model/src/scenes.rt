@@ -24,6 +24,7 @@ ghost use Rattle.hotel_model.specs.Scenes.EndOfCalendar as scene_end_of_calendar
 ghost use Rattle.hotel_model.specs.Scenes.EndOfCalendarLastDay as scene_end_of_calendar_last_day;
 ghost use Rattle.hotel_model.specs.Scenes.DeskDay as scene_desk_day;
 ghost use Rattle.hotel_model.specs.Scenes.NoteRefusals as scene_note_refusals;
+ghost use Rattle.hotel_model.specs.Scenes.ClerkAsks as scene_clerk_asks;
 ghost use Rattle.hotel_model.specs.Scenes.SoundStart as scene_sound_start;
 ghost use Rattle.hotel_model.specs.Scenes.TwoRefusals as scene_two_refusals;
 ghost use Rattle.hotel_model.specs.Scenes.RefusalsOfFits as scene_refusals_of_fits;
@@ -59,6 +60,7 @@ pub fn scenarios()
     ensures end_of_calendar_last_day { scene_end_of_calendar_last_day.TheScene }
     ensures desk_day { scene_desk_day.TheScene }
     ensures note_refusals { scene_note_refusals.TheScene }
+    ensures clerk_asks { scene_clerk_asks.TheScene }
     ensures sound_start { scene_sound_start.TheScene }
 {}
 

@@ -2,7 +2,6 @@
 use Rattle.std.proofs.Common.{◌≡◌, ℕ, Bool, List, [], ◌∷◌, ◌++◌, refl, sym, ap, subst}
 use Rattle.std.proofs.Common.{Option, Some, None, Result, Ok, Err, true, false, inl, inr}
 use Rattle.std.specs.declared.io.Error.{Error}
-use Rattle.std.proofs.lemmas.Grind.{flat_map-append}
 use Rattle.rand_core.specs.Stream.{Stream}
 use Rattle.keycard_rules.specs.{declared.kept.Kept.Ghosts as KeptOf, Leaves.Leaves, Calls.Passes}
 use Rattle.keycard_rules.proofs.CallsTogether.{passes_join, together}
@@ -12,16 +11,15 @@ use Rattle.hotel_core.specs.Books.Happens.{Happens}
 use Rattle.hotel_model.specs.Rows.{Rows}
 use Rattle.hotel_core.specs.Books.Happens.{HappensBy}
 use Rattle.hotel_http.specs.Serve.{Answered, Comes, Serves}
+use Rattle.hotel_http.specs.declared.origins.Origins.TheVariants.{Local}
 use Rattle.hotel_http.specs.declared.serve.Served.{Served}
 use Rattle.hotel_http.specs.declared.serve.ServeFault.{ServeFault}
 use Rattle.hotel_http.specs.declared.serve.ServeFault.TheVariants.{Closed, Read, Memory, Write}
 use Rattle.hotel_http.specs.{Body.interim_where, Serve.ServesOver, Serve.served_in}
-use Rattle.hotel_program.specs.Faults.{ReportsAll}
 use Rattle.hotel_program.specs.Connections.{AllCame, AskedEnds, ConnectionCame, ConnectionEnd, ConnectionHappens}
-use Rattle.hotel_program.specs.Connections.{Connects, LimitedEnds, ReadsBehind, ServersFollow, Sockets}
+use Rattle.hotel_program.specs.Connections.{ConnectsAndTells, LimitedEnds, ReadsBehind, ServersFollow, Sockets}
 use Rattle.hotel_program.specs.declared.listener.Caller.{Ghosts as CallerOf}
 use Rattle.hotel_program.specs.Timed.{Reads}
-use Rattle.hotel_program.specs.Connections.{connection_end, faults_at, faults_of}
 use Rattle.hotel_program.specs.declared.faults.Fault.{Fault}
 
 module _ {S R : Type 0} (K : KeptOf S) (rows : S → Rows) (stream : R → Stream) where
@@ -46,7 +44,7 @@ module _ {S R : Type 0} (K : KeptOf S) (rows : S → Rows) (stream : R → Strea
   -- A request was served: where it wasn't begun, books and source are as they were.
   pub request_served : (old new : S × R) (before : Bool → List ℕ) (known left text text' : Option (List ℕ))
       (result : Result Served ServeFault)
-      → Serves known left text text' ((new.0 ≡ old.0) × (new.1 ≡ old.1))
+      → Serves Local known left text text' ((new.0 ≡ old.0) × (new.1 ≡ old.1))
       (λ wanted awaited end. HappensBy K rows old.0
       (Answered (Comes wanted) (stream old.1) (stream new.1) (before awaited) text text' end) new.0) result
       → ConnectionHappens K rows stream old (Some result) new
@@ -70,19 +68,20 @@ module _ {S R : Type 0} (K : KeptOf S) (rows : S → Rows) (stream : R → Strea
       idle_served (Some (Err Memory)) old new (λ h s. (refl, refl, refl)) went.0.0 went.0.1
 
   pub stream_served : (old new : S × R) (known left text text' : Option (List ℕ)) (end : Result Served ServeFault)
-      → ServesOver K rows stream known left text text' old new end → ConnectionHappens K rows stream old (Some end) new
+      → ServesOver Local K rows stream known left text text' old new end
+      → ConnectionHappens K rows stream old (Some end) new
   stream_served old new known left text text' end served =
       request_served old new interim_where known left text text' end served
 
   -- the same bytes
   pub same_served : {a a' b b' c c' d d' : Option (List ℕ)} (old new : S × R) (end : Result Served ServeFault)
-      → a ≡ a' → b ≡ b' → c ≡ c' → d ≡ d' → ServesOver K rows stream a b c d old new end
-      → ServesOver K rows stream a' b' c' d' old new end
+      → a ≡ a' → b ≡ b' → c ≡ c' → d ≡ d' → ServesOver Local K rows stream a b c d old new end
+      → ServesOver Local K rows stream a' b' c' d' old new end
   same_served {a = a} {b = b} {b' = b'} {c = c} {c' = c'} {d' = d'} old new end e f g h served =
-      subst (λ (o : Option (List ℕ)). ServesOver K rows stream o b' c' d' old new end) e
-      (subst (λ (o : Option (List ℕ)). ServesOver K rows stream a o c' d' old new end) f
-      (subst (λ (o : Option (List ℕ)). ServesOver K rows stream a b o d' old new end) g
-      (subst (λ (o : Option (List ℕ)). ServesOver K rows stream a b c o old new end) h served)))
+      subst (λ (o : Option (List ℕ)). ServesOver Local K rows stream o b' c' d' old new end) e
+      (subst (λ (o : Option (List ℕ)). ServesOver Local K rows stream a o c' d' old new end) f
+      (subst (λ (o : Option (List ℕ)). ServesOver Local K rows stream a b o d' old new end) g
+      (subst (λ (o : Option (List ℕ)). ServesOver Local K rows stream a b c o old new end) h served)))
 
   -- connections that were served one after the other
   all_went : (old new : S × R) (ends : List ConnectionEnd) → Passes (ConnectionHappens K rows stream) old ends new
@@ -134,14 +133,15 @@ module _ {S R : Type 0} (v : Sockets) (K : KeptOf S) (rows : S → Rows) (words 
       limited_happened stream ends.6 ends.7 ends.8 old new end ends.10
   asked_happened (Err why) mid listener old new end ends = none_happened end old new ends.1 ends.2 ends.3
 
-  -- what came of connections, apart from their listener
-  pub all_happened : (old new : v.Listener × (S × R)) (ends : List ConnectionEnd)
-      → Passes (Connects v K rows words) old ends new → Passes (ConnectionHappens K rows words) old.1 ends new.1
-  all_happened old new [] p = ap (λ (x : v.Listener × (S × R)). x.1) p
-  all_happened old new (end ∷ ends) p = (
-    p.0.1,
-    asked_happened p.1.0 p.1.1 p.0.0 old.1 p.0.1 end p.1.3,
-    all_happened p.0 new ends p.2,
+  -- what came of connections, apart from their listener and the reports of their faults
+  pub all_happened : {F : Type 0} (tells : F → Fault → F → Type 0) (old new : (v.Listener × (S × R)) × F)
+      (ends : List ConnectionEnd) → Passes (ConnectsAndTells v K rows words tells) old ends new
+      → Passes (ConnectionHappens K rows words) old.0.1 ends new.0.1
+  all_happened {F = F} tells old new [] p = ap (λ (x : (v.Listener × (S × R)) × F). x.0.1) p
+  all_happened tells old new (end ∷ ends) p = (
+    p.0.0.1,
+    asked_happened p.1.0.0 p.1.0.1 p.0.0.0 old.0.1 p.0.0.1 end p.1.0.3,
+    all_happened tells p.0 new ends p.2,
   )
 
 module _ {S L : Type 0} (calls : CallerOf L S) where
@@ -156,19 +156,3 @@ module _ {S L : Type 0} (calls : CallerOf L S) where
       → ReadsBehind calls stream follows read new
   none_behind stream follows read new e same =
       subst (λ (b : Bool). ReadsBehind calls stream b read new) (sym e) same
-
--- faults and then others
-told_both : {F : Type 0} (told : F → Fault → F → Type 0) (first more : List Fault) (old mid new : F)
-    → ReportsAll told old first mid → ReportsAll told mid more new → ReportsAll told old (first ++ more) new
-told_both {F} told [] more old mid new came next = subst (λ (x : F). ReportsAll told x more new) came next
-told_both told (fault ∷ first) more old mid new came next =
-    (came.0, came.1, told_both told first more came.0 mid new came.2 next)
-
--- The faults of connections and then of others.
-pub then_told : {F : Type 0} (told : F → Fault → F → Type 0) (first more : List ConnectionEnd) (old mid new : F)
-    → ReportsAll told old (faults_of first) mid → ReportsAll told mid (faults_of more) new
-    → ReportsAll told old (faults_of (first ++ more)) new
-then_told told first more old mid new came next =
-    subst (λ (faults : List Fault). ReportsAll told old faults new)
-    (sym (flat_map-append (λ (end : ConnectionEnd). faults_at (connection_end end)) first more))
-    (told_both told (faults_of first) (faults_of more) old mid new came next)

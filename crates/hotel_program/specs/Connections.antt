@@ -1,12 +1,12 @@
 -- Connections that are answered one after the other.
 use Rattle.std.specs.Prelude.{◌≡◌, ◌⊎◌, ℕ, Bool, true, false, List, [], ◌∷◌, ◌++◌, length, Option, Some, None, Result}
 use Rattle.std.specs.Prelude.{Ok, Err, IfOk, IfSome}
-use Rattle.std.specs.List.{flat_map}
 use Rattle.std.specs.declared.io.Error.{Error}
 use Rattle.rand_core.specs.Stream.{Stream}
 use Rattle.keycard_rules.specs.{declared.kept.Kept.Ghosts as KeptOf, Calls.LeaveAll, Calls.Passes}
 use Rattle.hotel_model.specs.History.{History}
 use Rattle.hotel_model.specs.Rows.{Rows}
+use Rattle.hotel_http.specs.declared.origins.Origins.TheVariants.{Local}
 use Rattle.hotel_http.specs.declared.serve.Served.{Served}
 use Rattle.hotel_http.specs.declared.serve.ServeFault.{ServeFault}
 use Rattle.hotel_http.specs.declared.serve.ServeFault.TheVariants as serve
@@ -103,10 +103,10 @@ pub record Serves {S L B R : Type 0} (calls : CallerOf L S) (K : KeptOf B) (rows
   pub left : ℕ
   pub reads_in_time : ∥ ((readings : List Reading) × AreRead calls stream reads readings read) ∥₁
   pub writes_in_time : ∥ ((writings : List Writing) × AreWritten calls stream writes writings (writes', left)) ∥₁
-  pub serves : ServesOver K rows words (calls.remaining stream reads) (calls.remaining stream read.caller)
+  pub serves : ServesOver Local K rows words (calls.remaining stream reads) (calls.remaining stream read.caller)
       (calls.contents stream writes) (calls.contents stream writes') old new (served_in end)
-  pub wanted : ReadsWhile WantsMore (calls.remaining stream reads) (calls.remaining stream read.caller)
-  pub follows : IfOk end (λ done. IfSome (calls.remaining stream reads) (λ input. MayFollow input done.follows))
+  pub wanted : ReadsWhile (WantsMore Local) (calls.remaining stream reads) (calls.remaining stream read.caller)
+  pub follows : IfOk end (λ done. IfSome (calls.remaining stream reads) (λ input. MayFollow Local input done.follows))
   pub behind : ReadsBehind calls stream (follows_in end) read reads'
 
 -- The limits of a connection were asked for, of both callers, and this is whether both were set.
@@ -169,18 +169,19 @@ abbrev pub faults_at : Result (Unit {0}) Fault → List Fault
 faults_at (Ok done) = []
 faults_at (Err fault) = fault ∷ []
 
--- The faults that are reported of connections that ended so.
-abbrev pub faults_of : List ConnectionEnd → List Fault
-faults_of ends = flat_map (λ end. faults_at (connection_end end)) ends
+-- A connection was asked for, and ended so; and then its fault was reported, if there was one.
+abbrev pub ConnectsAndTells : {B R F : Type 0} → (v : Sockets) → KeptOf B → (B → Rows) → (R → Stream)
+    → (F → Fault → F → Type 0) → (v.Listener × (B × R)) × F → ConnectionEnd → (v.Listener × (B × R)) × F → Type 0
+ConnectsAndTells v K rows words tells old end new =
+    Connects v K rows words old.0 end new.0 × ReportsAll tells old.1 (faults_at (connection_end end)) new.1
 
--- So many connections were asked for, one after the other, and the faults of their ends were reported. What came of
--- their requests came over the books as over their histories.
+-- So many connections were asked for, one after the other, and the fault of each was reported before the next. What
+-- came of their requests came over the books as over their histories.
 pub record ServesEach {B R F : Type 0} (v : Sockets) (K : KeptOf B) (rows : B → Rows) (words : R → Stream)
     (tells : F → Fault → F → Type 0) (count : ℕ) (listener : v.Listener) (old : B × R) (faults : F) (new : B × R)
     (faults' : F) : Type 0 where
   pub ends : List ConnectionEnd
   pub last : v.Listener
   pub all : length ends ≡ count
-  pub told : ReportsAll tells faults (faults_of ends) faults'
-  pub connects : Passes (Connects v K rows words) (listener, old) ends (last, new)
+  pub connects : Passes (ConnectsAndTells v K rows words tells) ((listener, old), faults) ends ((last, new), faults')
   pub happened : Passes (ConnectionHappens K rows words) old ends new

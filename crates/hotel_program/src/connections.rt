@@ -7,18 +7,18 @@ ghost use Rattle.hotel_lists.specs.Calls.{CountsCalls, NoneForgotten, OnErrOf};
 ghost use Rattle.hotel_lists.specs.Reads.{ReadsWhile};
 ghost use Rattle.hotel_http.specs.{Request.MayFollow, Request.WantsMore};
 ghost use Rattle.hotel_http.specs.Serve.{IfUnwritten, ServesOver, served_in};
+ghost use Rattle.hotel_http.specs.declared.origins.Origins.TheVariants.{Local};
 ghost use Rattle.hotel_http.specs.declared.serve.ServeFault.TheVariants as serve;
-ghost use Rattle.hotel_program.specs.Faults.{ReportsAll};
 ghost use Rattle.hotel_program.specs.declared.faults.Fault.TheVariants.{Read, Write};
-ghost use Rattle.hotel_program.specs.Connections.{ConnectionEnd, Connects, Serves, ServesEach, TakenEnds};
-ghost use Rattle.hotel_program.specs.Connections.{connection_end, connection_fault, faults_of, follows_in, sockets};
+ghost use Rattle.hotel_program.specs.Connections.{ConnectionEnd, Connects, ConnectsAndTells, Serves, ServesEach};
+ghost use Rattle.hotel_program.specs.Connections.{TakenEnds, connection_end, connection_fault, follows_in, sockets};
 
 use crate::faults::{Fault, FaultSink};
 use crate::listener::{Caller, Listener};
 use crate::statuses::DONE;
 use crate::timed::{Begun, TimedReader, TimedWriter, set_limits};
 use hotel_core::Walks;
-use hotel_http::{Exchange, Routes, ServeFault, make_routes, serve_by};
+use hotel_http::{Exchange, Origins, Routes, ServeFault, Service, make_routes, serve_by};
 use hotel_lists::IoCalls;
 use rand_core::Rng;
 use std::alloc::Global;
@@ -42,8 +42,18 @@ fn fault_of(why: ServeFault) -> Fault
     }
 }
 
-/// Answers the request of a connection, by the table of routes that was made for all connections. Where it wasn't made,
-/// the request makes its own. The reads and writes are added to the connection's.
+/// What the program's server answers: what no web page sent.
+fn local(routes: &Routes) -> Service<'_>
+    ensures { result.origins ≡ Local }
+{
+    Service {
+        origins: Origins::Local,
+        routes,
+    }
+}
+
+/// Answers the request of a connection, if no web page sent it, by the table of routes that was made for all
+/// connections. Where it wasn't made, the request makes its own. The reads and writes are added to the connection's.
 fn serve_stream<I: Read, W: Write, B: Walks, R: Rng>(
     alloc: Global,
     routes: Option<&Routes>,
@@ -53,17 +63,24 @@ fn serve_stream<I: Read, W: Write, B: Walks, R: Rng>(
     source: &mut R,
     calls: &mut IoCalls,
 ) -> Result<Exchange, ServeFault>
-    ensures serves { ServesOver B.Kept B.rows R.stream (I.remaining reader.old) (I.remaining reader.new)
+    ensures serves { ServesOver Local B.Kept B.rows R.stream (I.remaining reader.old) (I.remaining reader.new)
         (W.contents writer.old) (W.contents writer.new)
         (books.old, source.old) (books.new, source.new) (served_in result) }
-    ensures follows { IfOk result (λ done. IfSome (I.remaining reader.old) (λ input. MayFollow input done.follows)) }
-    ensures wanted { ReadsWhile WantsMore (I.remaining reader.old) (I.remaining reader.new) }
+    ensures follows { IfOk result
+        (λ done. IfSome (I.remaining reader.old) (λ input. MayFollow Local input done.follows)) }
+    ensures wanted { ReadsWhile (WantsMore Local) (I.remaining reader.old) (I.remaining reader.new) }
     ensures calls { CountsCalls calls.old calls.new (OnErrOf result serve.Read) (IfUnwritten (served_in result)) }
 {
     match routes {
-        Some(routes) => serve_by(alloc, routes, reader, writer, books, source, calls),
+        Some(routes) => {
+            let service = local(routes);
+            serve_by(alloc, service, reader, writer, books, source, calls)
+        }
         None => match make_routes(alloc) {
-            Ok(routes) => serve_by(alloc, &routes, reader, writer, books, source, calls),
+            Ok(routes) => {
+                let service = local(&routes);
+                serve_by(alloc, service, reader, writer, books, source, calls)
+            }
             Err(_) => Err(ServeFault::Memory),
         },
     }
@@ -191,9 +208,9 @@ fn serve_and_tell<L: Listener, B: Walks, R: Rng, F: FaultSink>(
     faults: &mut F,
     calls: &mut IoCalls,
 )
-    ensures ends { (end : ConnectionEnd) × ReportsAll F.told faults.old (faults_of (end ∷ [])) faults.new
-        × Connects (sockets L.Listener L.Caller.Caller) B.Kept B.rows R.stream
-        (listener.old, (books.old, source.old)) end (listener.new, (books.new, source.new)) }
+    ensures ends { (end : ConnectionEnd) × ConnectsAndTells (sockets L.Listener L.Caller.Caller) B.Kept B.rows R.stream
+        F.told ((listener.old, (books.old, source.old)), faults.old) end
+        ((listener.new, (books.new, source.new)), faults.new) }
     ensures calls { NoneForgotten calls.old calls.new }
 {
     let mut its_calls = IoCalls::none();
@@ -203,11 +220,12 @@ fn serve_and_tell<L: Listener, B: Walks, R: Rng, F: FaultSink>(
     }
 }
 
-/// Takes so many connections, one after the other, and answers the request of each. A connection that fails is reported
-/// as a fault, and the next one is taken; behind one that couldn't be taken, after a tenth of a second. A connection
-/// has a second for its first byte, ten in all for its request's other bytes and ten for its answer's, whatever pieces
-/// come in; then its peer is given up. The table of routes is made once, before the first connection; where memory for
-/// it ran out, each request makes its own. It answers 0.
+/// Takes so many connections, one after the other, and answers the request of each; what a web page sends is refused
+/// (`Origins::Local`). A connection that fails is reported as a fault, and then the next one is taken; behind one that
+/// couldn't be taken, after a tenth of a second. A connection has a second for its first byte, ten in all for its
+/// request's other bytes and ten for its answer's, whatever pieces come in; then its peer is given up. The table of
+/// routes is made once, before the first connection; where memory for it ran out, each request makes its own. It
+/// answers 0.
 pub fn serve_connections<L: Listener + Drop, B: Walks, R: Rng, F: FaultSink>(
     alloc: Global,
     listener: L,

@@ -6,3 +6,6 @@ pub mod Chain
 pub mod Joined
 pub mod House
 pub mod Behind
+pub mod Status
+pub mod Insiders
+pub mod Kinds

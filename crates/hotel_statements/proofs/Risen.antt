@@ -2,7 +2,8 @@
 use Rattle.std.proofs.Common.{◌≡◌, List, [], ◌∷◌, Less, Ordering, nat_cmp}
 use Rattle.std.specs.List.{AllByRecursion}
 use Rattle.std.specs.Map.{keys_of}
-use Rattle.std.proofs.lemmas.Cmp.{nat_cmp_total}
+use Rattle.std.specs.Cmp.Lexicographic.{slice_cmp}
+use Rattle.std.proofs.lemmas.Cmp.{nat_cmp_total, nat_list_cmp_total}
 use Rattle.sqlite.specs.Tree.{Trees, IsAscending}
 use Rattle.hotel_model.specs.Words.{pair_cmp}
 use Rattle.hotel_model.proofs.OfTables.Pairs.{pair_cmp_total}
@@ -22,6 +23,15 @@ stays_rise db t = sort_rises (by_key nat_cmp) (key_total nat_cmp_total) _ t.stay
 
 pub codes_rise : (db : Trees) → AreTables db → IsAscending (λ a b. by_key nat_cmp a b ≡ Less) (rows_in db).codes
 codes_rise db t = sort_rises (by_key nat_cmp) (key_total nat_cmp_total) _ t.code.apart
+
+pub cards_rise : (db : Trees) → AreTables db → IsAscending (λ a b. by_key nat_cmp a b ≡ Less) (rows_in db).cards
+cards_rise db t = sort_rises (by_key nat_cmp) (key_total nat_cmp_total) _ t.card.apart
+
+pub insides_rise : (db : Trees) → AreTables db → IsAscending (λ a b. pair_cmp a b ≡ Less) (rows_in db).inside
+insides_rise db t = sort_rises pair_cmp pair_cmp_total _ t.inside.apart
+
+pub kinds_rise : (db : Trees) → AreTables db → IsAscending (λ a b. slice_cmp nat_cmp a b ≡ Less) (rows_in db).kinds
+kinds_rise db t = sort_rises (slice_cmp nat_cmp) nat_list_cmp_total _ t.kind.apart
 
 pub notes_rise : (db : Trees) → AreTables db → IsAscending (λ a b. by_key pair_cmp a b ≡ Less) (bare_notes_in db)
 notes_rise db t = sort_rises (by_key pair_cmp) (key_total pair_cmp_total) _ t.note.apart

@@ -16,7 +16,7 @@ use Rattle.sqlite.specs.Effect.{Database}
 use Rattle.sqlite.specs.Held.{Held, state}
 use Rattle.sqlite.specs.Given.{HasGiven, HasBegun, Advances, FailsToAdvance}
 use Rattle.sqlite.specs.Next.{HasMoved}
-use Rattle.sqlite.specs.State.{State, HasCleanDisk, IsUnchanged, Fails, Survives, CommitsShowing, Shown, Begins}
+use Rattle.sqlite.specs.State.{State, HasCleanDisk, IsUnchanged, Survives, CommitsShowing, Shown, Begins}
 use Rattle.sqlite.specs.State.{FailsToQuery}
 use Rattle.sqlite.specs.declared.error.Error.{Error}
 use Rattle.sqlite.specs.declared.rows.stream.Rows.{Rows}

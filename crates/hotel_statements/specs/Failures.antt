@@ -16,7 +16,7 @@ use Rattle.hotel_statements.specs.Tables.{fits_in, bare_rooms_in, bare_notes_in}
 use Rattle.hotel_statements.specs.Books.{IsKept}
 use Rattle.hotel_statements.specs.Readable.{IsNumber, IsCode, IsDay, IsKind, OrNull, FirstColumnIs}
 use Rattle.hotel_statements.specs.Readable.{IsStay, IsCodeRow, IsCard, IsFit, IsRoom, IsNote, IsUnderFits}
-use Rattle.hotel_statements.specs.Readable.{IsInHouse, IsOfChain, IsBehind}
+use Rattle.hotel_statements.specs.Readable.{IsInHouse, IsOfChain, IsBehind, IsOfStatus, IsOfInside}
 use Rattle.hotel_statements.specs.Columns.{note_row_of}
 use Rattle.hotel_statements.specs.Walks.{WalkFails}
 use Rattle.sqlite.specs.Order.{Row}
@@ -111,6 +111,19 @@ InHouseFails = WalkFails IsInHouse text.walk_in_house []
 
 abbrev pub LeftBehindFails : State → State → Type 0
 LeftBehindFails = WalkFails IsBehind text.walk_left_behind []
+
+abbrev pub RoomStatusFails : State → State → Type 0
+RoomStatusFails = WalkFails IsOfStatus text.walk_room_status []
+
+abbrev pub CardsInsideFail : State → State → Type 0
+CardsInsideFail = WalkFails IsOfInside text.walk_inside []
+
+abbrev pub BookingsFail : State → State → Type 0
+BookingsFail = WalkFails IsStay text.walk_bookings []
+
+-- for the business day, and then over the kinds
+abbrev pub AvailabilityFails : State → State → Type 0
+AvailabilityFails old new = DayFails old new ⊎ WalkFails (FirstColumnIs IsKind) text.read_kind [] old new
 
 abbrev pub ChainFails : ℕ → State → State → Type 0
 ChainFails room old new = BareRoomFails room old new ⊎ WalkFails IsOfChain text.walk_chain (int room ∷ []) old new

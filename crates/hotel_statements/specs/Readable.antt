@@ -108,6 +108,14 @@ abbrev pub IsBehind : Row → Type 0
 IsBehind r = (5 ≤ length r) × IsNumber LAST_ROOM (column r 0) × IsCode (column r 1) × IsCode (column r 2)
     × IsCount (column r 3) × IsCount (column r 4)
 
+abbrev pub IsOfStatus : Row → Type 0
+IsOfStatus r = (6 ≤ length r) × IsNumber LAST_ROOM (column r 0) × IsKind (column r 1)
+    × OrNull (IsNumber LAST_NUMBER) (column r 2) × IsCount (column r 3) × IsCount (column r 4) × IsBit (column r 5)
+
+abbrev pub IsOfInside : Row → Type 0
+IsOfInside r = (3 ≤ length r) × IsNumber LAST_ROOM (column r 0) × IsNumber LAST_NUMBER (column r 1)
+    × IsNumber LAST_NUMBER (column r 2)
+
 -- a note of this number and time is one of a room with these fits
 abbrev pub IsUnderFits : List FitRow → Note → Type 0
 IsUnderFits fits note =

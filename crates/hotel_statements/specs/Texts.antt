@@ -1,4 +1,4 @@
--- The texts of the statements, each of one table but for those of two walks.
+-- The texts of the statements, each of one table but for those of three walks.
 use Rattle.std.specs.Prelude.{List, ℕ}
 use Rattle.hotel_statements.specs.declared.texts.TheConstants as constant
 
@@ -31,7 +31,8 @@ create_note = constant.CREATE_NOTE.now
 abbrev pub create_fit : List ℕ
 create_fit = constant.CREATE_FIT.now
 
--- ---- the indexes: by the first two the rows that refer to a changed one are looked for, by the third the arrivals
+-- ---- the indexes: by the first two the rows that refer to a changed one are looked for, by the third arrivals and
+-- bookings
 
 abbrev pub create_stay_room : List ℕ
 create_stay_room = constant.CREATE_STAY_ROOM.now
@@ -166,6 +167,15 @@ walk_in_house = constant.WALK_IN_HOUSE.now
 
 abbrev pub walk_left_behind : List ℕ
 walk_left_behind = constant.WALK_LEFT_BEHIND.now
+
+abbrev pub walk_room_status : List ℕ
+walk_room_status = constant.WALK_ROOM_STATUS.now
+
+abbrev pub walk_inside : List ℕ
+walk_inside = constant.WALK_INSIDE.now
+
+abbrev pub walk_bookings : List ℕ
+walk_bookings = constant.WALK_BOOKINGS.now
 
 -- ---- whole tables
 

@@ -1,5 +1,7 @@
 -- What the walks promise over a connection, and what the rows say that their statements show.
-use Rattle.std.specs.Prelude.{◌≡◌, ◌⊎◌, ◌≤◌, ◌-◌, ◌==◌, ℕ, List, [], length, Some, None, Result, Ok, Err, IsTrue}
+use Rattle.std.specs.Prelude.{◌≡◌, ◌⊎◌, ◌≤◌, ◌-◌, ◌==◌, ℕ, List, [], length, Option, Some, None, Result, Ok, Err}
+use Rattle.std.specs.Prelude.{IsTrue}
+use Rattle.std.specs.Map.{values_of}
 use Rattle.sqlite.specs.Order.{Row, column}
 use Rattle.sqlite.specs.Query.{Query, IsAnswer}
 use Rattle.sqlite.specs.Program.{overlay}
@@ -13,11 +15,15 @@ use Rattle.hotel_core.specs.declared.books.walks.WalkFault.TheVariants as why
 use Rattle.hotel_model.specs.declared.list_rows.HouseRow.{HouseRow}
 use Rattle.hotel_model.specs.declared.list_rows.ChainRow.{ChainRow}
 use Rattle.hotel_model.specs.declared.list_rows.BehindRow.{BehindRow}
+use Rattle.hotel_model.specs.declared.list_rows.StatusRow.{StatusRow}
+use Rattle.hotel_model.specs.declared.list_rows.InsideRow.{InsideRow}
+use Rattle.hotel_model.specs.declared.list_rows.FreeRow.{FreeRow}
 use Rattle.hotel_core.specs.Books.Walks.{Hands, failure_of}
-use Rattle.hotel_model.specs.Rows.{Rows}
+use Rattle.hotel_core.specs.{KindRooms.rooms_in, NightIndex.CountsNights, FreeRows.free_row_by}
+use Rattle.hotel_model.specs.Rows.{Rows, rooms_of_kind}
 use Rattle.hotel_model.specs.Refinement.ListsOnRows.{state_at}
 use Rattle.hotel_statements.specs.declared.walk.TheConstants.{MOST_ROWS}
-use Rattle.hotel_statements.specs.Values.{number_of, text_of}
+use Rattle.hotel_statements.specs.Values.{number_of, option_of, text_of}
 use Rattle.hotel_rows.specs.Joined.{with_count, fit_of_number}
 use Rattle.hotel_statements.specs.Columns.{note_row_of}
 use Rattle.hotel_statements.specs.Tables.{rows_in}
@@ -65,6 +71,11 @@ abbrev pub WalksList : {S R : Type 0} → (State → State → Type 0) → (S �
 WalksList Fails after after_stop list old new sink end result =
     WalksRows Fails after after_stop (list (rows_in old.now.trees)) old new sink end result
 
+-- Counts that stand beside the tables are those of the rows: the rooms of each kind, and the stays that take a night.
+pub record AreCounted (kinds : List (List ℕ × ℕ)) (nights : List ((List ℕ × ℕ) × List ℕ)) (rows : Rows) : Type 0 where
+  pub rooms : (kind : List ℕ) → rooms_in kinds kind ≡ rooms_of_kind rows.rooms kind
+  pub stays : CountsNights nights (values_of rows.stays)
+
 -- ---- what rows of columns say
 
 abbrev pub house_row_of : Row → HouseRow
@@ -94,6 +105,25 @@ behind_row_of v = record {
   current = number_of (column v 2);
   awaited = number_of (column v 4) - number_of (column v 3) - 1;
 }
+
+-- a room with its party, and with the place of the lock and how many codes it has
+abbrev pub status_row_of : Row → StatusRow
+status_row_of v = record {
+  room = number_of (column v 0);
+  kind = text_of (column v 1);
+  party = option_of (column v 2);
+  secured = number_of (column v 5) == 1;
+  awaited = number_of (column v 4) - number_of (column v 3) - 1;
+}
+
+-- a card inside a room, and its party
+abbrev pub inside_row_of : Row → InsideRow
+inside_row_of v =
+    record { room = number_of (column v 0); card = number_of (column v 1); party = number_of (column v 2) }
+
+-- a kind with what is free of it by these counts, on a business day, for so many nights from a day on
+abbrev pub free_row_of : List (List ℕ × ℕ) → List ((List ℕ × ℕ) × List ℕ) → Option ℕ → ℕ → ℕ → Row → FreeRow
+free_row_of kinds nights today d n v = free_row_by kinds nights today d n (text_of (column v 0))
 
 -- a note with its fit and count, in a room that has these fits
 abbrev pub note_under : List FitRow → Row → Note

@@ -7,7 +7,7 @@
 //!   from_row/bare_rows: rooms and notes as their tables have them, and with the fits of their rooms.
 //! - src: statement, steps, changes, issue, refits, lock_notes, new_desk; Statements, Steps, NewDesk: what changes and
 //!   a new desk write.
-//! - src: walk, walks, plain_rows, whole_tables; specs of these names: the five walks; each table read whole.
+//! - src: walk, walks, plain_rows, whole_tables; specs of these names: the walks; each table read whole.
 //! - src: version, indexes, upgrade, same_schema; Upgrade, SameSchema: what an older desk lacks; two schemas compared.
 //! - proofs: Transaction, Ends, Upgraded: how a transaction of a change or an upgrade ends.
 #![tactic(auto)]

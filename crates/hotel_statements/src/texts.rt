@@ -1,4 +1,4 @@
-//! The texts of the statements, each of one table but for those of two walks.
+//! The texts of the statements, each of one table but for those of three walks.
 
 // The tables.
 
@@ -65,7 +65,8 @@ pub(crate) const CREATE_FIT: &str = "CREATE TABLE fit (\
     PRIMARY KEY (room, fit), \
     UNIQUE (room, place)) STRICT";
 
-// The indexes: by the first two the rows that refer to a changed one are looked for, by the third the arrivals.
+// The indexes: by the first two the rows that refer to a changed one are looked for, by the third arrivals and
+// bookings.
 
 pub(crate) const CREATE_STAY_ROOM: &str = "CREATE INDEX stay_room ON stay (room)";
 
@@ -190,6 +191,19 @@ pub(crate) const WALK_LEFT_BEHIND: &str =
     JOIN code AS last ON last.room = room.room AND last.place = room.codes - 1 \
     WHERE room.lock_place + 2 < room.codes \
     ORDER BY room.room";
+
+pub(crate) const WALK_ROOM_STATUS: &str =
+    "SELECT room, kind, party, lock_place, codes, secured FROM room ORDER BY room";
+
+pub(crate) const WALK_INSIDE: &str = "SELECT inside.room, inside.card, card.party \
+    FROM inside \
+    JOIN card ON card.number = inside.card \
+    ORDER BY inside.room, inside.card";
+
+pub(crate) const WALK_BOOKINGS: &str = "SELECT party, guest, kind, arrive, depart, state, room \
+    FROM stay \
+    WHERE state = 0 \
+    ORDER BY party";
 
 // Whole tables.
 

@@ -1,25 +1,43 @@
-//! The walks of the books over the connection: one statement each, but for a room's codes and its notes, before which
-//! the room's row or its fits are looked up.
+//! The walks of the books over the connection: one statement each, but for a room's codes, its notes and what is free,
+//! before which the room's row, its fits or the business day are looked up.
 ghost use Rattle.sqlite.specs.Held.{state};
 ghost use Rattle.hotel_model.specs.Sound.{IsSound};
 ghost use Rattle.hotel_model.specs.Refinement.ListsOnRows.{arrivals_on, in_house_on, chain_on, left_behind_on};
+ghost use Rattle.hotel_model.specs.Refinement.ListsOnRows.{room_status_on, cards_inside_on, bookings_on};
+ghost use Rattle.hotel_model.specs.Refinement.ListsOnRows.{availability_on};
 ghost use Rattle.hotel_model.specs.Rows.{notes_at};
 ghost use Rattle.hotel_statements.specs.Books.{IsBooks, IsKept};
 ghost use Rattle.hotel_statements.specs.Tables.{rows_in};
-ghost use Rattle.hotel_statements.specs.Walks.{WalksList};
+ghost use Rattle.hotel_statements.specs.Walks.{AreCounted, WalksList};
 ghost use Rattle.hotel_statements.specs.Failures.{ArrivalsFail, AuditFails, ChainFails, InHouseFails, LeftBehindFails};
+ghost use Rattle.hotel_statements.specs.Failures.{RoomStatusFails, CardsInsideFail, BookingsFail, AvailabilityFails};
 
 use crate::from_row::bare_rows::UnderFits;
-use crate::from_row::list_rows::{Alone, AtLock};
+use crate::from_row::list_rows::{Alone, AtLock, FreeOn};
 use crate::look_ups;
 use crate::number::{dated, numbered};
-use crate::texts::{WALK_ARRIVALS, WALK_AUDIT, WALK_CHAIN, WALK_IN_HOUSE, WALK_LEFT_BEHIND};
+use crate::texts::{
+    READ_KIND, WALK_ARRIVALS, WALK_AUDIT, WALK_BOOKINGS, WALK_CHAIN, WALK_IN_HOUSE, WALK_INSIDE,
+    WALK_LEFT_BEHIND, WALK_ROOM_STATUS,
+};
 use crate::walk::walk;
-use hotel_core::{BehindRow, ChainRow, HouseRow, Sink, WalkFault};
-use hotel_nights::{Day, Stay};
+use hotel_core::{
+    BehindRow, ChainRow, FreeRow, HouseRow, InsideRow, KindRooms, NightIndex, Sink, StatusRow,
+    WalkFault,
+};
+use hotel_nights::{Day, Nights, Stay};
 use keycard_rules::{LockNote, RoomNo};
 use sqlite::{Alter, Connection};
 use std::alloc::Global;
+
+/// What is counted beside the tables.
+#[derive(Clone, Copy)]
+pub struct Counts<'a> {
+    /// How many rooms each kind has.
+    pub kinds: &'a KindRooms,
+    /// How many stays take each night.
+    pub nights: &'a NightIndex,
+}
 
 /// The booked stays that take the night of a day, by party.
 pub fn arrivals<S: Alter, K: Sink<Stay>>(
@@ -98,4 +116,70 @@ pub fn left_behind<S: Alter, K: Sink<BehindRow>>(
         (state S.Store conn.old) (state S.Store conn.new) sink.old sink.new result }
 {
     walk(alloc, conn, WALK_LEFT_BEHIND, &[], &Alone, sink)
+}
+
+/// All rooms, by room.
+pub fn room_status<S: Alter, K: Sink<StatusRow>>(
+    alloc: Global,
+    conn: &mut Connection<S>,
+    sink: &mut K,
+) -> Result<(), WalkFault>
+    requires { IsBooks (state S.Store conn.old) }
+    ensures { WalksList RoomStatusFails K.Sink.after K.Sink.after_stop room_status_on
+        (state S.Store conn.old) (state S.Store conn.new) sink.old sink.new result }
+{
+    walk(alloc, conn, WALK_ROOM_STATUS, &[], &Alone, sink)
+}
+
+/// The cards inside rooms, by room and card.
+pub fn cards_inside<S: Alter, K: Sink<InsideRow>>(
+    alloc: Global,
+    conn: &mut Connection<S>,
+    sink: &mut K,
+) -> Result<(), WalkFault>
+    requires { IsBooks (state S.Store conn.old) }
+    ensures { WalksList CardsInsideFail K.Sink.after K.Sink.after_stop cards_inside_on
+        (state S.Store conn.old) (state S.Store conn.new) sink.old sink.new result }
+{
+    walk(alloc, conn, WALK_INSIDE, &[], &Alone, sink)
+}
+
+/// The booked stays, by party.
+pub fn bookings<S: Alter, K: Sink<Stay>>(
+    alloc: Global,
+    conn: &mut Connection<S>,
+    sink: &mut K,
+) -> Result<(), WalkFault>
+    requires { IsBooks (state S.Store conn.old) }
+    ensures { WalksList BookingsFail K.Sink.after K.Sink.after_stop bookings_on
+        (state S.Store conn.old) (state S.Store conn.new) sink.old sink.new result }
+{
+    walk(alloc, conn, WALK_BOOKINGS, &[], &Alone, sink)
+}
+
+/// The kinds, in order, each with its rooms and what is free of it from a day on, for so many nights.
+///
+/// The kinds are those of their table, and no night is looked up: the counts say how many stays take it.
+pub fn availability<S: Alter, K: Sink<FreeRow>>(
+    alloc: Global,
+    conn: &mut Connection<S>,
+    counts: Counts<'_>,
+    arrive: Day,
+    nights: Nights,
+    sink: &mut K,
+) -> Result<(), WalkFault>
+    requires books { IsBooks (state S.Store conn.old) }
+    requires counted { IsKept (state S.Store conn.old)
+        → AreCounted counts.kinds.now counts.nights.now (rows_in (state S.Store conn.old).now.trees) }
+    ensures { WalksList AvailabilityFails K.Sink.after K.Sink.after_stop (λ rows. availability_on rows arrive nights)
+        (state S.Store conn.old) (state S.Store conn.new) sink.old sink.new result }
+{
+    let today = look_ups::day(alloc, conn)?;
+    let free = FreeOn {
+        counts,
+        today,
+        arrive,
+        nights,
+    };
+    walk(alloc, conn, READ_KIND, &[], &free, sink)
 }

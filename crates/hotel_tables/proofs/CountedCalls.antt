@@ -4,6 +4,7 @@ use Rattle.std.proofs.Common.{Some, None}
 use Rattle.std.proofs.Common.{◌+◌, nat_le, refl, ap, sym, ◌∙◌, subst, rules, arith}
 use Rattle.std.specs.Prelude.{IfErr, IfOk, OnErr, OnOk, IsErrAnd, IsTrue}
 use Rattle.std.specs.Result.{IsErr, IsErrAnd}
+use Rattle.std.proofs.lemmas.Bool.{false≢true}
 use Rattle.std.proofs.lemmas.Bool.Decides.{nat_tests}
 use Rattle.sqlite_disk.specs.Disk.{MoreFaults}
 use Rattle.sqlite_trees.specs.declared.store.Store.{Ghosts}
@@ -32,9 +33,9 @@ use Rattle.hotel_core.specs.declared.books.walks.WalkFault.TheVariants as walk
 use Rattle.hotel_statements.specs.LookUps.{Selects as LooksUpTables, LeavesNoMore}
 use Rattle.hotel_statements.specs.Ready.{IsReady}
 use Rattle.hotel_statements.specs.Walks.{WalksList}
-use Rattle.hotel_statements.specs.Books.{IsKept}
+use Rattle.hotel_statements.specs.Books.{IsKept, IsBooks, KeepsRows}
 use Rattle.hotel_statements.specs.Tables.{rows_in}
-use Rattle.hotel_tables.specs.TableBooks.{Tabled, failed}
+use Rattle.hotel_tables.specs.TableBooks.{Tabled, IsCounted, IsTabled, failed}
 use Rattle.hotel_tables.specs.{Applied.Applies, Applied.LeavesNothing}
 use Rattle.hotel_tables.specs.Causes.{IsAsked, LookFails, LookUpFails, OnceReady, TablesFail, of_day}
 use Rattle.hotel_tables.proofs.Causes.{asked_then, looked}
@@ -118,6 +119,18 @@ none_left : (old new : State) → (HasCleanDisk old → IsTrue old.is_open) → 
 none_left old new ready crash = survives_weaker old new _ _ (λ clean db none.
     let before : HasCleanDisk old = omega (arith, crash.clean, clean) in
     none (before, ready before)) crash
+
+-- a call that keeps the rows leaves books that aren't known to answer
+pub still_tabled : {kinds : List (List ℕ × ℕ)} {nights : List ((List ℕ × ℕ) × List ℕ)} {answers : Bool}
+    (old new : State) → IsTabled old kinds nights answers → IsBooks new → KeepsRows old new
+    → IsTabled new kinds nights false
+still_tabled {kinds = kinds} {nights = nights} old new was books keeps = record {
+  books = books;
+  counted = λ kept.
+      let same = keeps kept in
+      subst (λ (d : Database). IsCounted kinds nights (rows_in d.trees)) (sym same.1) (was.counted same.0);
+  answered = λ clean yes. absurd (false≢true yes);
+}
 
 -- The books are these, also as they are kept; a call of the tables leaves their connection so.
 module _ {S : Type 0} (g : Ghosts S) (inside self : Tabled S) (same : inside ≡ self) (conn : Held S) where

@@ -17,6 +17,7 @@ use Rattle.hotel_statements.specs.Failures.{DayFails, KindFails, RoomFails, FitF
 use Rattle.hotel_statements.specs.Failures.{CodeAtFails, CardFails, InsideFails, IsInsideFails, HasInsideFails}
 use Rattle.hotel_statements.specs.Failures.{NoteFails, NumbersFail}
 use Rattle.hotel_statements.specs.Failures.{ArrivalsFail, InHouseFails, ChainFails, LeftBehindFails, AuditFails}
+use Rattle.hotel_statements.specs.Failures.{RoomStatusFails, CardsInsideFail, BookingsFail, AvailabilityFails}
 use Rattle.hotel_tables.specs.Applied.{known_for}
 
 -- One of the desk's look-ups or walks fails, of a connection from old to new.
@@ -40,6 +41,10 @@ pub data LookUpFails (old new : State) : Type 0 where
   of_chain : (room : ℕ) → ChainFails room old new → LookUpFails old new
   of_left_behind : LeftBehindFails old new → LookUpFails old new
   of_audit : (room : ℕ) → AuditFails room old new → LookUpFails old new
+  of_room_status : RoomStatusFails old new → LookUpFails old new
+  of_cards_inside : CardsInsideFail old new → LookUpFails old new
+  of_bookings : BookingsFail old new → LookUpFails old new
+  of_availability : AvailabilityFails old new → LookUpFails old new
 
 -- ---- changes
 

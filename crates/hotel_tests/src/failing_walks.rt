@@ -15,9 +15,9 @@ use std::process::Abort;
 use std::test::Fail;
 use stopping_books::StoppingBooks;
 
-/// Room 101 was never entered, and its second guest is in house; the guest of room 102 came and went out; and one more
-/// is to arrive two days later.
-static ALL_LISTS: [&[u8]; 14] = [
+/// Room 101 was never entered, and its second guest is in house; the guest of room 102 came, went out and came again;
+/// and one more is to arrive two days later.
+static ALL_LISTS: [&[u8]; 15] = [
     b"begin 2031-05-01",
     b"add-kind DBL",
     b"add-room 101 DBL",
@@ -31,6 +31,7 @@ static ALL_LISTS: [&[u8]; 14] = [
     b"check-in 3 102",
     b"entered 102 1 3 b0 b1 2031-05-01T15:00:00",
     b"left 102 2 3 b0 b1 2031-05-01T16:00:00",
+    b"entered 102 3 3 b0 b1 2031-05-01T17:00:00",
     b"reserve DBL 2031-05-03 1 Di",
 ];
 
@@ -50,13 +51,13 @@ struct Asked {
     path: &'static [u8],
     text: &'static [u8],
     /// How many calls of the books it makes: one before each row and one behind the last one; and of a room that is
-    /// looked up first.
+    /// looked up first. The business day is one look-up.
     calls: u64,
     /// How many lines stand before the first of them.
     header: u64,
 }
 
-static ASKED: [Asked; 5] = [
+static ASKED: [Asked; 10] = [
     Asked {
         line: b"arrivals 2031-05-03",
         path: b"/arrivals/2031-05-03",
@@ -101,9 +102,49 @@ place,code,state
 room,fit,count,kind,card,old,new,at
 102,1,1,in,3,0000000000b0,0000000000b1,2031-05-01T15:00:00
 102,1,2,out,3,0000000000b0,0000000000b1,2031-05-01T16:00:00
+102,1,3,in,3,0000000000b0,0000000000b1,2031-05-01T17:00:00
 ",
-        calls: 4,
+        calls: 5,
         header: 0,
+    },
+    Asked {
+        line: b"business-day",
+        path: b"/business-day",
+        text: b"day\n2031-05-01\n",
+        calls: 1,
+        header: 1,
+    },
+    Asked {
+        line: b"room-status",
+        path: b"/room-status",
+        text: b"\
+room,kind,party,secured,awaited
+101,DBL,2,no,2
+102,DBL,3,yes,0
+",
+        calls: 3,
+        header: 1,
+    },
+    Asked {
+        line: b"inside",
+        path: b"/inside",
+        text: b"room,card,party\n102,3,3\n",
+        calls: 2,
+        header: 1,
+    },
+    Asked {
+        line: b"bookings",
+        path: b"/bookings",
+        text: b"party,guest,kind,arrive,depart\n4,Di,DBL,2031-05-03,2031-05-04\n",
+        calls: 2,
+        header: 1,
+    },
+    Asked {
+        line: b"availability 2031-05-03 1",
+        path: b"/availability/2031-05-03/1",
+        text: b"kind,rooms,free\nDBL,2,1\n",
+        calls: 2,
+        header: 1,
     },
 ];
 

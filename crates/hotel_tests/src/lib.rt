@@ -29,4 +29,6 @@ mod stops;
 #[cfg(test)]
 mod value_readers;
 #[cfg(test)]
+mod web_pages;
+#[cfg(test)]
 mod worked_scenarios;

@@ -1,7 +1,10 @@
 //! Lists by their own calls, over books in memory.
 use hotel_asks::{Ask, ListAsk};
 use hotel_core::Walks;
-use hotel_lists::{ListFault, arrivals, audit_of, chain_of, in_house, left_behind};
+use hotel_lists::{
+    ListFault, arrivals, audit_of, availability, bookings, business_day, chain_of, in_house,
+    inside, left_behind, room_status,
+};
 use hotel_scenarios::chains::walks_end;
 use hotel_scenarios::desks::Desk;
 use hotel_scenarios::line_asks::ask_of;
@@ -31,6 +34,11 @@ pub(crate) fn write_alone<B: Walks, W: Write>(
         ListAsk::ChainOf(room) => chain_of(alloc, books, *room, writer),
         ListAsk::LeftBehind => left_behind(alloc, books, writer),
         ListAsk::AuditOf(room) => audit_of(alloc, books, *room, writer),
+        ListAsk::BusinessDay => business_day(alloc, books, writer),
+        ListAsk::RoomStatus => room_status(alloc, books, writer),
+        ListAsk::Inside => inside(alloc, books, writer),
+        ListAsk::Bookings => bookings(alloc, books, writer),
+        ListAsk::Availability(day, nights) => availability(alloc, books, *day, *nights, writer),
     }
 }
 

@@ -6,8 +6,10 @@ ghost use Rattle.stopping_books.specs.Stops.{counts, EndsAs, IsLeft, MakesCall};
 
 use crate::calls::Calls;
 use crate::stopping_books::StoppingBooks;
-use hotel_core::{BehindRow, ChainRow, HouseRow, Sink, Stop, WalkFault, Walks};
-use hotel_nights::{Day, Stay};
+use hotel_core::{
+    BehindRow, ChainRow, FreeRow, HouseRow, InsideRow, Sink, StatusRow, Stop, WalkFault, Walks,
+};
+use hotel_nights::{Day, Nights, Stay};
 use keycard_rules::{LockNote, LookFault, RoomNo};
 
 /// A sink that hands rows on to another one, up to the call that fails.
@@ -136,6 +138,35 @@ impl Walks for StoppingBooks {
     ) -> Result<(), WalkFault> {
         let mut passing = Passing::new(sink, self.calls);
         let end = self.books.walk_audit(room, &mut passing);
+        self.ended(end, passing.calls, passing.failed)
+    }
+
+    fn walk_room_status<S: Sink<StatusRow>>(&mut self, sink: &mut S) -> Result<(), WalkFault> {
+        let mut passing = Passing::new(sink, self.calls);
+        let end = self.books.walk_room_status(&mut passing);
+        self.ended(end, passing.calls, passing.failed)
+    }
+
+    fn walk_inside<S: Sink<InsideRow>>(&mut self, sink: &mut S) -> Result<(), WalkFault> {
+        let mut passing = Passing::new(sink, self.calls);
+        let end = self.books.walk_inside(&mut passing);
+        self.ended(end, passing.calls, passing.failed)
+    }
+
+    fn walk_bookings<S: Sink<Stay>>(&mut self, sink: &mut S) -> Result<(), WalkFault> {
+        let mut passing = Passing::new(sink, self.calls);
+        let end = self.books.walk_bookings(&mut passing);
+        self.ended(end, passing.calls, passing.failed)
+    }
+
+    fn walk_availability<S: Sink<FreeRow>>(
+        &mut self,
+        day: Day,
+        nights: Nights,
+        sink: &mut S,
+    ) -> Result<(), WalkFault> {
+        let mut passing = Passing::new(sink, self.calls);
+        let end = self.books.walk_availability(day, nights, &mut passing);
         self.ended(end, passing.calls, passing.failed)
     }
 }

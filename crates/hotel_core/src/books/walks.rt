@@ -1,6 +1,8 @@
 //! Walks over the rows of the lists, which are handed to a sink one after the other.
 ghost use Rattle.std.specs.Prelude.{◌≡◌, false, Some, Err, OnOk, OnErr};
 ghost use Rattle.hotel_model.specs.Refinement.ListsOnRows.{arrivals_on, in_house_on, chain_on, left_behind_on};
+ghost use Rattle.hotel_model.specs.Refinement.ListsOnRows.{room_status_on, cards_inside_on, bookings_on};
+ghost use Rattle.hotel_model.specs.Refinement.ListsOnRows.{availability_on};
 ghost use Rattle.hotel_model.specs.Rows.{notes_at};
 ghost use Rattle.hotel_core.specs.{Books.Reads.is_any};
 ghost use Rattle.hotel_core.specs.Books.Walks.{WalksOver, failure_of, walk_text};
@@ -8,8 +10,8 @@ ghost use Rattle.hotel_core.specs.{declared.books.walks.WalkFault.TheVariants.Me
 ghost use Rattle.hotel_core.specs.{declared.books.walks.WalkFault.TheVariants.Stopped};
 
 use crate::books::Books;
-use hotel_model::{BehindRow, ChainRow, HouseRow};
-use hotel_nights::{Day, Stay};
+use hotel_model::{BehindRow, ChainRow, FreeRow, HouseRow, InsideRow, StatusRow};
+use hotel_nights::{Day, Nights, Stay};
 use keycard_rules::{LockNote, LookFault, RoomNo};
 use std::alloc::AllocError;
 use std::error::Error;
@@ -115,4 +117,29 @@ pub trait Walks: Books {
     fn walk_audit<S: Sink<LockNote>>(&mut self, room: RoomNo, sink: &mut S) -> Result<(), WalkFault>
         ensures { WalksOver Self.Kept false S.after S.after_stop
             (notes_at (Self.rows self.old).notes room) self.old self.new sink.old sink.new result };
+
+    /// All rooms, by room.
+    fn walk_room_status<S: Sink<StatusRow>>(&mut self, sink: &mut S) -> Result<(), WalkFault>
+        ensures { WalksOver Self.Kept false S.after S.after_stop
+            (room_status_on (Self.rows self.old)) self.old self.new sink.old sink.new result };
+
+    /// The cards inside rooms, by room and card.
+    fn walk_inside<S: Sink<InsideRow>>(&mut self, sink: &mut S) -> Result<(), WalkFault>
+        ensures { WalksOver Self.Kept false S.after S.after_stop
+            (cards_inside_on (Self.rows self.old)) self.old self.new sink.old sink.new result };
+
+    /// The booked stays, by party.
+    fn walk_bookings<S: Sink<Stay>>(&mut self, sink: &mut S) -> Result<(), WalkFault>
+        ensures { WalksOver Self.Kept false S.after S.after_stop
+            (bookings_on (Self.rows self.old)) self.old self.new sink.old sink.new result };
+
+    /// The kinds, in order, each with its rooms and what is free of it from a day on, for so many nights.
+    fn walk_availability<S: Sink<FreeRow>>(
+        &mut self,
+        day: Day,
+        nights: Nights,
+        sink: &mut S,
+    ) -> Result<(), WalkFault>
+        ensures { WalksOver Self.Kept false S.after S.after_stop
+            (availability_on (Self.rows self.old) day nights) self.old self.new sink.old sink.new result };
 }

@@ -54,6 +54,13 @@ impl InsideTable {
         Ok(found)
     }
 
+    /// The rooms and cards, in order.
+    pub(crate) fn set(&self) -> &BTreeSet<InsideKey>
+        ensures { result.now.keys ≡ self.now }
+    {
+        &self.pairs
+    }
+
     /// Whether a card is inside a room.
     pub(crate) fn has(&self, room: RoomNo, number: CardNo) -> bool
         ensures { result ≡ is_one_of number (those_in self.now room) }

@@ -11,8 +11,11 @@ ghost use Rattle.hotel_core.specs.{Books.Walks.failure_of, declared.books.walks.
 use crate::books::Books;
 use crate::books::walks::{Sink, WalkFault, Walks};
 use crate::memory::tables::Tables;
-use hotel_model::{BehindRow, ChainRow, Change, FitRow, HouseRow, NextNumbers, RoomRow};
-use hotel_nights::{Day, Guest, KindCode, Stay};
+use hotel_model::{
+    BehindRow, ChainRow, Change, FitRow, FreeRow, HouseRow, InsideRow, NextNumbers, RoomRow,
+    StatusRow,
+};
+use hotel_nights::{Day, Guest, KindCode, Nights, Stay};
 use keycard_rules::{
     Card, CardNo, Code, Count, FitNo, Issued, Kept, LockNote, LookFault, PartyNo, RoomNo,
 };
@@ -270,5 +273,26 @@ impl Walks for ListBooks {
         sink: &mut S,
     ) -> Result<(), WalkFault> {
         self.tables.walk_audit(room, sink)
+    }
+
+    fn walk_room_status<S: Sink<StatusRow>>(&mut self, sink: &mut S) -> Result<(), WalkFault> {
+        self.tables.walk_room_status(sink)
+    }
+
+    fn walk_inside<S: Sink<InsideRow>>(&mut self, sink: &mut S) -> Result<(), WalkFault> {
+        self.tables.walk_inside(sink)
+    }
+
+    fn walk_bookings<S: Sink<Stay>>(&mut self, sink: &mut S) -> Result<(), WalkFault> {
+        self.tables.walk_bookings(sink)
+    }
+
+    fn walk_availability<S: Sink<FreeRow>>(
+        &mut self,
+        day: Day,
+        nights: Nights,
+        sink: &mut S,
+    ) -> Result<(), WalkFault> {
+        self.tables.walk_availability(day, nights, sink)
     }
 }

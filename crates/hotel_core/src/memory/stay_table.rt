@@ -6,6 +6,7 @@ ghost use Rattle.std.specs.Map.{values_of};
 ghost use Rattle.hotel_nights.specs.FullNight.{first_day, is_full, is_standing};
 ghost use Rattle.hotel_nights.specs.declared.stay.StayState.TheVariants as state;
 ghost use Rattle.hotel_model.specs.{Words.said_of, Rows.at_number, Stays.in_state};
+ghost use Rattle.hotel_core.specs.Memory.{CountsNightsOf};
 
 use crate::memory::row_changes::set_state;
 use crate::night_index::NightIndex;
@@ -49,6 +50,13 @@ impl StayTable {
         ensures { result.now.entries ≡ self.now }
     {
         &self.stays
+    }
+
+    /// How many stays that stand take each night of each kind.
+    pub(crate) fn nights(&self) -> &NightIndex
+        ensures { CountsNightsOf result.now self.now }
+    {
+        &self.nights
     }
 
     /// Adds the stay of a new party; a refusal changes nothing.

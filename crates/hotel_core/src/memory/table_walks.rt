@@ -3,24 +3,34 @@ ghost use Rattle.std.specs.Prelude.{◌≡◌, false, IfOk, IsOk, Err, None, fil
 ghost use Rattle.std.specs.List.{range_with_len};
 ghost use Rattle.hotel_model.specs.Refinement.ListsOnRows.{arrivals_on, in_house_on, chain_on};
 ghost use Rattle.hotel_model.specs.Refinement.ListsOnRows.{left_behind_on, house_row_on, chain_row_on};
-ghost use Rattle.hotel_model.specs.Refinement.ListsOnRows.{behind_row_on};
-ghost use Rattle.hotel_model.specs.{Lists.arrives_on, Rows.notes_at};
+ghost use Rattle.hotel_model.specs.Refinement.ListsOnRows.{behind_row_on, room_status_on, cards_inside_on};
+ghost use Rattle.hotel_model.specs.Refinement.ListsOnRows.{inside_row_on, bookings_on, availability_on};
+ghost use Rattle.hotel_model.specs.{Lists.arrives_on, Lists.is_booking, Rows.notes_at};
 ghost use Rattle.hotel_core.specs.{Books.Reads.is_any, Books.Walks.Hands, Books.Walks.failure_of};
 ghost use Rattle.hotel_core.specs.{declared.books.walks.WalkFault.TheVariants.Store};
 
 use crate::books::walks::{Sink, WalkFault};
+use crate::free_rows::free_row;
 use crate::memory::tables::Tables;
-use hotel_model::{BehindRow, ChainRow, CodeState, HouseRow, RoomRow};
-use hotel_nights::{Day, Stay, StayState};
-use keycard_rules::{LockNote, RoomNo};
+use hotel_model::{
+    BehindRow, ChainRow, CodeState, FreeRow, HouseRow, InsideRow, RoomRow, StatusRow,
+};
+use hotel_nights::{Day, Nights, Stay, StayState};
+use keycard_rules::{CardNo, LockNote, RoomNo};
 use std::alloc::AllocError;
+
+/// Whether a stay is booked: not in house, done or cancelled.
+fn is_booking(stay: &Stay) -> bool
+    ensures { result ≡ is_booking stay.now }
+{
+    matches!(stay.state, StayState::Booked)
+}
 
 /// Whether a stay is booked and takes the night of a day.
 fn arrives(stay: &Stay, day: Day) -> bool
     ensures { result ≡ arrives_on day stay.now }
 {
-    let is_booked = matches!(stay.state, StayState::Booked);
-    is_booked && stay.arrive <= day && day < stay.depart
+    is_booking(stay) && stay.arrive <= day && day < stay.depart
 }
 
 impl Tables {
@@ -149,5 +159,69 @@ impl Tables {
         ensures sure { failure_of result ≡ None }
     {
         self.notes.walk(room, sink)
+    }
+
+    pub(crate) fn walk_room_status<S: Sink<StatusRow>>(&self, sink: &mut S) -> Result<(), WalkFault>
+        ensures hands { Hands S.after S.after_stop (room_status_on self.now) sink.old sink.new result }
+        ensures sure { failure_of result ≡ None }
+    {
+        for row in self.rooms.values() {
+            sink.take(&StatusRow::of_room(row))?;
+        }
+        Ok(())
+    }
+
+    /// The row of a card inside a room, with the party that it was given to.
+    fn inside_row(&self, room: RoomNo, number: CardNo) -> Option<InsideRow>
+        ensures { result ≡ inside_row_on self.now (room, number) }
+    {
+        let card = self.card(number)?;
+        let party = card.party;
+        Some(InsideRow {
+            room,
+            card: number,
+            party,
+        })
+    }
+
+    pub(crate) fn walk_inside<S: Sink<InsideRow>>(&self, sink: &mut S) -> Result<(), WalkFault>
+        ensures hands { Hands S.after S.after_stop (cards_inside_on self.now) sink.old sink.new result }
+        ensures sure { failure_of result ≡ None }
+    {
+        for pair in self.inside.set() {
+            if let Some(row) = self.inside_row(pair.0, pair.1) {
+                sink.take(&row)?;
+            }
+        }
+        Ok(())
+    }
+
+    pub(crate) fn walk_bookings<S: Sink<Stay>>(&self, sink: &mut S) -> Result<(), WalkFault>
+        ensures hands { Hands S.after S.after_stop (bookings_on self.now) sink.old sink.new result }
+        ensures sure { failure_of result ≡ None }
+    {
+        for stay in self.stays.map().values() {
+            if is_booking(stay) {
+                sink.take(stay)?;
+            }
+        }
+        Ok(())
+    }
+
+    pub(crate) fn walk_availability<S: Sink<FreeRow>>(
+        &self,
+        day: Day,
+        nights: Nights,
+        sink: &mut S,
+    ) -> Result<(), WalkFault>
+        ensures hands { Hands S.after S.after_stop (availability_on self.now day nights) sink.old sink.new result }
+        ensures sure { failure_of result ≡ None }
+    {
+        let index = self.stays.nights();
+        for kind in self.kinds.map().keys() {
+            let row = free_row(&self.kinds, index, self.day, kind, day, nights);
+            sink.take(&row)?;
+        }
+        Ok(())
     }
 }

@@ -1,20 +1,23 @@
 -- The rows of the lists, on the rows of a history and on the history itself.
-use Rattle.std.proofs.Common.{ℕ, zero, suc, ◌≡◌, ◌≤◌, ◌<◌, ◌+◌, Bool, true, false, Option, Some, None, List, [], ◌∷◌}
-use Rattle.std.proofs.Common.{◌++◌, length, map, refl, ap, sym, ◌∙◌, arith, append_assoc, append-nil, length-append}
+use Rattle.std.proofs.Common.{ℕ, zero, suc, ◌≡◌, ◌≤◌, ◌<◌, ◌+◌, ◌-◌, Bool, true, false, Option, Some, None, List, []}
+use Rattle.std.proofs.Common.{◌∷◌, ◌++◌, length, map, refl, ap, sym, ◌∙◌, arith, append_assoc, append-nil, length-append}
 use Rattle.std.proofs.Common.{◌==◌, ◌||◌, filter_map, option_map, nat_lt, nat_le, if◌then◌else◌}
 use Rattle.hotel_model.proofs.Names.{range_with_len, cons_option, keys_of, values_of, nat_tests, filter_map-append}
 use Rattle.hotel_model.proofs.Names.{RoomRow, is_one_of, said_of, at_number, History, room_row, rows_of, issued}
 use Rattle.hotel_model.proofs.Names.{current, held, passed, awaited, registered, rooms, stays, is_room, Reached, housed}
 use Rattle.hotel_model.proofs.Names.{house_row_on, in_house_on, state_at, chain_row_on, chain_on, awaited_on}
-use Rattle.hotel_model.proofs.Names.{behind_row_on, left_behind_on}
+use Rattle.hotel_model.proofs.Names.{behind_row_on, left_behind_on, day, kinds, nights}
 use Rattle.hotel_model.specs.{declared.list_rows.BehindRow.BehindRow, declared.list_rows.CodeState.CodeState}
 use Rattle.hotel_model.specs.{Refinement.ListsLift.ListsLift}
 use Rattle.hotel_model.specs.declared.list_rows.CodeState.TheVariants.{Passed, Held, Awaited}
 use Rattle.hotel_model.specs.Lists.{house_row, house_row_of, in_house, in_places, chain, behind_row, left_behind}
+use Rattle.hotel_model.specs.Lists.{status_row, room_status, are_ahead, free_row, availability}
+use Rattle.hotel_model.specs.Refinement.ListsOnRows.{status_row_on, room_status_on, free_row_on, availability_on}
+use Rattle.hotel_model.specs.{declared.list_rows.FreeRow.FreeRow, Words.greatest}
 use Rattle.hotel_model.proofs.{OfTables.Tests.eq_self, OfTables.RoomNumbers.room_there}
 use Rattle.hotel_model.proofs.{Invariants.LedgerOrder.ledger_holds, OfTables.CodeSearch.codes_are_found}
 use Rattle.hotel_model.proofs.{Invariants.CodesFound.held_found, Invariants.CodesFound.current_found}
-use Rattle.hotel_model.proofs.{OfTables.NotesListed.notes_are_listed}
+use Rattle.hotel_model.proofs.{OfTables.NotesListed.notes_are_listed, Invariants.KindCounts.rooms_counted}
 
 or_right : (a b : Bool) → b ≡ true → (a || b) ≡ true
 or_right true b e = refl
@@ -154,6 +157,35 @@ chain_same h ok r there =
     ∙ ap (λ rs. in_places 0 Passed before ++ (in_places a Held one ++ rs)) (rw longer at third)
     ∙ sym (append_assoc (in_places 0 Passed before) (in_places a Held one) (in_places (a + 1) Awaited later))
 
+-- how each room stands
+status_by : (h : History) → Reached h → (es : List (ℕ × List ℕ))
+    → ((r : ℕ) → is_one_of r (keys_of es) ≡ true → is_room h r ≡ true)
+    → map status_row_on (values_of (map (λ e. (e.0, room_row h e.0 e.1)) es)) ≡ map (λ e. status_row h e.0 e.1) es
+status_by h ok [] there = refl
+status_by h ok (e ∷ es) there =
+    let here : is_room h e.0 ≡ true = there e.0 (ap (λ b. b || is_one_of e.0 (keys_of es)) (eq_self e.0)) in
+    (λ i. record (status_row h e.0 e.1) { awaited = awaited_many h ok e.0 e.1 here i }
+    ∷ status_by h ok es (λ r t. there r (or_right (e.0 == r) (is_one_of r (keys_of es)) t)) i)
+
+pub status_same : (h : History) → Reached h → room_status_on (rows_of h) ≡ room_status h
+status_same h ok = status_by h ok (rooms h) (λ r t. t)
+
+-- what is free of each kind
+free_row_same : (h : History) (d n : ℕ) (kind : List ℕ) → free_row_on (rows_of h) d n kind ≡ free_row h d n kind
+free_row_same h d n kind = ap (λ rooms_there. let r : FreeRow = record {
+  kind = kind;
+  rooms = rooms_there;
+  free = if are_ahead (day h) d n then rooms_there - greatest (nights h kind) d n else 0;
+} in r) (rooms_counted h kind)
+
+free_by_kind : (h : History) (d n : ℕ) (ks : List (List ℕ))
+    → map (free_row_on (rows_of h) d n) ks ≡ map (free_row h d n) ks
+free_by_kind h d n [] = refl
+free_by_kind h d n (k ∷ ks) = (λ i. free_row_same h d n k i ∷ free_by_kind h d n ks i)
+
+pub availability_same : (h : History) (d n : ℕ) → availability_on (rows_of h) d n ≡ availability h d n
+availability_same h d n = free_by_kind h d n (kinds h)
+
 -- The lists on the rows of a history are those of the history.
 pub lists_lift : (h : History) → Reached h → ListsLift h
 lists_lift h ok = record {
@@ -162,4 +194,9 @@ lists_lift h ok = record {
   of_chain = chain_same h ok;
   of_left_behind = left_behind_same h ok;
   of_audit = notes_are_listed h ok;
+  of_business_day = refl;
+  of_room_status = status_same h ok;
+  of_cards_inside = refl;
+  of_bookings = refl;
+  of_availability = availability_same h;
 }

@@ -70,7 +70,7 @@ count_changed p party s (e ∷ es) passed_before =
     (λ f. count_changed p party s es
     (λ stay q. passed_before stay (ap (λ b. cond b (Some e.1) (at_number es party)) (at_is party e.0 ∙ f) ∙ q)))
 
-passed_over : (b : Bool) (d : ℕ) (rest : Option ℕ) → cond b (Some d) rest ≡ None → (b ≡ false) × (rest ≡ None)
+pub passed_over : (b : Bool) (d : ℕ) (rest : Option ℕ) → cond b (Some d) rest ≡ None → (b ≡ false) × (rest ≡ None)
 passed_over true d rest e = absurd (let w : ◌≡◌ {A = Option ℕ} (Some d) None = e in cc)
 passed_over false d rest e = (refl, e)
 

@@ -1,16 +1,19 @@
--- The rows of the five lists, read off the rows of the books.
-use Rattle.std.specs.Prelude.{ℕ, List, [], Option, None, ◌-◌, ◌==◌, if◌then◌else◌, nat_le, nat_lt, filter}
+-- The rows of the lists, read off the rows of the books.
+use Rattle.std.specs.Prelude.{ℕ, List, [], ◌∷◌, Option, None, ◌-◌, ◌==◌, if◌then◌else◌, nat_le, nat_lt, map, filter}
 use Rattle.std.specs.Prelude.{filter_map, option_map}
 use Rattle.std.specs.List.{range_with_len}
 use Rattle.std.specs.Map.{values_of}
-use Rattle.hotel_nights.specs.declared.stay.Stay.{Stay}
+use Rattle.hotel_nights.specs.{declared.stay.Stay.Stay, FullNight.nights_taken}
 use Rattle.hotel_model.specs.{declared.rows.RoomRow.RoomRow, declared.list_rows.HouseRow.HouseRow}
 use Rattle.hotel_model.specs.{declared.list_rows.ChainRow.ChainRow}
 use Rattle.hotel_model.specs.{declared.list_rows.BehindRow.BehindRow, declared.list_rows.CodeState.CodeState}
-use Rattle.hotel_model.specs.{Words.said_of, Lists.arrives_on}
+use Rattle.hotel_model.specs.declared.list_rows.StatusRow.{StatusRow}
+use Rattle.hotel_model.specs.declared.list_rows.InsideRow.{InsideRow}
+use Rattle.hotel_model.specs.declared.list_rows.FreeRow.{FreeRow}
+use Rattle.hotel_model.specs.{Words.said_of, Words.greatest, Lists.arrives_on, Lists.is_booking, Lists.are_ahead}
 use Rattle.hotel_model.specs.declared.list_rows.CodeState.TheVariants.{Passed, Held, Awaited}
-use Rattle.hotel_model.specs.{Rows.Rows, Refinement.Lookups.room_at, Refinement.Lookups.stay_at}
-use Rattle.hotel_model.specs.{Refinement.Lookups.code_at}
+use Rattle.hotel_model.specs.{Rows.Rows, Rows.InsideKey, Rows.rooms_of_kind, Refinement.Lookups.room_at}
+use Rattle.hotel_model.specs.{Refinement.Lookups.stay_at, Refinement.Lookups.code_at, Refinement.Lookups.card_at}
 
 -- Booked stays that take the night of a day, by party.
 abbrev pub arrivals_on : Rows → ℕ → List Stay
@@ -66,3 +69,48 @@ behind_row_on rows row = if nat_le 2 (awaited_on row) then said_of (code_at rows
 -- Rooms with two awaited codes or more, by room.
 abbrev pub left_behind_on : Rows → List BehindRow
 left_behind_on rows = filter_map (behind_row_on rows) (values_of rows.rooms)
+
+-- The business day, once it is set.
+abbrev pub business_day_on : Rows → List ℕ
+business_day_on rows = said_of rows.day [] (λ d. d ∷ [])
+
+-- the row of a room
+abbrev pub status_row_on : RoomRow → StatusRow
+status_row_on row = record {
+  room = row.room;
+  kind = row.kind;
+  party = row.party;
+  secured = row.secured;
+  awaited = awaited_on row;
+}
+
+-- All rooms, by room.
+abbrev pub room_status_on : Rows → List StatusRow
+room_status_on rows = map status_row_on (values_of rows.rooms)
+
+-- the row of a card inside a room, with the party that it was given to
+abbrev pub inside_row_on : Rows → InsideKey → Option InsideRow
+inside_row_on rows e = option_map
+    (λ card. let r : InsideRow = record { room = e.0; card = e.1; party = card.party } in r) (card_at rows e.1)
+
+-- The cards inside rooms, by room and card.
+abbrev pub cards_inside_on : Rows → List InsideRow
+cards_inside_on rows = filter_map (inside_row_on rows) rows.inside
+
+-- Booked stays, by party.
+abbrev pub bookings_on : Rows → List Stay
+bookings_on rows = filter is_booking (values_of rows.stays)
+
+-- how many bookings of a kind for so many nights from a day on would be accepted, one after the other
+abbrev pub free_on : Rows → List ℕ → ℕ → ℕ → ℕ
+free_on rows kind d n = if are_ahead rows.day d n
+    then rooms_of_kind rows.rooms kind - greatest (nights_taken (values_of rows.stays) kind) d n else 0
+
+-- the row of a kind, for so many nights from a day on
+abbrev pub free_row_on : Rows → ℕ → ℕ → List ℕ → FreeRow
+free_row_on rows d n kind =
+    record { kind = kind; rooms = rooms_of_kind rows.rooms kind; free = free_on rows kind d n }
+
+-- Kinds with their rooms, and what is free of them for so many nights from a day on, by kind.
+abbrev pub availability_on : Rows → ℕ → ℕ → List FreeRow
+availability_on rows d n = map (free_row_on rows d n) rows.kinds

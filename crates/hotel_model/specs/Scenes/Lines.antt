@@ -11,12 +11,16 @@ use Rattle.hotel_nights.specs.declared.stay.Stay.{Stay}
 use Rattle.hotel_model.specs.declared.list_rows.ChainRow.{ChainRow}
 use Rattle.hotel_model.specs.declared.list_rows.HouseRow.{HouseRow}
 use Rattle.hotel_model.specs.declared.list_rows.BehindRow.{BehindRow}
+use Rattle.hotel_model.specs.declared.list_rows.StatusRow.{StatusRow}
+use Rattle.hotel_model.specs.declared.list_rows.InsideRow.{InsideRow}
+use Rattle.hotel_model.specs.declared.list_rows.FreeRow.{FreeRow}
 use Rattle.hotel_model.specs.Rows.{no_rows}
 use Rattle.hotel_model.specs.Event.{Event}
 use Rattle.hotel_model.specs.History.{History, start}
 use Rattle.hotel_model.specs.Outcome.{Outcome, grown, refused}
 use Rattle.hotel_model.specs.Answer.{answer_to}
-use Rattle.hotel_model.specs.Lists.{arrivals, in_house, chain, left_behind}
+use Rattle.hotel_model.specs.Lists.{arrivals, in_house, chain, left_behind, business_day, room_status, cards_inside}
+use Rattle.hotel_model.specs.Lists.{bookings, availability}
 use Rattle.hotel_model.specs.Notes.{notes}
 use Rattle.hotel_model.specs.Cases.{is_room}
 use Rattle.hotel_model.specs.Scenes.Kept.{rows_made, rows_read, always_kept}
@@ -32,6 +36,11 @@ pub data Line : Type 0 where
   Chain : (room : ℕ) → List ChainRow → Line
   LeftBehind : List BehindRow → Line
   AuditOf : (room : ℕ) → List Note → Line
+  BusinessDay : List ℕ → Line
+  RoomStatus : List StatusRow → Line
+  Inside : List InsideRow → Line
+  Bookings : List Stay → Line
+  Availability : (day nights : ℕ) → List FreeRow → Line
   -- the list of a room's codes, where the room isn't there
   NoChain : (room : ℕ) → Line
 
@@ -64,6 +73,12 @@ play h ahead (InHouse _ ∷ lines) = first_line (InHouse (in_house h)) (play h a
 play h ahead (Chain room _ ∷ lines) = first_line (chain_line (is_room h room) room (chain h room)) (play h ahead lines)
 play h ahead (LeftBehind _ ∷ lines) = first_line (LeftBehind (left_behind h)) (play h ahead lines)
 play h ahead (AuditOf room _ ∷ lines) = first_line (AuditOf room (notes h room)) (play h ahead lines)
+play h ahead (BusinessDay _ ∷ lines) = first_line (BusinessDay (business_day h)) (play h ahead lines)
+play h ahead (RoomStatus _ ∷ lines) = first_line (RoomStatus (room_status h)) (play h ahead lines)
+play h ahead (Inside _ ∷ lines) = first_line (Inside (cards_inside h)) (play h ahead lines)
+play h ahead (Bookings _ ∷ lines) = first_line (Bookings (bookings h)) (play h ahead lines)
+play h ahead (Availability day nights _ ∷ lines) =
+    first_line (Availability day nights (availability h day nights)) (play h ahead lines)
 play h ahead (NoChain room ∷ lines) = first_line (chain_line (is_room h room) room (chain h room)) (play h ahead lines)
 
 -- the words that give these codes, and then the code that comes for ever

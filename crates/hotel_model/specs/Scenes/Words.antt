@@ -1,6 +1,6 @@
 -- The words of the scenes: commands and replies in the order of a script's words, days, codes, guests and the rows of
 -- lists.
-use Rattle.std.specs.Prelude.{ℕ, Bool, List, ◌+◌, codes}
+use Rattle.std.specs.Prelude.{ℕ, Bool, List, Option, ◌+◌, codes}
 use Rattle.keycard_rules.specs.declared.card.Link.{Link}
 use Rattle.keycard_rules.specs.Note.{Note}
 use Rattle.keycard_rules.specs.declared.note.Act.{Act}
@@ -14,6 +14,8 @@ use Rattle.hotel_model.specs.declared.reply.Refusal.{Refusal}
 use Rattle.hotel_model.specs.declared.list_rows.ChainRow.{ChainRow}
 use Rattle.hotel_model.specs.declared.list_rows.CodeState.TheVariants.{Passed, Held, Awaited}
 use Rattle.hotel_model.specs.declared.list_rows.HouseRow.{HouseRow}
+use Rattle.hotel_model.specs.declared.list_rows.StatusRow.{StatusRow}
+use Rattle.hotel_model.specs.declared.list_rows.FreeRow.{FreeRow}
 
 -- ---- values
 
@@ -195,3 +197,12 @@ awaited place code = record { place = place; code = code; state = Awaited }
 abbrev pub house : ℕ → ℕ → List ℕ → ℕ → Bool → HouseRow
 house room its_party guest depart secured =
     record { room = room; party = its_party; guest = guest; kind = DBL; depart = depart; secured = secured }
+
+-- a room of the kind DBL, with its party if there is one, secured or not
+abbrev pub status : ℕ → Option ℕ → Bool → ℕ → StatusRow
+status room its_party secured codes_awaited =
+    record { room = room; kind = DBL; party = its_party; secured = secured; awaited = codes_awaited }
+
+-- a kind with so many rooms, free for so many bookings
+abbrev pub free : List ℕ → ℕ → ℕ → FreeRow
+free kind rooms bookings = record { kind = kind; rooms = rooms; free = bookings }

@@ -34,6 +34,13 @@ pub(crate) fn about_verb<'a>(verb: Verb) -> &'a str {
         Verb::ChainOf => "List a room's codes: chain 101",
         Verb::LeftBehind => "List the rooms whose newest card doesn't open the lock: left-behind",
         Verb::AuditOf => "List a room's notes: audit-of 101",
+        Verb::BusinessDay => "Print the business day: business-day",
+        Verb::RoomStatus =>
+            "List all rooms, each with its party and how many codes its lock awaits: room-status",
+        Verb::Inside => "List the cards inside rooms: inside",
+        Verb::Bookings => "List the bookings that aren't checked in: bookings",
+        Verb::Availability =>
+            "List the kinds with how many rooms are free for some nights: availability 2031-05-01 2",
     }
 }
 

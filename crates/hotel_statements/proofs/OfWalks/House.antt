@@ -94,7 +94,7 @@ shown y = (
   int y.0.0 ∷ maybe_int y.0.1.party ∷ Text y.1.guest ∷ Text y.1.kind ∷ int y.1.depart ∷ int (bit_of y.0.1.secured) ∷ [],
 )
 
-bit_back : (b : Bool) → (bit_of b == 1) ≡ b
+pub bit_back : (b : Bool) → (bit_of b == 1) ≡ b
 bit_back true = refl
 bit_back false = refl
 

@@ -135,3 +135,14 @@ said_of_each g f k (e ∷ es) all = go (g e) (all.0) (said_of_each g f k es all.
         → map f (cons_option o (filter_map g es)) ≡ cons_option (k e.1) (filter_map k (values_of es))
     go None is more = more ∙ ap (λ w. cons_option w (filter_map k (values_of es))) is
     go (Some y) is more = ap (λ zs. f y ∷ zs) more ∙ ap (λ w. cons_option w (filter_map k (values_of es))) is
+
+-- what is said of them, made in one step
+pub made_alike : {X Y Z : Type 0} (g : X → Option Y) (f : Y → Z) (k : X → Option Z)
+    → ((x : X) → option_map f (g x) ≡ k x) → (xs : List X) → map f (filter_map g xs) ≡ filter_map k xs
+made_alike g f k same [] = refl
+made_alike g f k same (x ∷ xs) = go (g x) (same x) (made_alike g f k same xs)
+  where
+    go : (o : Option _) → option_map f o ≡ k x → map f (filter_map g xs) ≡ filter_map k xs
+        → map f (cons_option o (filter_map g xs)) ≡ cons_option (k x) (filter_map k xs)
+    go None is more = more ∙ ap (λ w. cons_option w (filter_map k xs)) is
+    go (Some y) is more = ap (λ zs. f y ∷ zs) more ∙ ap (λ w. cons_option w (filter_map k xs)) is

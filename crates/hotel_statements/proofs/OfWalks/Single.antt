@@ -1,4 +1,4 @@
--- The walk of one table: the arrivals of a day.
+-- The walks over stays: the arrivals of a day, and the bookings.
 use Rattle.std.proofs.Common.{◌≡◌, ◌&&◌, refl, ap, ap₂, ◌∙◌, List, [], ◌∷◌, ℕ, pos, true, false, Bool, eqb}
 use Rattle.sqlite_value.specs.declared.value.Value.TheVariants.{Int}
 use Rattle.sqlite_value.specs.declared.keys.Collation.TheVariants.{Binary}
@@ -13,7 +13,8 @@ use Rattle.hotel_nights.specs.declared.stay.Stay.{Stay}
 use Rattle.hotel_nights.specs.declared.stay.StayState.{StayState}
 use Rattle.hotel_nights.specs.declared.stay.StayState.TheVariants.{Booked, InHouse, Done, Cancelled}
 use Rattle.hotel_model.specs.Stays.{is_booked_state}
-use Rattle.hotel_model.specs.{Lists.arrives_on, Refinement.ListsOnRows.arrivals_on}
+use Rattle.hotel_model.specs.{Lists.arrives_on, Lists.is_booking, Refinement.ListsOnRows.arrivals_on}
+use Rattle.hotel_model.specs.Refinement.ListsOnRows.{bookings_on}
 use Rattle.hotel_statements.specs.Schema.{compare}
 use Rattle.hotel_statements.specs.Values.{int}
 use Rattle.hotel_statements.specs.Columns.{state_number, stay_columns, stay_row_of, stay_of, stay_written}
@@ -61,3 +62,22 @@ module _ (db : Trees) (t : AreTables db) where
   pub arrivals_said : (day : ℕ) (all : List Stay)
       → AnswersAll stay_row_of arrival_query (int day ∷ []) db all → all ≡ arrivals_on (rows_in db) day
   arrivals_said day = stays_passing db t arrival_test (int day ∷ []) (arrives_on day) (arrival_tests day)
+
+  -- ---- the bookings
+
+  abbrev booking_test : List Term
+  booking_test = compare Eq (col 1 6) (lit (Int (pos 0))) ∷ []
+
+  abbrev pub booking_query : Query
+  booking_query = stays_query db t booking_test
+
+  booking_tests : (r : Row) → IsWrittenAs stay_columns stay_of stay_written r
+      → passes booking_test [] r ≡ is_booking (stay_of (stay_columns r)).1
+  booking_tests r good =
+      let stay = (stay_of (stay_columns r)).1 in
+      and_true _ ∙ column_equals (column r 6) (state_number stay.state) 0 (ap (λ v. column v 5) good)
+      ∙ booked stay.state
+
+  pub bookings_said : (all : List Stay)
+      → AnswersAll stay_row_of booking_query [] db all → all ≡ bookings_on (rows_in db)
+  bookings_said = stays_passing db t booking_test [] is_booking booking_tests

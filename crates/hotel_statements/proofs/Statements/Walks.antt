@@ -9,7 +9,7 @@ use Rattle.sqlite.specs.Term.{lit, col}
 use Rattle.sqlite_sql.specs.Term.{op2}
 use Rattle.sqlite_sql.specs.declared.ops.BinaryOp.TheVariants.{Arith}
 use Rattle.sqlite_sql.specs.declared.ops.ArithOp.TheVariants.{Add, Sub}
-use Rattle.hotel_statements.specs.Trees.{room_tree, stay_tree, code_tree, note_tree}
+use Rattle.hotel_statements.specs.Trees.{kind_tree, room_tree, stay_tree, code_tree, card_tree, inside_tree, note_tree}
 use Rattle.hotel_statements.specs.LookUps.{Asks}
 use Rattle.hotel_statements.specs.Texts as text
 use Rattle.hotel_statements.proofs.Answers.{single}
@@ -50,3 +50,25 @@ pub walk_left_behind : Asks text.walk_left_behind (record (single room_tree
     { from = inner room_tree (inner code_tree (inner code_tree end)) })
 unfolding understood everything
 walk_left_behind = record { query = (_, refl); plain = (refl, refl); listing = refl }
+
+pub walk_room_status : Asks text.walk_room_status
+    (single room_tree [] (columns (0 ∷ 2 ∷ 6 ∷ 3 ∷ 4 ∷ 5 ∷ [])) ((col 1 0, ascending Binary) ∷ []))
+unfolding understood everything
+walk_room_status = record { query = (_, refl); plain = (refl, refl); listing = refl }
+
+pub walk_inside : Asks text.walk_inside
+    (record (single inside_tree (compare Eq (col 2 0) (col 1 2) ∷ []) (col 1 1 ∷ col 1 2 ∷ col 2 2 ∷ [])
+    ((col 1 1, ascending Binary) ∷ (col 1 2, ascending Binary) ∷ []))
+    { from = inner inside_tree (inner card_tree end) })
+unfolding understood everything
+walk_inside = record { query = (_, refl); plain = (refl, refl); listing = refl }
+
+pub walk_bookings : Asks text.walk_bookings
+    (single stay_tree (compare Eq (col 1 6) (lit (Int (pos 0))) ∷ []) all_seven ((col 1 0, ascending Binary) ∷ []))
+unfolding understood everything
+walk_bookings = record { query = (_, refl); plain = (refl, refl); listing = refl }
+
+pub walk_kinds : Asks text.read_kind
+    (single kind_tree [] (columns (1 ∷ [])) ((col 1 1, ascending Binary) ∷ []))
+unfolding understood everything
+walk_kinds = record { query = (_, refl); plain = (refl, refl); listing = refl }

@@ -2,11 +2,17 @@
 ghost use Rattle.std.specs.Prelude.{◌≡◌, ◌≢◌, ◌≤◌, ◌-◌, length, IfOk, IfErr};
 ghost use Rattle.sqlite.specs.Order.{Row as SqlRow, column};
 ghost use Rattle.hotel_statements.specs.Values.{number_of};
-ghost use Rattle.hotel_statements.specs.Readable.{IsCount, IsOfChain, IsInHouse, IsBehind};
-ghost use Rattle.hotel_statements.specs.Walks.{house_row_of, chain_row_of, behind_row_of};
+ghost use Rattle.hotel_statements.specs.Readable.{IsCount, IsOfChain, IsInHouse, IsBehind, IsOfStatus, IsOfInside};
+ghost use Rattle.hotel_statements.specs.Readable.{FirstColumnIs, IsKind};
+ghost use Rattle.hotel_statements.specs.Walks.{house_row_of, chain_row_of, behind_row_of, status_row_of};
+ghost use Rattle.hotel_statements.specs.Walks.{inside_row_of, free_row_of};
 
-use super::{FromRow, bit, code, counted, day, guest, kind_code, small_integer};
-use hotel_core::{BehindRow, ChainRow, CodeState, HouseRow};
+use super::{FromRow, bit, code, counted, day, guest, kind_code, maybe_counted, small_integer};
+use crate::walks::Counts;
+use hotel_core::{
+    BehindRow, ChainRow, CodeState, FreeRow, HouseRow, InsideRow, StatusRow, free_row,
+};
+use hotel_nights::{Day, Nights};
 use keycard_rules::LookFault;
 use sqlite::Row;
 use std::alloc::Global;
@@ -57,6 +63,34 @@ impl RowReader<ChainRow> for AtLock {
     }
 }
 
+/// Reads kinds, each with what is free of it on a business day, for so many nights from a day on.
+#[derive(Drop)]
+pub(crate) struct FreeOn<'a> {
+    pub(crate) counts: Counts<'a>,
+    pub(crate) today: Option<Day>,
+    pub(crate) arrive: Day,
+    pub(crate) nights: Nights,
+}
+
+impl RowReader<FreeRow> for FreeOn<'_> {
+    ghost says = { λ free. free_row_of free.counts.kinds.now free.counts.nights.now free.today free.arrive
+        free.nights };
+
+    ghost is_readable = { λ _. FirstColumnIs IsKind };
+
+    fn read(&self, _: Global, row: &Row) -> Result<FreeRow, LookFault> {
+        let kind = kind_code(row, 0)?;
+        Ok(free_row(
+            self.counts.kinds,
+            self.counts.nights,
+            self.today,
+            &kind,
+            self.arrive,
+            self.nights,
+        ))
+    }
+}
+
 impl FromRow for HouseRow {
     ghost of = { house_row_of };
 
@@ -96,6 +130,36 @@ impl FromRow for BehindRow {
             held: code(row, 1)?,
             current: code(row, 2)?,
             awaited: awaited(row)?,
+        })
+    }
+}
+
+impl FromRow for StatusRow {
+    ghost of = { status_row_of };
+
+    ghost is_readable = { IsOfStatus };
+
+    fn from_row(_: Global, row: &Row) -> Result<StatusRow, LookFault> {
+        Ok(StatusRow {
+            room: counted(row, 0)?,
+            kind: kind_code(row, 1)?,
+            party: maybe_counted(row, 2)?,
+            secured: bit(row, 5)?,
+            awaited: awaited(row)?,
+        })
+    }
+}
+
+impl FromRow for InsideRow {
+    ghost of = { inside_row_of };
+
+    ghost is_readable = { IsOfInside };
+
+    fn from_row(_: Global, row: &Row) -> Result<InsideRow, LookFault> {
+        Ok(InsideRow {
+            room: counted(row, 0)?,
+            card: counted(row, 1)?,
+            party: counted(row, 2)?,
         })
     }
 }

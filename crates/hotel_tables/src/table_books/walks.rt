@@ -7,8 +7,10 @@ ghost use Rattle.hotel_core.specs.Books.Walks.{failure_of};
 ghost use Rattle.hotel_tables.specs.TableBooks.{failed};
 
 use crate::table_books::TableBooks;
-use hotel_core::{BehindRow, ChainRow, HouseRow, Sink, WalkFault, Walks};
-use hotel_nights::{Day, Stay};
+use hotel_core::{
+    BehindRow, ChainRow, FreeRow, HouseRow, InsideRow, Sink, StatusRow, WalkFault, Walks,
+};
+use hotel_nights::{Day, Nights, Stay};
 use hotel_statements::walks;
 use keycard_rules::{LockNote, LookFault, RoomNo};
 use sqlite::Alter;
@@ -73,6 +75,43 @@ impl<S: Alter> Walks for TableBooks<S> {
         self.ask()?;
         self.answers = false;
         let end = walks::audit(self.alloc, &mut self.conn, room, sink);
+        self.counting_walk(end)
+    }
+
+    fn walk_room_status<K: Sink<StatusRow>>(&mut self, sink: &mut K) -> Result<(), WalkFault> {
+        self.ask()?;
+        self.answers = false;
+        let end = walks::room_status(self.alloc, &mut self.conn, sink);
+        self.counting_walk(end)
+    }
+
+    fn walk_inside<K: Sink<InsideRow>>(&mut self, sink: &mut K) -> Result<(), WalkFault> {
+        self.ask()?;
+        self.answers = false;
+        let end = walks::cards_inside(self.alloc, &mut self.conn, sink);
+        self.counting_walk(end)
+    }
+
+    fn walk_bookings<K: Sink<Stay>>(&mut self, sink: &mut K) -> Result<(), WalkFault> {
+        self.ask()?;
+        self.answers = false;
+        let end = walks::bookings(self.alloc, &mut self.conn, sink);
+        self.counting_walk(end)
+    }
+
+    fn walk_availability<K: Sink<FreeRow>>(
+        &mut self,
+        day: Day,
+        nights: Nights,
+        sink: &mut K,
+    ) -> Result<(), WalkFault> {
+        self.ask()?;
+        self.answers = false;
+        let counts = walks::Counts {
+            kinds: &self.kinds,
+            nights: &self.nights,
+        };
+        let end = walks::availability(self.alloc, &mut self.conn, counts, day, nights, sink);
         self.counting_walk(end)
     }
 }

@@ -6,6 +6,7 @@ use Rattle.hotel_asks.specs.{Names.names_of, declared.verbs.Verb.Verb}
 use Rattle.hotel_asks.specs.declared.verbs.Verb.TheVariants.{Begin, AddKind, AddRoom, Reserve, Cancel, CheckIn, Spare}
 use Rattle.hotel_asks.specs.declared.verbs.Verb.TheVariants.{Reissue, Transfer, CheckOut, Refit, NextDay, Entered, Left}
 use Rattle.hotel_asks.specs.declared.verbs.Verb.TheVariants.{Recoded, Arrivals, InHouse, ChainOf, LeftBehind, AuditOf}
+use Rattle.hotel_asks.specs.declared.verbs.Verb.TheVariants.{BusinessDay, RoomStatus, Inside, Bookings, Availability}
 use Rattle.hotel_asks.specs.{Asks.command_of, Asks.copies, Values.IsReading}
 use Rattle.hotel_asks.proofs.asks.read_command.Goals.{in_default-via-in-Begin+then-values-lt1}
 use Rattle.hotel_asks.proofs.asks.read_command.Goals.{in_default-via-in-Begin+else-values-lt1+else-this-lt2}
@@ -185,5 +186,10 @@ returns-in_default c = let no = misfit c.args.verb c.args.values.now in elim c.i
         | ChainOf ↦ λ is. rw is refl
         | LeftBehind ↦ λ is. rw is refl
         | AuditOf ↦ λ is. rw is refl
+        | BusinessDay ↦ λ is. rw is refl
+        | RoomStatus ↦ λ is. rw is refl
+        | Inside ↦ λ is. rw is refl
+        | Bookings ↦ λ is. rw is refl
+        | Availability ↦ λ is. rw is refl
       ]) refl
 ]

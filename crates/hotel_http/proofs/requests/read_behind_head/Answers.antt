@@ -13,8 +13,9 @@ pub returns-in-Err-clause-ends : goal.returns-in-Err-clause-ends
 returns-in-Err-clause-ends g c head at =
     let here =
     subst (λ (l : List ℕ). IsRequestAt l c.args.headers.now c.args.spans.now head) (sym c.head_part-front.ensures) at in
-    head_rejected head c.in-Err.why (λ left. drop c.args.spans.now.len (c.args.bytes.now ++ left)) _ _
-    (sym (c.in-Err.ensures head here)) c.refused.result c.refused.ensures.asks
+    head_rejected c.args.service.origins head c.in-Err.why
+    (λ left. drop c.args.spans.now.len (c.args.bytes.now ++ left)) _ _ (sym (c.in-Err.ensures head here))
+    c.refused.result c.refused.ensures.asks
 
 pub returns-in-Ok-clause-ends : goal.returns-in-Ok-clause-ends
 returns-in-Ok-clause-ends g c head at =
@@ -23,8 +24,8 @@ returns-in-Ok-clause-ends g c head at =
     let text = c.target_text.ensures (subst IsUtf8 (sym here.path) here.reads.0.target_text) in
     let fits : c.args.spans.now.len ≤ length c.args.bytes.now =
     omega (arith, length-take HEAD_BYTES c.args.bytes.now, c.requires.section.len_fits) in
-    head_ends head c.in-Ok.plan _ c.args.bytes.now c.args.spans.now.len _ _ _ _ c.read_planned.result fits
-    (sym (c.in-Ok.ensures head here))
+    head_ends c.args.service.origins head c.in-Ok.plan _ c.args.bytes.now c.args.spans.now.len _ _ _ _
+    c.read_planned.result fits (sym (c.in-Ok.ensures head here))
     (c.path_part-path.ensures ∙ ap path_of (text ∙ here.path))
     c.behind-begun.ensures c.read_planned.ensures.ends
 
@@ -37,5 +38,5 @@ returns-in-Ok-clause-wanted g c head at =
     subst (λ (l : List ℕ). IsRequestAt l c.args.headers.now c.args.spans.now head) (sym c.head_part-front.ensures) at in
     let fits : c.args.spans.now.len ≤ length c.args.bytes.now =
     omega (arith, length-take HEAD_BYTES c.args.bytes.now, c.requires.section.len_fits) in
-    body_read head c.in-Ok.plan c.args.bytes.now c.args.spans.now.len _ _ _ fits
+    body_read c.args.service.origins head c.in-Ok.plan c.args.bytes.now c.args.spans.now.len _ _ _ fits
     (sym (c.in-Ok.ensures head here)) c.behind-begun.ensures c.read_planned.ensures.wanted

@@ -16,7 +16,8 @@ read_behind_head-requires g c =
 pub returns-clause-ends : goal.returns-clause-ends
 returns-clause-ends g c =
     let read = c.in_ok-read_head.ensures in
-    request_ends (g.R.Read.remaining c.args.reader.now) (g.R.Read.remaining c.read_head.new.reader)
+    request_ends c.args.service.origins (g.R.Read.remaining c.args.reader.now)
+    (g.R.Read.remaining c.read_head.new.reader) (g.R.Read.remaining c.read_behind_head.new.reader)
     (g.W.Write.contents c.args.writer.now) (g.W.Write.contents c.read_behind_head.new.writer)
     c.read_behind_head.result c.in-Whole.is c.deref.ensures.value read.taken read.within read.judged
     c.read_behind_head.ensures.ends
@@ -24,15 +25,16 @@ returns-clause-ends g c =
 pub returns-clause-wanted : goal.returns-clause-wanted
 returns-clause-wanted g c =
     let read = c.in_ok-read_head.ensures in
-    request_read (g.R.Read.remaining c.args.reader.now) (g.R.Read.remaining c.read_head.new.reader)
-    (g.R.Read.remaining c.read_behind_head.new.reader) (omega arith) c.in-Whole.is
+    request_read c.args.service.origins (g.R.Read.remaining c.args.reader.now)
+    (g.R.Read.remaining c.read_head.new.reader) (g.R.Read.remaining c.read_behind_head.new.reader) (omega arith)
+    c.in-Whole.is
     c.deref.ensures.value read.taken read.within read.wanted c.read_behind_head.ensures.wanted
 
 pub returns-clause-follows : goal.returns-clause-follows
 returns-clause-follows g c =
     let read = c.in_ok-read_head.ensures in
-    follows_whole (g.R.Read.remaining c.args.reader.now) c.read_behind_head.result c.in-Whole.is c.deref.ensures.value
-    read.within read.judged c.read_behind_head.ensures.follows
+    follows_whole c.args.service.origins (g.R.Read.remaining c.args.reader.now) c.read_behind_head.result c.in-Whole.is
+    c.deref.ensures.value read.within read.judged c.read_behind_head.ensures.follows
 
 pub returns-clause-before : goal.returns-clause-before
 returns-clause-before g c failed = head_kept (g.R.Read.remaining c.args.reader.now) _ _ c.in_ok-read_head.ensures.wanted

@@ -5,6 +5,6 @@ use Rattle.hotel_http.specs.Tasks.{field_texts, texts_of}
 use Rattle.hotel_http.proofs.tasks.texts_of.Given as goal
 
 abbrev pub invariant-loop-name : goal.invariant-loop-name
-invariant-loop-name l = (length l.texts ≤ 1 + l.name-index)
+invariant-loop-name l = (length l.texts ≤ 2 + l.name-index)
     × (option_map (λ later. l.texts ++ later) (field_texts (map (λ n. n.now) (drop l.name-index l.name-items)) l.form)
     ≡ texts_of l.fn.verb l.fn.path l.form)

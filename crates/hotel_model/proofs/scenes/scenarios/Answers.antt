@@ -2,7 +2,7 @@ use Rattle.hotel_nights.specs.FullNight.{nights_taken, first_day}
 use Rattle.std.proofs.Common.{refl}
 use Rattle.std.specs.Str.{is_utf8, chars}
 use lib.Utf8.{encode}
-use Rattle.hotel_model.specs.Answer.{answer_to}
+use Rattle.hotel_model.specs.{Answer.answer_to, Words.greatest}
 use Rattle.keycard_rules.specs.Draw.{draw_from}
 use Rattle.hotel_model.proofs.scenes.scenarios.Goals as goal
 
@@ -105,6 +105,10 @@ returns-clause-desk_day c = (refl, refl, refl)
 pub returns-clause-note_refusals : goal.returns-clause-note_refusals
 unfolding answer_to draw_from nights_taken first_day is_utf8 chars encode
 returns-clause-note_refusals c = (refl, refl, refl)
+
+pub returns-clause-clerk_asks : goal.returns-clause-clerk_asks
+unfolding answer_to draw_from nights_taken first_day greatest is_utf8 chars encode
+returns-clause-clerk_asks c = (refl, refl, refl)
 
 pub returns-clause-sound_start : goal.returns-clause-sound_start
 unfolding answer_to draw_from nights_taken first_day is_utf8 chars encode

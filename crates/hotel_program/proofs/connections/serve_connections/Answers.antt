@@ -1,11 +1,11 @@
 use Rattle.std.proofs.Common.{[], ◌∷◌, ◌++◌, length-append, refl, arith}
 use Rattle.keycard_rules.proofs.CallsTogether.{passes_push}
-use Rattle.hotel_program.specs.Connections.{Connects, sockets}
-use Rattle.hotel_program.proofs.ConnectionsLemmas.{all_happened, then_told}
+use Rattle.hotel_program.specs.Connections.{ConnectsAndTells, sockets}
+use Rattle.hotel_program.proofs.ConnectionsLemmas.{all_happened}
 use Rattle.hotel_program.proofs.connections.serve_connections.Goals as goal
 
 pub loop-init : goal.loop-init
-loop-init g c = record { ends = ([], refl, refl, refl) }
+loop-init g c = record { ends = ([], refl, refl) }
 
 pub loop-preserved : goal.loop-preserved
 loop-preserved g c =
@@ -15,9 +15,8 @@ loop-preserved g c =
       ends = (
         first.0 ++ next.0 ∷ [],
         simp length-append (omega (arith, first.1)),
-        then_told g.F.FaultSink.told first.0 (next.0 ∷ []) _ _ _ first.2 next.1,
-        passes_push (Connects (sockets g.L.Listener g.L.Caller.Caller) g.B.Kept g.B.Books.rows g.R.Rng.stream) _ first.0
-            first.3 next.2,
+        passes_push (ConnectsAndTells (sockets g.L.Listener g.L.Caller.Caller) g.B.Kept g.B.Books.rows g.R.Rng.stream
+            g.F.FaultSink.told) _ first.0 first.2 next.1,
       );
     }
 
@@ -28,8 +27,7 @@ returns-clause-ends g c =
       ends = ends.0;
       last = _;
       all = omega (arith, ends.1);
-      told = ends.2;
-      connects = ends.3;
-      happened = all_happened (sockets g.L.Listener g.L.Caller.Caller) g.B.Kept g.B.Books.rows g.R.Rng.stream _ _ ends.0
-          ends.3;
+      connects = ends.2;
+      happened = all_happened (sockets g.L.Listener g.L.Caller.Caller) g.B.Kept g.B.Books.rows g.R.Rng.stream
+          g.F.FaultSink.told _ _ ends.0 ends.2;
     }

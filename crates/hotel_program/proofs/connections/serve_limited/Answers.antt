@@ -5,6 +5,7 @@ use Rattle.std.specs.Duration.{as_nanos}
 use base.Stored.{Coded-set}
 use Rattle.hotel_lists.specs.Reads.{ReadsWhile}
 use Rattle.hotel_http.specs.Request.{MayFollow, WantsMore}
+use Rattle.hotel_http.specs.declared.origins.Origins.TheVariants.{Local}
 use Rattle.hotel_program.specs.Connections.{ReadsBehind, follows_in}
 use Rattle.hotel_program.specs.Timed.{Reads, WrittenSince}
 use Rattle.hotel_program.proofs.ConnectionsLemmas.{lingered_behind, none_behind, same_served}
@@ -55,11 +56,11 @@ returns-clause-served g c =
           (since_written g.L.Caller stream writer.stream.now c.args.writes (writes, left) c.requires.writes of');
       serves = same_served g.B.Kept g.B.Books.rows g.R.Rng.stream _ _ _ known rest text grown
           c.serve_stream-end.ensures.serves;
-      wanted = subst (λ (o : Option (List ℕ)). ReadsWhile WantsMore o (g.L.Caller.remaining stream reader.caller)) known
-          (subst (ReadsWhile WantsMore
+      wanted = subst (λ (o : Option (List ℕ)). ReadsWhile (WantsMore Local) o
+          (g.L.Caller.remaining stream reader.caller)) known (subst (ReadsWhile (WantsMore Local)
           (g.L.Caller.remaining c.new-reader.result.stream.now c.new-reader.result.caller)) rest
           c.serve_stream-end.ensures.wanted);
-      follows = subst (λ (o : Option (List ℕ)). IfOk end (λ done. IfSome o (λ input. MayFollow input done.follows)))
-          known c.serve_stream-end.ensures.follows;
+      follows = subst (λ (o : Option (List ℕ)). IfOk end
+          (λ done. IfSome o (λ input. MayFollow Local input done.follows))) known c.serve_stream-end.ensures.follows;
       behind = behind;
     }

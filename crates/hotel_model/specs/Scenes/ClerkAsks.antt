@@ -1,0 +1,46 @@
+-- The scenario "clerk-asks": what day it is, what is free, what is booked, how the rooms stand and who is inside.
+use Rattle.std.specs.Prelude.{List, [], ◌∷◌, Some, None, true, false, codes}
+use Rattle.keycard_rules.specs.declared.note.TheConstants.{LAST_DAY}
+use Rattle.hotel_nights.specs.declared.stay.StayState.TheVariants.{Booked}
+use Rattle.hotel_model.specs.Scenes.Words.{may, a0, a1, a2, DBL, SGL, begin, add_kind, add_room, reserve, check_in}
+use Rattle.hotel_model.specs.Scenes.Words.{check_out, next_day, entered, begun, kind_added, room_code, party, card, day}
+use Rattle.hotel_model.specs.Scenes.Words.{taken, checked_out, status, free}
+use Rattle.hotel_model.specs.Scenes.Lines.{Line, ◌⇒◌, BusinessDay, RoomStatus, Inside, Bookings, Availability, Holds}
+
+abbrev pub lines : List Line
+lines =
+    BusinessDay []
+    ∷ begin (may 1) ⇒ begun
+    ∷ BusinessDay (may 1 ∷ [])
+    ∷ add_kind DBL ⇒ kind_added
+    ∷ add_kind SGL ⇒ kind_added
+    ∷ add_room 101 DBL ⇒ room_code a0
+    ∷ Availability (may 1) 2 (free DBL 1 1 ∷ free SGL 0 0 ∷ [])
+    ∷ reserve DBL (may 2) 1 (codes "Ann") ⇒ party 1
+    ∷ Availability (may 1) 2 (free DBL 1 0 ∷ free SGL 0 0 ∷ [])
+    ∷ Availability (may 1) 1 (free DBL 1 1 ∷ free SGL 0 0 ∷ [])
+    ∷ Availability (may 0) 1 (free DBL 1 0 ∷ free SGL 0 0 ∷ [])
+    ∷ Availability LAST_DAY 1 (free DBL 1 0 ∷ free SGL 0 0 ∷ [])
+    ∷ Bookings (record {
+      party = 1;
+      guest = codes "Ann";
+      kind = DBL;
+      arrive = may 2;
+      depart = may 3;
+      state = Booked;
+    } ∷ [])
+    ∷ next_day ⇒ day (may 2)
+    ∷ check_in 1 101 ⇒ card 1 1 a0 a1
+    ∷ Bookings []
+    ∷ Availability (may 2) 1 (free DBL 1 0 ∷ free SGL 0 0 ∷ [])
+    ∷ RoomStatus (status 101 (Some 1) false 1 ∷ [])
+    ∷ entered 101 1 1 a0 a1 (may 2, 54000) ⇒ taken
+    ∷ RoomStatus (status 101 (Some 1) true 0 ∷ [])
+    ∷ Inside (record { room = 101; card = 1; party = 1 } ∷ [])
+    ∷ check_out 1 ⇒ checked_out
+    ∷ RoomStatus (status 101 None true 0 ∷ [])
+    ∷ Inside (record { room = 101; card = 1; party = 1 } ∷ [])
+    ∷ []
+
+abbrev pub TheScene : Type 0
+TheScene = Holds (a0 ∷ a1 ∷ []) a2 lines
