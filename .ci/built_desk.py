@@ -1,5 +1,6 @@
 """The built program as the tests of this folder run it: what it is given, and what it answers."""
 import concurrent.futures
+import contextlib
 import errno
 import functools
 import itertools
@@ -51,6 +52,9 @@ def first_codes(count):
 # sync.
 ROOM = "/dev/shm" if os.access("/dev/shm", os.W_OK) else None
 
+# How many processors this may use.
+PROCESSORS = len(os.sched_getaffinity(0))
+
 CODES = first_codes(640)
 FIRST, SECOND = CODES[:2]
 CARD = f"card 1 party 1 old {FIRST} new {SECOND}\n".encode()
@@ -97,7 +101,7 @@ def answer(status, body, media="plain", allow=""):
 
 def request(line, body=b""):
     """The bytes of a request."""
-    return f"{line} HTTP/1.1\r\nHost: desk\r\nContent-Length: {len(body)}\r\n\r\n".encode() + body
+    return f"{line} HTTP/1.1\r\nHost: localhost\r\nContent-Length: {len(body)}\r\n\r\n".encode() + body
 
 
 def text_of(lines):
@@ -132,6 +136,12 @@ def preloaded():
     made = tempfile.NamedTemporaryFile(suffix=".so")
     subprocess.run(["cc", "-O1", "-shared", "-fPIC", "-o", made.name, HERE / "failing_calls.c"], check=True)
     return made
+
+
+def failing_main(tests):
+    """Runs tests that preload the library, one for each processor at once, and counts them."""
+    preloaded()
+    main(tests, at_once=PROCESSORS)
 
 
 class Desk:
@@ -250,11 +260,28 @@ class Desk:
         return said, server.wait(60), server.stderr.read()
 
 
+@functools.cache
+def ports():
+    """Ports that no other script of this folder takes, one after the other: a hundred below those that a system takes
+    for its clients. The first is held as long as this runs."""
+    for first in range(20000, 32700, 100):
+        held = socket.socket()
+        try:
+            held.bind(("127.0.0.1", first))
+        except OSError:
+            held.close()
+            continue
+        return held, itertools.cycle(range(first + 1, first + 100))
+    raise AssertionError("no hundred ports are free")
+
+
 def free_port():
     """A port that nothing has."""
-    with socket.socket() as probe:
-        probe.bind(("127.0.0.1", 0))
-        return probe.getsockname()[1]
+    for port in ports()[1]:
+        with socket.socket() as probe, contextlib.suppress(OSError):
+            probe.setsockopt(socket.SOL_SOCKET, socket.SO_REUSEADDR, 1)
+            probe.bind(("127.0.0.1", port))
+            return port
 
 
 def serve(program, count, *words, env=None):
@@ -293,13 +320,13 @@ def wrong_cases(program, test):
         return [case for case in test(Desk(program, pathlib.Path(made))) if case[1] != case[2]]
 
 
-def main(tests, waiting=()):
-    """Runs these tests of the program that is named by the first word, or of the built one, and behind them those that
-    mostly wait, side by side; and counts them."""
+def main(tests, waiting=(), at_once=1):
+    """Runs these tests of the program that is named by the first word, or of the built one, so many at once, and behind
+    them those that mostly wait, side by side; and counts them."""
     program = pathlib.Path(sys.argv[1] if len(sys.argv) > 1 else DESK).resolve()
     failed = 0
-    for group, at_once in ((tests, 1), (waiting, max(1, len(waiting)))):
-        with concurrent.futures.ThreadPoolExecutor(at_once) as pool:
+    for group, number in ((tests, at_once), (waiting, max(1, len(waiting)))):
+        with concurrent.futures.ThreadPoolExecutor(number) as pool:
             for test, wrong in zip(group, pool.map(functools.partial(wrong_cases, program), group)):
                 for given, wanted, got in wrong[:3]:
                     print(f"{test.__name__}, given {given!r}: wanted {wanted!r:.300}, and got {got!r:.300}")

@@ -27,7 +27,7 @@ TEST_CRATES = ("hotel_tests", "hotel_client")
 # The documents whose tables name clauses and tests.
 WITH_CLAUSES = ("PROOFS", "FAULTS", "LIMITS", "TESTING")
 # Words of other libraries that documents name.
-FOREIGN = {"assert_eq", "auto_vacuum", "sqlite_stat1"}
+FOREIGN = {"assert_eq", "auto_vacuum", "proxy_pass", "proxy_set_header", "sqlite_stat1"}
 
 IDENTIFIER = re.compile(r"[A-Za-z]\w*_\w+|[A-Z][a-z0-9]+(?:[A-Z][a-z0-9]*)+")
 FOLDERS = "src|specs|proofs|must-fail"
@@ -124,10 +124,15 @@ def words_named(code):
                 yield place, f"{crate}/{name}", crate in CRATES and (is_there(crate, name) or name.isupper())
 
 
+def functions_of(text):
+    """The functions of a script, and those that it takes from modules."""
+    taken = re.findall(r"^from \w+ import (\([^)]*\)|.*)", text, re.M)
+    return set(re.findall(r"^def (\w+)", text, re.M)) | {name for names in taken for name in re.findall(r"\w+", names)}
+
+
 def clauses_named(code):
     """The clauses `name.clause`, and `name`: `clause`, `clause`; the scenarios, the tests and the functions of .ci."""
-    scripts = {path.name: set(re.findall(r"^def (\w+)", path.read_text(), re.M)) for path in (TOP / ".ci").iterdir()
-               if path.is_file()}
+    scripts = {path.name: functions_of(path.read_text()) for path in (TOP / ".ci").iterdir() if path.is_file()}
     tests = collections.defaultdict(set)
     for crate in TEST_CRATES:
         for path, text in texts(CRATES[crate] / "src", ".rt"):

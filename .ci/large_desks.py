@@ -3,6 +3,7 @@
 1,500 rooms of 400 kinds, guests of each length from 1 to 60 bytes, and a room with 12,000 past stays. Each room has had
 some stays; some have a party in house, cards inside, codes that are left behind, a lock that a recoding set, or, in the
 second version, a lock that was replaced."""
+import collections
 import datetime
 import itertools
 import random
@@ -38,8 +39,15 @@ before INTEGER NOT NULL, PRIMARY KEY (room, fit), UNIQUE (room, place)) STRICT;
 BOOKED, IN_HOUSE, DONE, CANCELLED = range(4)
 ENTERED, LEFT, RECODED = range(3)
 TODAY, SECONDS = 11443, 86400  # 2031-05-01, counted from 2000-01-01
-# On this day each room is booked.
-FULL = TODAY + 40
+# On the first of these days each room is booked, and from the second on some.
+FULL, LATER = TODAY + 40, TODAY + 100
+LAST_DAY, MOST_NIGHTS = 36524, 90  # 2099-12-31
+# Days and numbers of nights for which a party may ask: from the business day on, about each of these days, in the past,
+# and about the last day.
+ASKED = [(TODAY, 1), (TODAY, 30), (TODAY, MOST_NIGHTS), (FULL - 1, 1), (FULL - 1, 2), (FULL, 1), (FULL + 24, 1),
+         (FULL + 49, 1), (FULL + 50, 1), *((LATER + day, nights) for day in range(-1, 6) for nights in (1, 2, 4)),
+         (FULL + 50, MOST_NIGHTS), (TODAY - 1, 1), (TODAY - 1, 2), (0, 1), (LAST_DAY, 1), (LAST_DAY - 1, 1),
+         (LAST_DAY - 1, 2), (LAST_DAY - MOST_NIGHTS, MOST_NIGHTS), (LAST_DAY - MOST_NIGHTS + 1, MOST_NIGHTS)]
 KINDS = sorted(f"{'KINDS'[:number % 6]}{number:03}" for number in range(400))
 ROOMS, LONG_ROOM, LONG = range(1005, 10000, 6), 9999, 12000
 
@@ -127,6 +135,9 @@ class LargeDesk:
         for room in self.rooms:
             self.booked(room.kind, FULL, 1 + room.room % 50)
         self.stays[self.booked(KINDS[0], FULL, 1)]["state"] = CANCELLED
+        for number, kind in enumerate(KINDS):
+            for stay in range(number % 4):
+                self.booked(kind, LATER + stay * (number % 3), 1 + number % 5)
 
     def booked(self, kind, arrive, nights):
         """A stay is booked; its party."""
@@ -183,10 +194,11 @@ class LargeDesk:
                     db.executemany(f"INSERT INTO {table} VALUES ({', '.join('?' * len(rows[0]))})", rows)
         db.close()
 
-    def arrivals(self, day):
+    def bookings(self, day=None):
+        """The booked stays, of each day or of one."""
         yield "party,guest,kind,arrive,depart"
         for party, stay in self.stays.items():
-            if stay["state"] == BOOKED and stay["arrive"] <= day < stay["depart"]:
+            if stay["state"] == BOOKED and (day is None or stay["arrive"] <= day < stay["depart"]):
                 days = f"{day_of(stay['arrive'])},{day_of(stay['depart'])}"
                 yield f"{party},{field(stay['guest'])},{stay['kind']},{days}"
 
@@ -204,12 +216,44 @@ class LargeDesk:
             if awaited >= 2:
                 yield f"{it.room},{it.codes[it.place]:012x},{it.codes[-1]:012x},{awaited}"
 
+    def room_status(self):
+        yield "room,kind,party,secured,awaited"
+        for it in self.rooms:
+            secured, awaited = "yes" if it.secured else "no", len(it.codes) - 1 - it.place
+            yield f"{it.room},{it.kind},{it.party or ''},{secured},{awaited}"
+
+    def cards_inside(self):
+        yield "room,card,party"
+        party_of = {number: party for number, party, *_ in self.cards}
+        for it in self.rooms:
+            for card in sorted(it.inside):
+                yield f"{it.room},{card},{party_of[card]}"
+
+    def availability(self, day, nights):
+        """Of each kind its rooms, and how many of them no stay that is booked or in house takes on any of these nights.
+        """
+        yield "kind,rooms,free"
+        rooms = collections.Counter(it.kind for it in self.rooms)
+        taken = collections.Counter(
+            (stay["kind"], night) for stay in self.stays.values() if stay["state"] in (BOOKED, IN_HOUSE)
+            for night in range(max(day, stay["arrive"]), min(day + nights, stay["depart"])))
+        is_ahead = TODAY <= day and day + nights <= LAST_DAY
+        for kind in KINDS:
+            most = max(taken[kind, night] for night in range(day, day + nights))
+            yield f"{kind},{rooms[kind]},{max(0, rooms[kind] - most) if is_ahead else 0}"
+
     def lists(self):
         """The lines of each list, and its text."""
+        yield "business-day", ["day", day_of(TODAY)]
         yield "in-house", self.in_house()
         yield "left-behind", self.left_behind()
+        yield "room-status", self.room_status()
+        yield "inside", self.cards_inside()
+        yield "bookings", self.bookings()
         for day in (TODAY, FULL - 1, FULL, FULL + 1, FULL + 49, FULL + 50):
-            yield f"arrivals {day_of(day)}", self.arrivals(day)
+            yield f"arrivals {day_of(day)}", self.bookings(day)
+        for day, nights in ASKED:
+            yield f"availability {day_of(day)} {nights}", self.availability(day, nights)
         for it in self.rooms:
             yield f"chain {it.room}", chain(it)
             yield f"audit-of {it.room}", audit(it)

@@ -32,7 +32,7 @@ TOP = pathlib.Path(__file__).resolve().parent.parent
 ROUTES = TOP / "crates" / "hotel_http" / "specs" / "Routes.antt"
 METHODS = ["GET", "POST", "HEAD", "PUT", "DELETE", "OPTIONS", "BEGIN"]
 UNTRIED = "503"
-BEGUN = b"HTTP/1.1\r\nHost: desk\r\n"
+BEGUN = b"HTTP/1.1\r\nHost: localhost\r\n"
 # The limits of requests, which the file says in words alone.
 MOST_BODY, MOST_HEAD, MOST_FIELDS = 262_144, 16_384, 64
 
@@ -110,7 +110,7 @@ def encoded(body):
     return body.encode() if isinstance(body, str) else urllib.parse.urlencode(body).encode()
 
 
-def request(method, target, body=b"", fields=("Host: desk",), length=None):
+def request(method, target, body=b"", fields=("Host: localhost",), length=None):
     """The bytes of a request."""
     said = [f"{method} {target} HTTP/1.1", *fields, f"Content-Length: {len(body) if length is None else length}"]
     return "".join(f"{line}\r\n" for line in said).encode() + b"\r\n" + body
@@ -144,14 +144,14 @@ def misfits(operation):
 def with_bad_head(operation):
     """Requests with a wrong head, or of a body that is cut."""
     in_path, body = operation.good()
-    yield operation.request(in_path, body, fields=["Host: desk", "Host: desk"])
+    yield operation.request(in_path, body, fields=["Host: localhost", "Host: localhost"])
     yield operation.request(in_path, body, fields=[])
-    yield operation.request(in_path, body, fields=["Host: desk", f"Content-Length: {len(encoded(body))}"])
+    yield operation.request(in_path, body, fields=["Host: localhost", f"Content-Length: {len(encoded(body))}"])
     for length in ("", "+1", "1x"):
         yield operation.request(in_path, body, length=length)
-    for line in (b"HTTP/2.0\r\nHost: desk\r\n", b"HTTP/1.0\r\nHost: desk\r\nHost: desk\r\n"):
+    for line in (b"HTTP/2.0\r\nHost: localhost\r\n", b"HTTP/1.0\r\nHost: localhost\r\nHost: localhost\r\n"):
         yield operation.request(in_path, body).replace(BEGUN, line, 1)
-    yield request(operation.method, "http://desk" + operation.target(in_path), encoded(body))
+    yield request(operation.method, "http://localhost" + operation.target(in_path), encoded(body))
     if operation.method == "POST":
         yield operation.request(in_path, body, length=len(encoded(body)) + 1)
 
@@ -159,10 +159,11 @@ def with_bad_head(operation):
 def in_other_forms(operation):
     """Requests that differ from the first example in what isn't looked at."""
     in_path, body = operation.good()
-    for fields in (["Host:"], ["Host: page.example:80"], ["hOST: desk", "Content-Type: text/plain"],
-                   ["Host: desk", "Origin: http://page.example", "Cookie: a=b", "Referer: http://page.example/"],
-                   ["Host: desk", "Connection: upgrade, keep-alive", "Upgrade: h2c"], ["Host: desk", "Expect: b"],
-                   ["Host: desk", "Expect: 100-Continue"], ["Host: desk", *["A: b"] * (MOST_FIELDS - 2)]):
+    for fields in (["Host: 127.0.0.1:80"], ["hOST: localHost:", "Content-Type: text/plain"],
+                   ["Host: localhost", "Cookie: a=b", "Referer: http://page.example/"],
+                   ["Host: localhost", "Connection: upgrade, keep-alive", "Upgrade: h2c"],
+                   ["Host: localhost", "Expect: b"], ["Host: localhost", "Expect: 100-Continue"],
+                   ["Host: localhost", *["A: b"] * (MOST_FIELDS - 2)]):
         yield operation.request(in_path, body, fields=fields)
     good = operation.request(in_path, body)
     yield good.replace(BEGUN, b"HTTP/1.0\r\n", 1)
@@ -198,19 +199,26 @@ def by_other_methods(operation):
             yield request(method, operation.target(in_path), encoded(body))
 
 
+def of_pages(operation):
+    """Requests as a page in a browser has them sent, by a form, or by a name that leads here."""
+    in_path, body = operation.good()
+    for fields in (["Host:"], ["Host: page.example:80"], ["Host: localhost", "Origin: http://page.example"]):
+        yield operation.request(in_path, body, fields=fields)
+
+
 def with_fields(*fields, **other):
     """Requests with these fields behind Host."""
     def made(operation):
         in_path, body = operation.good()
-        yield operation.request(in_path, body, fields=["Host: desk", *fields], **other)
+        yield operation.request(in_path, body, fields=["Host: localhost", *fields], **other)
     return made
 
 
 def of_long_heads(operation):
     """Requests with a field more than a head may have, and with a byte more."""
     in_path, _ = operation.good()
-    yield operation.request(in_path, "", fields=["Host: desk", *["A: b"] * (MOST_FIELDS - 1)])
-    begun = f"{operation.method} {operation.target(in_path)} HTTP/1.1\r\nHost: desk\r\nA: ".encode()
+    yield operation.request(in_path, "", fields=["Host: localhost", *["A: b"] * (MOST_FIELDS - 1)])
+    begun = f"{operation.method} {operation.target(in_path)} HTTP/1.1\r\nHost: localhost\r\nA: ".encode()
     yield begun.ljust(MOST_HEAD + 1, b"b")
 
 
@@ -218,6 +226,7 @@ def of_long_heads(operation):
 WRONG = {
     ("400", "head"): with_bad_head,
     ("400", "value"): with_fields_amiss,
+    ("403", "page"): of_pages,
     ("404", "path"): at_other_paths,
     ("405", "method"): by_other_methods,
     ("413", "length"): with_fields(length=MOST_BODY + 1),

@@ -70,23 +70,14 @@ class Desk:
             if said.startswith(f"card {len(books.cards) + 2} "):
                 books.carry_out(verb, v)
             return self.done(verb, v, said)
-        lines, probe = [], {"kind": "NONE", "arrive": books.day, "nights": 1, "guest": "Nobody"}
-        if verb == "next-day":
-            # No list has the day. But a kind without rooms is full on each night, unless the night is over.
-            seen, is_done = "", self.way.command("reserve", probe) == "refused 15 PastArrival"
-        else:
-            room = v["note"].room if "note" in v else v.get("room") or stay and stay.room
-            day = v.get("arrive") or (stay.arrive if stay else books.day)
-            lines = ["in-house", f"arrivals {day_text(day)}", *self.lists_of([room] if room else [])]
-            seen = self.way.lists(lines)
-            is_done = seen != "".join(map(books.list_of, lines))
-        if not is_done:
+        room = v["note"].room if "note" in v else v.get("room") or stay and stay.room
+        lines = ["business-day", "in-house", "bookings", *self.lists_of([room] if room else [])]
+        seen = self.way.lists(lines)
+        if seen == "".join(map(books.list_of, lines)):
             return self.do(verb, **v)
         self.counts["lost but done"] += 1
         new = [code for code in re.findall(CODE, seen) if code not in self.codes]
         result = self.done(verb, v, books.answer(verb, v, *new[:1]))
-        if verb == "next-day":
-            self.do("reserve", **probe)
         self.compare(lines)
         # The number of a card is in no list.
         return self.do("spare", party=v["party"]) if verb in ("check-in", "reissue", "transfer") else result
@@ -132,7 +123,8 @@ class Desk:
         return {line: text.split("\n")[1:-1] for line, text in wanted.items()}
 
     def compare_all(self):
-        return self.compare(["in-house", "left-behind", *self.lists_of(sorted(self.books.rooms))])
+        return self.compare(["business-day", "in-house", "room-status", "inside", "bookings", "left-behind",
+                             *self.lists_of(sorted(self.books.rooms))])
 
     def back_up(self, what, number, folder):
         """Takes a backup, or restores it; `hotel_backup` prints its day."""

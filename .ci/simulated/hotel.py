@@ -7,7 +7,7 @@ import time
 from simulated.guests import Guests
 from simulated.staff import Staff
 from simulated.things import Lock, day_text, ordinal
-from simulated.wanted import LAST_DAY
+from simulated.wanted import FIRST_DAY, LAST_DAY
 from simulated.ways import same
 
 # How often each comes, beside the others, and to one of whom.
@@ -59,14 +59,18 @@ class Hotel(Guests, Staff):
         return is_open
 
     def look(self):
-        """Compares lists: those of all rooms, some chains, one of bookings, and now and then one of notes."""
+        """Compares lists: those of all rooms, some chains, one of bookings, what is free for some nights, and now and
+        then one of notes."""
         books, chance = self.desk.books, self.chance
         if chance.random() < self.desk.way.looks:
             rooms = chance.sample(sorted(books.rooms), min(4, len(books.rooms)))
             day = min(LAST_DAY, books.day + chance.choice([0, chance.randint(0, 9)]))
             notes = [f"audit-of {rooms[0]}"] if chance.random() < 0.1 else []
             chains = [f"chain {room}" for room in rooms]
-            self.desk.compare(["in-house", "left-behind", f"arrivals {day_text(day)}", *chains, *notes])
+            nights = chance.choice([1, 1, 2, 3, chance.randint(1, 90)])
+            free = f"availability {day_text(max(FIRST_DAY, day - (chance.random() < 0.1)))} {nights}"
+            whole = chance.choice(["business-day", "room-status", "inside", "bookings"])
+            self.desk.compare(["in-house", "left-behind", f"arrivals {day_text(day)}", free, whole, *chains, *notes])
 
     def runs(self, days, until):
         """Opens the hotel. So many days, or fewer if the time is over."""

@@ -55,7 +55,9 @@ REFUSALS = {
 # docs/SCRIPTS.md, Lists.
 HEADERS = {"arrivals": "party,guest,kind,arrive,depart", "in-house": "room,party,guest,kind,depart,secured",
            "chain": "place,code,state", "left-behind": "room,held,current,awaited",
-           "audit-of": "room,fit,count,kind,card,old,new,at"}
+           "audit-of": "room,fit,count,kind,card,old,new,at", "business-day": "day",
+           "room-status": "room,kind,party,secured,awaited", "inside": "room,card,party",
+           "bookings": "party,guest,kind,arrive,depart", "availability": "kind,rooms,free"}
 
 
 def row(note):
@@ -177,10 +179,13 @@ class Books:
             return "refused 6 NoRoom\n"
         return "\n".join([HEADERS[name], *getattr(self, name.replace("-", "_"))(*value), ""])
 
-    def arrivals(self, day):
-        stays = (stay for stay in self.stays.values() if stay.arrive <= ordinal(day) < stay.depart)
+    def bookings(self, night=None):
         return [f"{stay.party},{field(stay.guest)},{stay.kind},{day_text(stay.arrive)},{day_text(stay.depart)}"
-                for stay in stays if stay.state == "booked"]
+                for stay in self.stays.values()
+                if stay.state == "booked" and (night is None or stay.arrive <= night < stay.depart)]
+
+    def arrivals(self, day):
+        return self.bookings(ordinal(day))
 
     def in_house(self):
         rooms = [(room, self.stays[room.party]) for _, room in sorted(self.rooms.items()) if room.party]
@@ -195,6 +200,25 @@ class Books:
     def left_behind(self):
         return [f"{number},{room.held},{room.codes[-1]},{len(room.awaited)}"
                 for number, room in sorted(self.rooms.items()) if len(room.awaited) >= 2]
+
+    def business_day(self):
+        return [day_text(self.day)] if self.day else []
+
+    def room_status(self):
+        return [f"{number},{room.kind},{room.party or ''},{'yes' if room.is_secured else 'no'},{len(room.awaited)}"
+                for number, room in sorted(self.rooms.items())]
+
+    def inside(self):
+        return [f"{number},{card},{self.cards[card].party}"
+                for number, room in sorted(self.rooms.items()) for card in sorted(room.inside)]
+
+    def availability(self, day, nights):
+        """The kinds with their rooms, and with what is free: what can be booked until a night is full."""
+        rooms, arrive = collections.Counter(room.kind for room in self.rooms.values()), ordinal(day)
+        depart = arrive + int(nights)
+        most = {kind: max(self.nights[kind, night] for night in range(arrive, depart)) for kind in self.kinds}
+        is_ahead = self.day is not None and self.day <= arrive and depart <= LAST_DAY
+        return [f"{kind},{rooms[kind]},{rooms[kind] - most[kind] if is_ahead else 0}" for kind in sorted(self.kinds)]
 
     def audit_of(self, number):
         return [row(note) for kept in self.rooms[int(number)].fits for note in kept]

@@ -13,14 +13,16 @@ from built_desk import HERE, answer, free_port
 from simulated.things import day_text
 from simulated.wanted import COMMANDS, HEADERS, row
 
-BACKUP = HERE.parent / "docs" / "hotel_backup"
+BACKUP = HERE.parent / "deploy" / "hotel_backup"
 # docs/HTTP.md, Routes.
 PATHS = {"begin": "/begin", "add-kind": "/kinds", "add-room": "/rooms", "reserve": "/reservations",
          "refit": "/rooms/{room}/refit", "next-day": "/next-day",
          **{verb: f"/reservations/{{party}}/{verb}" for verb in
             ("cancel", "check-in", "spare", "reissue", "transfer", "check-out")}}
 LISTS = {"arrivals": "/arrivals/{}", "in-house": "/in-house", "chain": "/rooms/{}/chain",
-         "left-behind": "/left-behind", "audit-of": "/rooms/{}/audit"}
+         "left-behind": "/left-behind", "audit-of": "/rooms/{}/audit", "business-day": "/business-day",
+         "room-status": "/room-status", "inside": "/inside", "bookings": "/bookings",
+         "availability": "/availability/{}/{}"}
 
 
 class Wrong(Exception):
@@ -81,7 +83,7 @@ class Way:
                                 stdin=subprocess.PIPE, stdout=subprocess.PIPE, stderr=subprocess.PIPE)
 
     def back_up(self, *words):
-        """Runs docs/hotel_backup, which kills a server, and returns what it prints: a backup and its day."""
+        """Runs deploy/hotel_backup, which kills a server, and returns what it prints: a backup and its day."""
         stop = f"bash {self.folder / 'stop'} {self.server.pid}" if self.server else "true"
         env = dict(os.environ, DB=str(self.db), STOP=stop, START="true", DESK=str(self.program))
         child = subprocess.run(["bash", BACKUP, *words], env=env, capture_output=True, timeout=120, check=False)
@@ -190,8 +192,12 @@ class ByHttp(Way):
 
     def request(self, method, path, body=b"", kill=None):
         """The body of the answer, whose head is as docs/HTTP.md has it (Answers)."""
-        more = "Origin: https://page.example\r\n" if self.chance.random() < 0.05 else ""
-        head = f"{method} {path} HTTP/1.1\r\nHost: desk\r\n{more}Content-Length: {len(body)}\r\n\r\n"
+        host = self.chance.choice(["localhost", "127.0.0.1:8080"])
+        head = f"{method} {path} HTTP/1.1\r\nHost: {host}\r\nContent-Length: {len(body)}\r\n\r\n"
+        if self.chance.random() < 0.05:
+            foreign = head.replace(host, "page.example") if self.chance.random() < 0.5 else (
+                head.replace("Host:", "Origin: https://page.example\r\nHost:"))
+            same("the answer to a page", answer("403 Forbidden", b"foreign\n"), self.exchange(foreign.encode() + body))
         said = self.exchange(head.encode() + body, kill)
         if said is None:
             return None

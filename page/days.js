@@ -1,0 +1,28 @@
+// Days of the calendar, as the desk writes them: 2031-05-01. None depends on the clock, the time zone or the language
+// of this computer, except `clockDay`.
+
+const dateOf = day => new Date(`${day}T00:00Z`);
+
+export function plus(day, days) {
+  const date = dateOf(day);
+  date.setUTCDate(date.getUTCDate() + days);
+  return date.toISOString().slice(0, 10);
+}
+
+export const nightsOf = (arrive, depart) => Math.round((dateOf(depart) - dateOf(arrive)) / 86_400_000);
+export const isWeekend = day => [0, 6].includes(dateOf(day).getUTCDay());
+
+const writer = options => {
+  const format = new Intl.DateTimeFormat("en-GB", { timeZone: "UTC", ...options });
+  return day => format.format(dateOf(day));
+};
+export const longDay = writer({ weekday: "long", day: "numeric", month: "long", year: "numeric" });
+export const shortDay = writer({ weekday: "short", day: "numeric", month: "short" });
+export const weekday = writer({ weekday: "short" });
+export const date = writer({ day: "numeric", month: "short" });
+
+// Today by this computer's calendar, where its clock and time zone are.
+export function clockDay() {
+  const now = new Date();
+  return [now.getFullYear(), now.getMonth() + 1, now.getDate()].map(part => String(part).padStart(2, "0")).join("-");
+}
