@@ -1,5 +1,5 @@
 -- The listing of a list over rows is that over a history for which they stand.
-use Rattle.std.proofs.Common.{◌≡◌, ℕ, List, Bool, true, false, sym, ap, ◌∙◌, Some, inl, inr, is_some}
+use Rattle.std.proofs.Common.{◌≡◌, ℕ, List, Bool, true, false, sym, ap, ◌∙◌, refl, Some, inl, inr, is_some}
 use Rattle.hotel_core.proofs.Names.{Rows, rows_of, History, is_room, Reached, StandsFor, room_at, chain_on}
 use Rattle.hotel_core.proofs.Names.{notes, notes_at}
 use Rattle.std.proofs.lemmas.Bool.{cases_Bool}
@@ -7,14 +7,16 @@ use Rattle.hotel_model.proofs.{Lifted.ListRows.lists_lift, OfTables.RoomNumbers.
 use Rattle.hotel_model.proofs.{OfTables.RoomNumbers.room_not_there}
 use Rattle.hotel_model.specs.Lists.{chain}
 use Rattle.hotel_lists.specs.RowLines.{arrivals_header, in_house_header, chain_header, left_behind_header, audit_header}
-use Rattle.hotel_lists.specs.RowLines.{day_header, status_header, inside_header, free_header}
+use Rattle.hotel_lists.specs.RowLines.{day_header, status_header, inside_header, free_header, locks_header}
 use Rattle.hotel_lists.specs.RowLines.{arrival_line, house_line, chain_line, behind_line, note_line}
-use Rattle.hotel_lists.specs.RowLines.{day_line, status_line, inside_line, free_line}
+use Rattle.hotel_lists.specs.RowLines.{day_line, status_line, inside_line, free_line, lock_line}
 use Rattle.hotel_lists.specs.Listings.{listing, of_room}
-use Rattle.hotel_core.specs.declared.asks.ListAsk.{ListAsk}
+use Rattle.hotel_lists.proofs.LookedLifts.{locks_same}
+use Rattle.hotel_asks.specs.declared.asked.ListAsk.{ListAsk}
 use Rattle.hotel_asks.specs.{Listings.listing_on, Listings.listing_over}
-use Rattle.hotel_core.specs.declared.asks.ListAsk.TheVariants.{Arrivals, InHouse, ChainOf, LeftBehind, AuditOf}
-use Rattle.hotel_core.specs.declared.asks.ListAsk.TheVariants.{BusinessDay, RoomStatus, Inside, Bookings, Availability}
+use Rattle.hotel_asks.specs.declared.asked.ListAsk.TheVariants.{Arrivals, InHouse, ChainOf, LeftBehind, AuditOf}
+use Rattle.hotel_asks.specs.declared.asked.ListAsk.TheVariants.{BusinessDay, RoomStatus, Inside, Bookings, Availability}
+use Rattle.hotel_asks.specs.declared.asked.ListAsk.TheVariants.{CardsGiven, CardOf, Locks}
 
 room_lifts : {R : Type 0} (h : History) (room : ℕ) (header : List ℕ) (line : R → List ℕ) (on_rows on_history : List R)
     → (is_room h room ≡ true → on_rows ≡ on_history)
@@ -51,6 +53,9 @@ listing_lifts h Bookings ok =
     ap (λ rows. Some (listing arrivals_header arrival_line rows)) (lists_lift h ok).of_bookings
 listing_lifts h (Availability day nights) ok =
     ap (λ rows. Some (listing free_header free_line rows)) ((lists_lift h ok).of_availability day nights)
+listing_lifts h (CardsGiven party) ok = refl
+listing_lifts h (CardOf number) ok = refl
+listing_lifts h Locks ok = ap (λ rows. Some (listing locks_header lock_line rows)) (locks_same h ok)
 
 pub listing_stands : (h : History) (rows : Rows) (its_list : ListAsk)
     → StandsFor h rows → listing_on rows its_list ≡ listing_over h its_list

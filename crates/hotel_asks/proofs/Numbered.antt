@@ -7,7 +7,7 @@ use Rattle.keycard_rules.specs.Results.{◌>>=◌}
 use Rattle.hotel_nights.specs.Guests.{is_guest}
 use Rattle.hotel_asks.specs.{Asks.◌<$>◌, Asks.◌<*>◌, Asks.ask_of, Asks.link_in, Asks.card_report, Names.names_of}
 use Rattle.hotel_asks.specs.Values.{IsReading, guest_in, slash_in, fit_after, lock_in}
-use Rattle.hotel_core.specs.declared.asks.Ask.{Ask}
+use Rattle.hotel_asks.specs.declared.asked.Ask.{Ask}
 use Rattle.keycard_rules.specs.Numerals.{number_up_to}
 use Rattle.hotel_asks.specs.declared.values.ValueName.TheVariants.{Guest, Lock}
 use Rattle.hotel_asks.specs.{declared.values.AskFault.AskFault, declared.values.AskFault.TheVariants.Values}
@@ -19,6 +19,7 @@ use Rattle.hotel_asks.specs.declared.verbs.Verb.TheVariants.{Begin, AddKind, Add
 use Rattle.hotel_asks.specs.declared.verbs.Verb.TheVariants.{Reissue, Transfer, CheckOut, Refit, NextDay, Entered, Left}
 use Rattle.hotel_asks.specs.declared.verbs.Verb.TheVariants.{Recoded, Arrivals, InHouse, ChainOf, LeftBehind, AuditOf}
 use Rattle.hotel_asks.specs.declared.verbs.Verb.TheVariants.{BusinessDay, RoomStatus, Inside, Bookings, Availability}
+use Rattle.hotel_asks.specs.declared.verbs.Verb.TheVariants.{CardsGiven, CardOf, Locks}
 
 -- whether it isn't the number of texts that is refused
 abbrev pub IsNumbered : {A : Type 0} → Result A ValueFault → Type 0
@@ -99,6 +100,9 @@ numbered RoomStatus [] n = tt
 numbered Inside [] n = tt
 numbered Bookings [] n = tt
 numbered Availability (a ∷ b ∷ []) n = made _ _ (next _ _ (made _ _ (read _ _)) (read _ _))
+numbered CardsGiven (a ∷ []) n = made _ _ (made _ _ (read _ _))
+numbered CardOf (a ∷ []) n = made _ _ (made _ _ (read _ _))
+numbered Locks [] n = tt
 numbered _ _ n = absurd (omega arith)
 
 -- A reading that refuses the number is of texts that aren't as many as the verb has values.

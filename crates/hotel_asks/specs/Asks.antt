@@ -6,17 +6,18 @@ use Rattle.keycard_rules.specs.declared.note.Act.TheVariants as act
 use Rattle.hotel_nights.specs.Moments.{Moment, note_from}
 use Rattle.hotel_model.specs.declared.command.Command.{Command}
 use Rattle.hotel_model.specs.declared.command.Command.TheVariants as command
-use Rattle.hotel_core.specs.{declared.asks.Ask.Ask, declared.asks.ListAsk.ListAsk}
+use Rattle.hotel_asks.specs.{declared.asked.Ask.Ask, declared.asked.ListAsk.ListAsk}
 use Rattle.hotel_asks.specs.declared.values.Lock.{Lock}
 use Rattle.hotel_asks.specs.{declared.values.ValueFault.ValueFault, declared.values.ValueFault.TheVariants.Number}
-use Rattle.hotel_core.specs.declared.asks.Ask.TheVariants as ask
-use Rattle.hotel_core.specs.declared.asks.ListAsk.TheVariants as list
+use Rattle.hotel_asks.specs.declared.asked.Ask.TheVariants as ask
+use Rattle.hotel_asks.specs.declared.asked.ListAsk.TheVariants as list
 use Rattle.hotel_asks.specs.declared.values.ValueName.TheVariants.{Day, Arrive, Old, New, From, To}
 use Rattle.hotel_asks.specs.declared.verbs.Verb.{Verb}
 use Rattle.hotel_asks.specs.declared.verbs.Verb.TheVariants.{Begin, AddKind, AddRoom, Reserve, Cancel, CheckIn, Spare}
 use Rattle.hotel_asks.specs.declared.verbs.Verb.TheVariants.{Reissue, Transfer, CheckOut, Refit, NextDay, Entered, Left}
 use Rattle.hotel_asks.specs.declared.verbs.Verb.TheVariants.{Recoded, Arrivals, InHouse, ChainOf, LeftBehind, AuditOf}
 use Rattle.hotel_asks.specs.declared.verbs.Verb.TheVariants.{BusinessDay, RoomStatus, Inside, Bookings, Availability}
+use Rattle.hotel_asks.specs.declared.verbs.Verb.TheVariants.{CardsGiven, CardOf, Locks}
 use Rattle.hotel_asks.specs.Values.{day_in, code_in, kind_in, nights_in, guest_in, room_in, lock_in, party_in, card_in}
 use Rattle.hotel_asks.specs.Values.{count_in, moment_in}
 use Rattle.hotel_asks.specs.Verbs.{is_list}
@@ -85,6 +86,9 @@ list_of RoomStatus [] = Ok list.RoomStatus
 list_of Inside [] = Ok list.Inside
 list_of Bookings [] = Ok list.Bookings
 list_of Availability (day ∷ nights ∷ []) = (λ d n. list.Availability d n) <$> day_in Day day <*> nights_in nights
+list_of CardsGiven (party ∷ []) = list.CardsGiven <$> party_in party
+list_of CardOf (card ∷ []) = list.CardOf <$> card_in card
+list_of Locks [] = Ok list.Locks
 list_of _ _ = Err Number
 
 -- What a verb and the texts of its values ask for.

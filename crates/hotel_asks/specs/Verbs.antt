@@ -7,6 +7,7 @@ use Rattle.hotel_asks.specs.declared.verbs.Verb.TheVariants.{Begin, AddKind, Add
 use Rattle.hotel_asks.specs.declared.verbs.Verb.TheVariants.{Reissue, Transfer, CheckOut, Refit, NextDay, Entered, Left}
 use Rattle.hotel_asks.specs.declared.verbs.Verb.TheVariants.{Recoded, Arrivals, InHouse, ChainOf, LeftBehind, AuditOf}
 use Rattle.hotel_asks.specs.declared.verbs.Verb.TheVariants.{BusinessDay, RoomStatus, Inside, Bookings, Availability}
+use Rattle.hotel_asks.specs.declared.verbs.Verb.TheVariants.{CardsGiven, CardOf, Locks}
 
 -- The words of the verbs, in the order in which help lists them.
 abbrev pub verbs : List (List ℕ × Verb)
@@ -36,6 +37,9 @@ verbs =
     (codes "inside", Inside) ∷
     (codes "bookings", Bookings) ∷
     (codes "availability", Availability) ∷
+    (codes "cards", CardsGiven) ∷
+    (codes "card", CardOf) ∷
+    (codes "locks", Locks) ∷
     []
 
 -- A list is wanted.
@@ -50,6 +54,9 @@ is_list RoomStatus = true
 is_list Inside = true
 is_list Bookings = true
 is_list Availability = true
+is_list CardsGiven = true
+is_list CardOf = true
+is_list Locks = true
 is_list _ = false
 
 -- Rows of this table as they lie in memory.

@@ -6,14 +6,15 @@ ghost use Rattle.hotel_asks.specs.{declared.values.ValueFault.TheVariants.Number
 ghost use Rattle.hotel_asks.specs.declared.verbs.Verb.TheVariants.{Reserve, Availability};
 ghost use Rattle.hotel_asks.specs.Asks.{copies, ask_copies, command_of, list_of, ask_of, accepted};
 
+use crate::asked::{Ask, ListAsk};
 use crate::notes::{read_card_report, read_recoding};
 use crate::texts::ValueTexts;
 use crate::values::{
-    AskFault, ValueFault, ValueName, read_day, read_guest, read_kind, read_nights, read_party,
-    read_room,
+    AskFault, ValueFault, ValueName, read_card, read_day, read_guest, read_kind, read_nights,
+    read_party, read_room,
 };
 use crate::verbs::Verb;
-use hotel_core::{Ask, Command, ListAsk};
+use hotel_core::Command;
 use std::alloc::{AllocError, Global};
 
 /// Reads a reservation.
@@ -103,6 +104,9 @@ fn read_list(verb: Verb, values: &[&[u8]]) -> Result<ListAsk, ValueFault>
         (Verb::Inside, []) => Ok(ListAsk::Inside),
         (Verb::Bookings, []) => Ok(ListAsk::Bookings),
         (Verb::Availability, [day, nights]) => read_availability(day, nights),
+        (Verb::CardsGiven, [party]) => Ok(ListAsk::CardsGiven(read_party(party)?)),
+        (Verb::CardOf, [card]) => Ok(ListAsk::CardOf(read_card(card)?)),
+        (Verb::Locks, []) => Ok(ListAsk::Locks),
         _ => Err(ValueFault::Number),
     }
 }

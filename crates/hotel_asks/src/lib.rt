@@ -2,9 +2,11 @@
 //! that is asked for is written here. `read_ask` answers a command or a list, the first value that is refused, or that
 //! it is out of memory. Whoever asks fills one list of texts, `ValueTexts`, in the order of `Verb::values`.
 //!
+//! - src: asked: what a desk may be asked.
 //! - specs: Values, Names, Verbs, Asks: what a verb and the texts of its values ask for. Listings: what a list shows.
 #![tactic(auto)]
 
+mod asked;
 mod asks;
 mod listings;
 mod notes;
@@ -12,8 +14,8 @@ mod texts;
 mod values;
 mod verbs;
 
+pub use asked::{Ask, ListAsk};
 pub use asks::{accept_ask, read_ask};
-pub use hotel_core::{Ask, ListAsk};
 pub use listings::write_list;
 pub use texts::{MOST_VALUES, ValueTexts};
 pub use values::{

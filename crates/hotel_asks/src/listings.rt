@@ -5,11 +5,12 @@ ghost use Rattle.hotel_lists.specs.Calls.{CountsWrites, OnErrOf};
 ghost use Rattle.hotel_lists.specs.{RowLines.LooksAt, Listings.ListEnds};
 ghost use Rattle.hotel_asks.specs.Listings.{listing_on};
 
-use hotel_core::{ListAsk, Walks};
+use crate::asked::ListAsk;
+use hotel_core::Walks;
 use hotel_lists::{
     IoCalls, ListFault, write_arrivals, write_audit_of, write_availability, write_bookings,
-    write_business_day, write_chain_of, write_in_house, write_inside, write_left_behind,
-    write_room_status,
+    write_business_day, write_card_of, write_cards_given, write_chain_of, write_in_house,
+    write_inside, write_left_behind, write_locks, write_room_status,
 };
 use std::alloc::Global;
 use std::io::Write;
@@ -40,5 +41,8 @@ pub fn write_list<W: Write, B: Walks>(
         ListAsk::Availability(day, nights) => {
             write_availability(alloc, books, *day, *nights, writer, calls)
         }
+        ListAsk::CardsGiven(party) => write_cards_given(alloc, books, *party, writer, calls),
+        ListAsk::CardOf(card) => write_card_of(alloc, books, *card, writer, calls),
+        ListAsk::Locks => write_locks(alloc, books, writer, calls),
     }
 }

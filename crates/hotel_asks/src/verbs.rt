@@ -34,10 +34,13 @@ pub enum Verb {
     Inside,
     Bookings,
     Availability,
+    CardsGiven,
+    CardOf,
+    Locks,
 }
 
 /// The words of the verbs, in the order in which help lists them.
-pub static VERBS: [(&str, Verb); 25] = [
+pub static VERBS: [(&str, Verb); 28] = [
     ("begin", Verb::Begin),
     ("add-kind", Verb::AddKind),
     ("add-room", Verb::AddRoom),
@@ -63,6 +66,9 @@ pub static VERBS: [(&str, Verb); 25] = [
     ("inside", Verb::Inside),
     ("bookings", Verb::Bookings),
     ("availability", Verb::Availability),
+    ("cards", Verb::CardsGiven),
+    ("card", Verb::CardOf),
+    ("locks", Verb::Locks),
 ];
 
 impl Verb {
@@ -74,7 +80,7 @@ impl Verb {
             Verb::Arrivals | Verb::InHouse | Verb::ChainOf | Verb::LeftBehind | Verb::AuditOf =>
                 true,
             Verb::BusinessDay | Verb::RoomStatus | Verb::Inside | Verb::Bookings => true,
-            Verb::Availability => true,
+            Verb::Availability | Verb::CardsGiven | Verb::CardOf | Verb::Locks => true,
             _ => false,
         }
     }
@@ -87,6 +93,9 @@ impl Verb {
         match self {
             Verb::NextDay | Verb::InHouse | Verb::LeftBehind => &[],
             Verb::BusinessDay | Verb::RoomStatus | Verb::Inside | Verb::Bookings => &[],
+            Verb::Locks => &[],
+            Verb::CardsGiven => &[ValueName::Party],
+            Verb::CardOf => &[ValueName::Card],
             Verb::Begin | Verb::Arrivals => &[ValueName::Day],
             Verb::AddKind => &[ValueName::Kind],
             Verb::Cancel | Verb::Spare | Verb::Reissue | Verb::CheckOut => &[ValueName::Party],

@@ -1,17 +1,17 @@
 //! The lists, by their own calls over books of any kind.
 use crate::books_in_memory::two_entries_in_memory;
 use crate::commands::{check_in, desk_behind, first_booking, reserve};
-use crate::values::{day, nights, party, room};
+use crate::values::{card_number, day, nights, party, room};
 use hotel_core::{Command, ListBooks, Walks};
 use hotel_lists::{
-    arrivals, audit_of, availability, bookings, business_day, chain_of, in_house, inside,
-    left_behind, room_status,
+    arrivals, audit_of, availability, bookings, business_day, card_of, cards_given, chain_of,
+    in_house, inside, left_behind, locks, room_status,
 };
 use std::alloc::Global;
 use std::process::Abort;
 use std::test::Fail;
 
-/// The lists, those of the first day and of room 101, one after the other.
+/// The lists, those of the first day, of room 101, of party 1 and of card 1, one after the other.
 fn lists_of<B: Walks>(alloc: Global, books: &mut B) -> Result<Vec<u8>, Fail> {
     let mut writer = Vec::new(alloc);
     let room = room(101)?;
@@ -25,6 +25,9 @@ fn lists_of<B: Walks>(alloc: Global, books: &mut B) -> Result<Vec<u8>, Fail> {
     inside(alloc, books, &mut writer)?;
     bookings(alloc, books, &mut writer)?;
     availability(alloc, books, day(b"2031-05-01")?, nights(2)?, &mut writer)?;
+    cards_given(alloc, books, party(1)?, &mut writer)?;
+    card_of(alloc, books, card_number(1)?, &mut writer)?;
+    locks(alloc, books, &mut writer)?;
     Ok(writer)
 }
 
@@ -48,6 +51,12 @@ room,card,party
 party,guest,kind,arrive,depart
 kind,rooms,free
 DBL,1,0
+card,old,new
+1,0000000000a0,0000000000a1
+card,party,guest,old,new
+1,1,Ann Lee,0000000000a0,0000000000a1
+room,fit,count,at
+101,1,2,2031-05-01T15:00:00
 ";
 
 pub(crate) fn lists_are_written<B: Walks>(
@@ -82,6 +91,10 @@ party,guest,kind,arrive,depart
 1,\"Lee, Ann\",DBL,2031-05-01,2031-05-03
 kind,rooms,free
 DBL,1,0
+card,old,new
+card,party,guest,old,new
+room,fit,count,at
+101,1,0,
 ";
 
 /// Of scenario `left-behind-recoded` before its notes.
@@ -103,6 +116,12 @@ room,card,party
 party,guest,kind,arrive,depart
 kind,rooms,free
 DBL,1,0
+card,old,new
+1,0000000000a0,0000000000a1
+card,party,guest,old,new
+1,1,Ann Lee,0000000000a0,0000000000a1
+room,fit,count,at
+101,1,0,
 ";
 
 /// After the commands these are the lists.

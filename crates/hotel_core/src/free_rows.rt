@@ -1,10 +1,7 @@
 //! What is free of a kind, by the counts that books keep.
 ghost use Rattle.std.specs.Prelude.{◌≡◌, ◌+◌, ◌-◌, Some, None, if◌then◌else◌};
-ghost use Rattle.std.specs.Map.{values_of};
-ghost use Rattle.hotel_model.specs.{Rows.Rows, Rows.rooms_of_kind, Refinement.ListsOnRows.free_row_on};
 ghost use Rattle.hotel_model.specs.{Lists.are_ahead, Words.greatest};
-ghost use Rattle.hotel_core.specs.{KindRooms.rooms_in, NightIndex.CountsNights, NightIndex.counted};
-ghost use Rattle.hotel_core.specs.{FreeRows.free_row_by};
+ghost use Rattle.hotel_core.specs.{NightIndex.counted, FreeRows.free_row_by};
 
 use crate::kind_rooms::KindRooms;
 use crate::night_index::NightIndex;
@@ -52,9 +49,7 @@ pub fn free_row(
     arrive: Day,
     nights: Nights,
 ) -> FreeRow
-    ensures counts { result ≡ free_row_by kinds.now index.now today arrive nights kind.now }
-    ensures of_rows { (rows : Rows) → rows.day ≡ today → rooms_in kinds.now kind.now ≡ rooms_of_kind rows.rooms kind.now
-        → CountsNights index.now (values_of rows.stays) → result ≡ free_row_on rows arrive nights kind.now }
+    ensures { result ≡ free_row_by kinds.now index.now today arrive nights kind.now }
 {
     let rooms = kinds.rooms(kind);
     FreeRow {

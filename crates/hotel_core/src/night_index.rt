@@ -2,7 +2,7 @@
 ghost use Rattle.std.specs.Prelude.{◌≡◌, ℕ, ◌+◌, ◌-◌, ◌*◌, ◌/◌, ◌^◌, ◌<◌, ◌≤◌, List, [], false, nat_le, IsOk};
 ghost use Rattle.std.specs.Prelude.{OnOk, OnErr};
 ghost use Rattle.hotel_nights.specs.Block.{one_if};
-ghost use Rattle.hotel_nights.specs.FullNight.{first_day, is_full, is_standing, nights_taken, takes};
+ghost use Rattle.hotel_nights.specs.FullNight.{first_day, is_full, is_standing, takes};
 ghost use Rattle.hotel_nights.specs.{declared.stay.Stay.Stay};
 ghost use Rattle.hotel_model.specs.Words.{greatest};
 ghost use Rattle.hotel_core.specs.NightIndex.{counted, spans, CountsNights};
@@ -232,14 +232,5 @@ impl NightIndex {
             first = end;
         }
         most
-    }
-
-    /// The most of the stays that take one night from `arrive` on and before `depart` in rooms of the kind, where these
-    /// are the stays that are counted; 0 where there is no such night. It takes no memory.
-    pub fn most_taken(&self, kind: &KindCode, arrive: Day, depart: Day) -> usize
-        ensures { (stays : List Stay) → CountsNights self.now stays
-            → result ≡ greatest (nights_taken stays kind.now) arrive (depart - arrive) }
-    {
-        self.most_counted(kind, arrive, depart)
     }
 }

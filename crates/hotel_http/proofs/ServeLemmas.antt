@@ -17,10 +17,10 @@ use Rattle.hotel_core.specs.{Books.Happens.HappensBy, Books.Stepped.Stepped}
 use Rattle.hotel_model.specs.declared.reply.Reply.TheVariants as reply
 use Rattle.hotel_lists.specs.{Bytes.AppendsFront, declared.calls.WriteFailed.WriteFailed}
 use Rattle.hotel_lists.proofs.CallsLemmas.{last_of}
-use Rattle.hotel_core.specs.declared.asks.Ask.TheVariants as ask
+use Rattle.hotel_asks.specs.declared.asked.Ask.TheVariants as ask
 use Rattle.hotel_lists.specs.{Listings.Listing, RowLines.ListTold, RowLines.LooksAt, declared.fault.ListFault.ListFault}
 use Rattle.hotel_lists.specs.declared.fault.ListFault.TheVariants as fault
-use Rattle.hotel_core.specs.declared.asks.ListAsk.{ListAsk}
+use Rattle.hotel_asks.specs.declared.asked.ListAsk.{ListAsk}
 use Rattle.hotel_asks.specs.{Listings.listing_on, Listings.listing_over}
 use Rattle.hotel_asks.proofs.ListingLemmas.{listing_stands}
 use Rattle.hotel_audit.specs.{AuditFile.audit_lines, Import.Imports, Import.told_by_import}

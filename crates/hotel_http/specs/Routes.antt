@@ -36,6 +36,9 @@ route_table =
     (codes "/inside", Asks verb.Inside) ∷
     (codes "/bookings", Asks verb.Bookings) ∷
     (codes "/availability/{day}/{nights}", Asks verb.Availability) ∷
+    (codes "/parties/{party}/cards", Asks verb.CardsGiven) ∷
+    (codes "/cards/{card}", Asks verb.CardOf) ∷
+    (codes "/locks", Asks verb.Locks) ∷
     []
 
 -- the method of what a path asks for: lists are got

@@ -16,9 +16,9 @@ use Rattle.hotel_lists.specs.Reads.{ReadsWhile}
 use Rattle.hotel_lists.specs.{Faults.told_refusal, RowLines.ListFailed, declared.fault.ListFault.ListFault}
 use Rattle.hotel_lists.specs.declared.fault.ListFault.TheVariants as fault
 use Rattle.hotel_lists.specs.Listings.{Listing, in_full}
-use Rattle.hotel_core.specs.declared.asks.Ask.{Ask}
+use Rattle.hotel_asks.specs.declared.asked.Ask.{Ask}
 use Rattle.hotel_asks.specs.Listings.{listing_over}
-use Rattle.hotel_core.specs.declared.asks.Ask.TheVariants as ask
+use Rattle.hotel_asks.specs.declared.asked.Ask.TheVariants as ask
 use Rattle.hotel_audit.specs.{AuditFile.audit_lines, Import.AreAnswered, Import.EndsAfter}
 use Rattle.hotel_audit.specs.{Import.commands_of}
 use Rattle.hotel_audit.specs.{Import.replies_in, Import.has_taken, Import.told_by_import}

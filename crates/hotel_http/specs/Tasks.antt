@@ -3,7 +3,7 @@ use Rattle.std.specs.Prelude.{ℕ, ◌+◌, ◌-◌, ◌==◌, nat_lt, Bool, fal
 use Rattle.std.specs.Prelude.{take, drop, codes, Option, Some, option_map}
 use Rattle.std.specs.List.{position_or_len}
 use Rattle.hotel_nights.specs.Days.{◌>>=◌}
-use Rattle.hotel_core.specs.declared.asks.Ask.{Ask}
+use Rattle.hotel_asks.specs.declared.asked.Ask.{Ask}
 use Rattle.hotel_asks.specs.{Asks.accepted, Names.names_of, declared.verbs.Verb.Verb}
 use Rattle.hotel_asks.specs.declared.verbs.Verb.TheVariants.{Begin, AddKind, AddRoom, Reserve, CheckIn, Transfer}
 use Rattle.hotel_http.specs.{Fields.Pair, Form.form_fields, Form.texts_named, Form.only}

@@ -99,6 +99,9 @@ pub fn make_routes(alloc: Global) -> Result<Routes, InsertError>
                 "/availability/{day}/{nights}",
                 Target::Asks(Verb::Availability),
             ),
+            ("/parties/{party}/cards", Target::Asks(Verb::CardsGiven)),
+            ("/cards/{card}", Target::Asks(Verb::CardOf)),
+            ("/locks", Target::Asks(Verb::Locks)),
         ],
     )?;
     Ok(Routes { router })

@@ -7,7 +7,7 @@ ghost use Rattle.hotel_asks.specs.Listings.{listing_on};
 ghost use Rattle.hotel_lists.specs.Reads.{ReadsWhile};
 ghost use Rattle.hotel_http.specs.Request.{MayFollow, WantsMore};
 ghost use Rattle.hotel_http.specs.declared.origins.Origins.TheVariants.{Any};
-ghost use Rattle.hotel_core.specs.declared.asks.Ask.TheVariants as ask;
+ghost use Rattle.hotel_asks.specs.declared.asked.Ask.TheVariants as ask;
 ghost use Rattle.hotel_http.specs.declared.serve.ServeFault.TheVariants.{Read, Write};
 ghost use Rattle.hotel_http.specs.Serve.{rejected, replied, is_accepted, taken_before_fault, AskComes};
 ghost use Rattle.hotel_core.specs.Books.Happens.{HappensBy};

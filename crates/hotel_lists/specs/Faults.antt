@@ -2,6 +2,8 @@
 use Rattle.std.specs.Prelude.{ℕ, List, Option, Some, None, codes}
 use Rattle.hotel_model.specs.declared.reply.Refusal.{Refusal}
 use Rattle.hotel_model.specs.declared.reply.Refusal.TheVariants as refusal
+use Rattle.keycard_rules.specs.declared.issued.LookFault.{LookFault}
+use Rattle.keycard_rules.specs.declared.issued.LookFault.TheVariants as look
 use Rattle.hotel_lists.specs.declared.fault.ListFault.{ListFault}
 use Rattle.hotel_lists.specs.declared.fault.ListFault.TheVariants as fault
 
@@ -18,3 +20,8 @@ told_refusal fault.NoRoom = Some refusal.NoRoom
 told_refusal fault.Memory = Some refusal.Memory
 told_refusal fault.Store = Some refusal.Store
 told_refusal fault.Write = None
+
+-- the fault of a list that a call of the books ended
+abbrev pub list_fault : LookFault → ListFault
+list_fault look.Memory = fault.Memory
+list_fault look.Store = fault.Store

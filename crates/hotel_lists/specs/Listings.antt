@@ -6,12 +6,14 @@ use Rattle.std.specs.Io.KnownBytes.{Appends}
 use Rattle.hotel_model.specs.{Rows.Rows, Rows.notes_at, Refinement.Lookups.room_at}
 use Rattle.hotel_model.specs.Refinement.ListsOnRows.{arrivals_on, in_house_on, chain_on, left_behind_on}
 use Rattle.hotel_model.specs.Refinement.ListsOnRows.{business_day_on, room_status_on, cards_inside_on, bookings_on}
-use Rattle.hotel_model.specs.Refinement.ListsOnRows.{availability_on}
+use Rattle.hotel_model.specs.Refinement.ListsOnRows.{availability_on, cards_given_on}
 use Rattle.hotel_lists.specs.{Bytes.AppendsFront, declared.fault.ListFault.ListFault}
 use Rattle.hotel_lists.specs.RowLines.{arrivals_header, in_house_header, chain_header, left_behind_header, audit_header}
 use Rattle.hotel_lists.specs.RowLines.{day_header, status_header, inside_header, free_header}
 use Rattle.hotel_lists.specs.RowLines.{arrival_line, house_line, chain_line, behind_line, note_line}
-use Rattle.hotel_lists.specs.RowLines.{day_line, status_line, inside_line, free_line}
+use Rattle.hotel_lists.specs.RowLines.{day_line, status_line, inside_line, free_line, card_line, lock_line}
+use Rattle.hotel_lists.specs.RowLines.{given_header, given_line}
+use Rattle.hotel_lists.specs.{RowLines.card_header, RowLines.locks_header, LookedRows.card_on, LookedRows.locks_on}
 use Rattle.hotel_lists.specs.declared.fault.ListFault.TheVariants as fault
 
 -- A list's header and its lines.
@@ -60,6 +62,15 @@ bookings_listing rows = Some (listing arrivals_header arrival_line (bookings_on 
 
 abbrev pub availability_listing : Rows → ℕ → ℕ → Option Listing
 availability_listing rows day nights = Some (listing free_header free_line (availability_on rows day nights))
+
+abbrev pub given_listing : Rows → ℕ → Option Listing
+given_listing rows party = Some (listing given_header given_line (cards_given_on rows party))
+
+abbrev pub card_listing : Rows → ℕ → Option Listing
+card_listing rows number = Some (listing card_header card_line (card_on rows number))
+
+abbrev pub locks_listing : Rows → Option Listing
+locks_listing rows = Some (listing locks_header lock_line (locks_on rows))
 
 -- A list in full: its header and its lines; where its room isn't there, what is said then.
 abbrev pub in_full : List ℕ → Option Listing → List ℕ

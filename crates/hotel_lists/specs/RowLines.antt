@@ -7,10 +7,11 @@ use Rattle.csv.specs.Writing.{default_writer, row_text}
 use Rattle.keycard_rules.specs.{declared.kept.Kept.Ghosts as KeptOf, declared.issued.LookFault.LookFault}
 use Rattle.keycard_rules.specs.{Leaves.Leaves, Calls.LastCallFailed, Calls.NoCallFailed, Calls.Passes, Calls.Told}
 use Rattle.keycard_rules.specs.Calls.{all_answer}
-use Rattle.keycard_rules.specs.{Numerals.code_text, Note.Note, declared.note.Act.Act}
+use Rattle.keycard_rules.specs.{Numerals.code_text, declared.card.Card.Card, Note.Note, declared.note.Act.Act}
 use Rattle.keycard_rules.specs.declared.issued.LookFault.TheVariants as look
 use Rattle.keycard_rules.specs.declared.note.Act.TheVariants.{Entered, Left, Recoded}
-use Rattle.hotel_nights.specs.{Days.day_text, Moments.moment_of, Moments.moment_text, declared.stay.Stay.Stay}
+use Rattle.hotel_nights.specs.{Days.day_text, Moments.Moment, Moments.moment_of, Moments.moment_text}
+use Rattle.hotel_nights.specs.{declared.stay.Stay.Stay}
 use Rattle.hotel_model.specs.{declared.rows.RoomRow.RoomRow, declared.list_rows.HouseRow.HouseRow}
 use Rattle.hotel_model.specs.{declared.list_rows.ChainRow.ChainRow}
 use Rattle.hotel_model.specs.{declared.list_rows.BehindRow.BehindRow, declared.list_rows.CodeState.CodeState}
@@ -20,6 +21,7 @@ use Rattle.hotel_core.specs.declared.books.walks.WalkFault.{WalkFault}
 use Rattle.hotel_model.specs.declared.list_rows.CodeState.TheVariants as state
 use Rattle.hotel_core.specs.declared.books.walks.WalkFault.TheVariants as walk
 use Rattle.hotel_lists.specs.{Bytes.AppendsFront, declared.fault.ListFault.ListFault}
+use Rattle.hotel_lists.specs.{declared.looked_rows.CardRow.CardRow, declared.looked_rows.LockRow.LockRow}
 use Rattle.hotel_lists.specs.declared.fault.ListFault.TheVariants as fault
 
 -- the line of these fields
@@ -86,6 +88,24 @@ inside_line row = line_of (decimal row.room ∷ decimal row.card ∷ decimal row
 abbrev pub free_line : FreeRow → List ℕ
 free_line row = line_of (row.kind ∷ decimal row.rooms ∷ decimal row.free ∷ [])
 
+-- a card of a party
+abbrev pub given_line : Card → List ℕ
+given_line card = line_of (decimal card.number ∷ code_text card.link.old_code ∷ code_text card.link.new_code ∷ [])
+
+-- a card with its party and guest
+abbrev pub card_line : CardRow → List ℕ
+card_line row = line_of (decimal row.card.number ∷ decimal row.card.party ∷ row.guest
+    ∷ code_text row.card.link.old_code ∷ code_text row.card.link.new_code ∷ [])
+
+-- a moment, or nothing where there is none
+abbrev pub moment_field : Option Moment → List ℕ
+moment_field None = []
+moment_field (Some at) = moment_text at
+
+-- a room's present lock
+abbrev pub lock_line : LockRow → List ℕ
+lock_line row = line_of (decimal row.room ∷ decimal row.fit ∷ decimal row.count ∷ moment_field row.at ∷ [])
+
 -- the first line of each list; bookings have that of arrivals
 abbrev pub arrivals_header : List ℕ
 arrivals_header = codes "party,guest,kind,arrive,depart\n"
@@ -113,6 +133,15 @@ inside_header = codes "room,card,party\n"
 
 abbrev pub free_header : List ℕ
 free_header = codes "kind,rooms,free\n"
+
+abbrev pub given_header : List ℕ
+given_header = codes "card,old,new\n"
+
+abbrev pub card_header : List ℕ
+card_header = codes "card,party,guest,old,new\n"
+
+abbrev pub locks_header : List ℕ
+locks_header = codes "room,fit,count,at\n"
 
 -- A writer stopped at a line: it took a prefix of it where the write failed, and nothing of it otherwise.
 abbrev pub StopsAtLine : Bool → Option (List ℕ) → Option (List ℕ) → List ℕ → Type 0

@@ -2,9 +2,11 @@
 ghost use Rattle.std.specs.Prelude.{◌≡◌, Some};
 ghost use Rattle.hotel_lists.specs.{Faults.fault_text, Faults.told_refusal};
 ghost use Rattle.hotel_lists.specs.{declared.fault.ListFault.TheVariants.Write};
+ghost use Rattle.hotel_lists.specs.{Faults.list_fault};
 
 use crate::calls::WriteFailed;
 use hotel_core::Refusal;
+use keycard_rules::LookFault;
 use std::error::Error;
 use std::fmt;
 
@@ -55,5 +57,16 @@ impl From<WriteFailed> for ListFault {
 
     fn from(_: WriteFailed) -> ListFault {
         ListFault::Write
+    }
+}
+
+impl From<LookFault> for ListFault {
+    ghost from_gives = { λ cause fault. fault ≡ list_fault cause };
+
+    fn from(cause: LookFault) -> ListFault {
+        match cause {
+            LookFault::Memory => ListFault::Memory,
+            LookFault::Store => ListFault::Store,
+        }
     }
 }

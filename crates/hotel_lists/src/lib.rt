@@ -6,6 +6,7 @@
 //! - src: row_lines, gathered, line_sink, walked_lists, lists, write_lists; specs: RowLines, Gathered, LineSink,
 //!   Listings: the line of each row, by `csv`'s row text; what a list wrote, and which faults its calls reported, by
 //!   how it ended.
+//! - src: looked_rows, looked_lists; LookedRows, LookedLists: the lists whose rows are looked up one by one.
 //! - src: fault; Faults: the refusal that a list's fault is answered by.
 //! - src: test_streams; TestStreams: readers and writers for tests, of which a call goes wrong.
 #![tactic(auto)]
@@ -16,6 +17,8 @@ mod fault;
 mod gathered;
 mod line_sink;
 mod lists;
+mod looked_lists;
+mod looked_rows;
 mod row_lines;
 mod test_streams;
 mod walked_lists;
@@ -27,13 +30,14 @@ pub use bytes::{
 pub use calls::{IoCalls, LAST_INTERRUPTION, ReadFailed, WriteFailed};
 pub use fault::ListFault;
 pub use lists::{
-    arrivals, audit_of, availability, bookings, business_day, chain_of, in_house, inside,
-    left_behind, room_status,
+    arrivals, audit_of, availability, bookings, business_day, card_of, cards_given, chain_of,
+    in_house, inside, left_behind, locks, room_status,
 };
 pub use test_streams::{
     FailingReader, FailingWriter, FullWriter, InterruptedReader, InterruptedWriter,
 };
 pub use write_lists::{
     write_arrivals, write_audit_of, write_availability, write_bookings, write_business_day,
-    write_chain_of, write_in_house, write_inside, write_left_behind, write_room_status,
+    write_card_of, write_cards_given, write_chain_of, write_in_house, write_inside,
+    write_left_behind, write_locks, write_room_status,
 };

@@ -1,5 +1,6 @@
 //! A sink that writes the lines of a list.
-ghost use Rattle.std.specs.Prelude.{◌≡◌, [], OnOk, OnErr};
+ghost use Rattle.std.specs.Prelude.{◌≡◌, [], OnOk, OnErr, None};
+ghost use Rattle.hotel_core.specs.{Books.Walks.Hands, Books.Walks.failure_of};
 ghost use Rattle.std.specs.Io.KnownBytes.{Appends};
 ghost use Rattle.hotel_lists.specs.{LineSink.SameEnds, LineSink.StopsAtWrite, LineSink.Finishes, RowLines.list_result};
 
@@ -106,4 +107,15 @@ pub(crate) fn listed(end: Result<(), WalkFault>, write_failed: bool) -> Result<(
         Err(WalkFault::Stopped) if write_failed => Err(ListFault::Write),
         Err(WalkFault::Stopped) => Err(ListFault::Memory),
     }
+}
+
+/// Hands rows to a sink, one after the other.
+pub(crate) fn hand_rows<R, S: Sink<R>>(rows: &[R], sink: &mut S) -> Result<(), WalkFault>
+    ensures hands { Hands S.after S.after_stop rows.now sink.old sink.new result }
+    ensures sure { failure_of result ≡ None }
+{
+    for row in rows {
+        sink.take(row)?;
+    }
+    Ok(())
 }

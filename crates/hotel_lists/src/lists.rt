@@ -3,18 +3,20 @@ ghost use Rattle.std.specs.Prelude.{◌≡◌, [], Err};
 ghost use Rattle.hotel_lists.specs.Listings.{ListEnds, arrivals_listing, in_house_listing, chain_listing};
 ghost use Rattle.hotel_lists.specs.{Listings.left_behind_listing, Listings.audit_listing, RowLines.LooksAt};
 ghost use Rattle.hotel_lists.specs.Listings.{business_day_listing, room_status_listing, inside_listing};
-ghost use Rattle.hotel_lists.specs.Listings.{bookings_listing, availability_listing};
+ghost use Rattle.hotel_lists.specs.Listings.{bookings_listing, availability_listing, card_listing, locks_listing};
+ghost use Rattle.hotel_lists.specs.Listings.{given_listing};
 ghost use Rattle.hotel_lists.specs.declared.fault.ListFault.TheVariants.{NoRoom};
 
 use crate::calls::IoCalls;
 use crate::fault::ListFault;
 use crate::write_lists::{
     write_arrivals, write_audit_of, write_availability, write_bookings, write_business_day,
-    write_chain_of, write_in_house, write_inside, write_left_behind, write_room_status,
+    write_card_of, write_cards_given, write_chain_of, write_in_house, write_inside,
+    write_left_behind, write_locks, write_room_status,
 };
 use hotel_core::Walks;
 use hotel_nights::{Day, Nights};
-use keycard_rules::RoomNo;
+use keycard_rules::{CardNo, PartyNo, RoomNo};
 use std::alloc::Global;
 use std::io::Write;
 
@@ -161,4 +163,48 @@ pub fn availability<B: Walks, W: Write>(
     ensures books { LooksAt B.Kept books.old books.new result }
 {
     write_availability(alloc, books, day, nights, writer, &mut IoCalls::none())
+}
+
+/// Writes the cards that a party was given, by number; no row where there is no such party.
+pub fn cards_given<B: Walks, W: Write>(
+    alloc: Global,
+    books: &mut B,
+    party: PartyNo,
+    writer: &mut W,
+) -> Result<(), ListFault>
+    ensures text { B.is_honest books.new → ListEnds [] (given_listing (B.rows books.old) party) (W.contents writer.old)
+        (W.contents writer.new) result }
+    ensures no_room { result ≡ Err NoRoom → ⊥ }
+    ensures books { LooksAt B.Kept books.old books.new result }
+{
+    write_cards_given(alloc, books, party, writer, &mut IoCalls::none())
+}
+
+/// Writes the card of a number, with its party and its party's guest; no row where there is no such card.
+pub fn card_of<B: Walks, W: Write>(
+    alloc: Global,
+    books: &mut B,
+    number: CardNo,
+    writer: &mut W,
+) -> Result<(), ListFault>
+    ensures text { B.is_honest books.new → ListEnds [] (card_listing (B.rows books.old) number) (W.contents writer.old)
+        (W.contents writer.new) result }
+    ensures no_room { result ≡ Err NoRoom → ⊥ }
+    ensures books { LooksAt B.Kept books.old books.new result }
+{
+    write_card_of(alloc, books, number, writer, &mut IoCalls::none())
+}
+
+/// Writes the present lock of each room, by room: how many of its notes were taken, and when it noted the last.
+pub fn locks<B: Walks, W: Write>(
+    alloc: Global,
+    books: &mut B,
+    writer: &mut W,
+) -> Result<(), ListFault>
+    ensures text { B.is_honest books.new → ListEnds [] (locks_listing (B.rows books.old)) (W.contents writer.old)
+        (W.contents writer.new) result }
+    ensures no_room { result ≡ Err NoRoom → ⊥ }
+    ensures books { LooksAt B.Kept books.old books.new result }
+{
+    write_locks(alloc, books, writer, &mut IoCalls::none())
 }

@@ -4,13 +4,15 @@ ghost use Rattle.std.specs.Fmt.{decimal};
 ghost use Rattle.keycard_rules.specs.Numerals.{code_text};
 ghost use Rattle.hotel_nights.specs.Moments.{moment_of, moment_text};
 ghost use Rattle.hotel_lists.specs.RowLines.{line_of, arrival_line, house_line, chain_line, behind_line, note_line};
-ghost use Rattle.hotel_lists.specs.RowLines.{day_line, status_line, inside_line, free_line};
+ghost use Rattle.hotel_lists.specs.RowLines.{day_line, status_line, inside_line, free_line, card_line, lock_line};
+ghost use Rattle.hotel_lists.specs.RowLines.{given_line};
 ghost use Rattle.hotel_lists.specs.RowLines.{yes_or_no, state_text, party_field};
 
 use crate::gathered::Gathered;
+use crate::looked_rows::{CardRow, LockRow};
 use hotel_core::{BehindRow, ChainRow, CodeState, FreeRow, HouseRow, InsideRow, StatusRow};
 use hotel_nights::{Day, Moment, Stay};
-use keycard_rules::{Act, Code, LockNote, Memory, PartyNo};
+use keycard_rules::{Act, Card, Code, LockNote, Memory, PartyNo};
 
 /// A row that has a line.
 pub(crate) trait RowLine {
@@ -217,5 +219,65 @@ impl RowLine for FreeRow {
             rooms.format(self.rooms).as_bytes(),
             free.format(self.free).as_bytes(),
         ])
+    }
+}
+
+impl RowLine for Card {
+    ghost line = { given_line };
+
+    fn gather(&self, lines: &mut Gathered) -> Result<(), Memory> {
+        let mut number = itoa::Buffer::new();
+        let old = self.link.old_code.print();
+        let new = self.link.new_code.print();
+        lines.push(&[
+            number.format(self.number.value()).as_bytes(),
+            old.as_slice(),
+            new.as_slice(),
+        ])
+    }
+}
+
+impl RowLine for CardRow {
+    ghost line = { card_line };
+
+    fn gather(&self, lines: &mut Gathered) -> Result<(), Memory> {
+        let mut number = itoa::Buffer::new();
+        let mut party = itoa::Buffer::new();
+        let old = self.card.link.old_code.print();
+        let new = self.card.link.new_code.print();
+        lines.push(&[
+            number.format(self.card.number.value()).as_bytes(),
+            party.format(self.card.party.value()).as_bytes(),
+            self.guest.text().as_bytes(),
+            old.as_slice(),
+            new.as_slice(),
+        ])
+    }
+}
+
+/// Puts the line of a lock behind the others, where its last note has this moment's text.
+fn lock_fields(lines: &mut Gathered, lock: &LockRow, at: &[u8]) -> Result<(), Memory>
+    ensures { OnOk result (lines.new ≡ lines.old ++ line_of (
+        decimal lock.now.room ∷ decimal lock.now.fit ∷ decimal lock.now.count ∷ at.now ∷ [])) }
+{
+    let mut room = itoa::Buffer::new();
+    let mut fit = itoa::Buffer::new();
+    let mut count = itoa::Buffer::new();
+    lines.push(&[
+        room.format(lock.room.value()).as_bytes(),
+        fit.format(lock.fit.value()).as_bytes(),
+        count.format(lock.count).as_bytes(),
+        at,
+    ])
+}
+
+impl RowLine for LockRow {
+    ghost line = { lock_line };
+
+    fn gather(&self, lines: &mut Gathered) -> Result<(), Memory> {
+        match self.at {
+            Some(at) => lock_fields(lines, self, at.print().as_slice()),
+            None => lock_fields(lines, self, b""),
+        }
     }
 }

@@ -4,7 +4,7 @@ ghost use Rattle.hotel_model.specs.Rows.{Rows};
 ghost use Rattle.hotel_core.specs.{Books.Reads.is_any, Books.Walks.WalksOver};
 ghost use Rattle.hotel_model.specs.Refinement.ListsOnRows.{arrivals_on, in_house_on, chain_on, left_behind_on};
 ghost use Rattle.hotel_model.specs.Refinement.ListsOnRows.{business_day_on, room_status_on, cards_inside_on};
-ghost use Rattle.hotel_model.specs.Refinement.ListsOnRows.{bookings_on, availability_on};
+ghost use Rattle.hotel_model.specs.Refinement.ListsOnRows.{bookings_on, availability_on, cards_given_on};
 ghost use Rattle.hotel_model.specs.Rows.{notes_at};
 
 use crate::row_lines::RowLine;
@@ -12,7 +12,7 @@ use hotel_core::{
     BehindRow, ChainRow, FreeRow, HouseRow, InsideRow, Sink, StatusRow, WalkFault, Walks,
 };
 use hotel_nights::{Day, Nights, Stay};
-use keycard_rules::{LockNote, RoomNo};
+use keycard_rules::{Card, LockNote, PartyNo, RoomNo};
 
 /// A list that books have.
 pub(crate) trait WalkedList<B: Walks> {
@@ -190,5 +190,21 @@ impl<B: Walks> WalkedList<B> for Availability {
 
     fn walk<S: Sink<FreeRow>>(&self, books: &mut B, sink: &mut S) -> Result<(), WalkFault> {
         books.walk_availability(self.0, self.1, sink)
+    }
+}
+
+/// The cards that a party was given.
+#[derive(Clone, Copy)]
+pub(crate) struct CardsGiven(pub(crate) PartyNo);
+
+impl<B: Walks> WalkedList<B> for CardsGiven {
+    type Row = Card;
+
+    ghost rows = { λ list rows. cards_given_on rows list.0 };
+
+    ghost takes_memory = { λ _. false };
+
+    fn walk<S: Sink<Card>>(&self, books: &mut B, sink: &mut S) -> Result<(), WalkFault> {
+        books.walk_cards_given(self.0, sink)
     }
 }

@@ -7,20 +7,23 @@ ghost use Rattle.hotel_lists.specs.Listings.{ListEnds, listing, of_room, arrival
 ghost use Rattle.hotel_lists.specs.Listings.{chain_listing, left_behind_listing, audit_listing};
 ghost use Rattle.hotel_lists.specs.Listings.{business_day_listing, room_status_listing, inside_listing};
 ghost use Rattle.hotel_lists.specs.Listings.{bookings_listing, availability_listing};
-ghost use Rattle.hotel_lists.specs.RowLines.{LooksAt, FindsRoom};
+ghost use Rattle.hotel_lists.specs.Listings.{given_listing, card_listing, locks_listing};
+ghost use Rattle.hotel_lists.specs.{RowLines.LooksAt, RowLines.FindsRoom, LookedLists.IsAfterLookUps};
 
 use crate::bytes::write_bytes;
 use crate::calls::IoCalls;
 use crate::fault::ListFault;
 use crate::gathered::Gathered;
-use crate::line_sink::{LineSink, listed};
+use crate::line_sink::{LineSink, hand_rows, listed};
+use crate::looked_lists::{find_card, find_locks};
+use crate::row_lines::RowLine;
 use crate::walked_lists::{
-    Arrivals, AuditOf, Availability, Bookings, BusinessDay, ChainOf, InHouse, Inside, LeftBehind,
-    RoomStatus, WalkedList,
+    Arrivals, AuditOf, Availability, Bookings, BusinessDay, CardsGiven, ChainOf, InHouse, Inside,
+    LeftBehind, RoomStatus, WalkedList,
 };
 use hotel_core::Walks;
 use hotel_nights::{Day, Nights};
-use keycard_rules::{LookFault, RoomNo};
+use keycard_rules::{CardNo, PartyNo, RoomNo};
 use std::alloc::Global;
 use std::io::Write;
 
@@ -43,17 +46,21 @@ const INSIDE: &[u8] = b"room,card,party\n";
 
 const FREE: &[u8] = b"kind,rooms,free\n";
 
+const GIVEN: &[u8] = b"card,old,new\n";
+
+const CARD: &[u8] = b"card,party,guest,old,new\n";
+
+const LOCKS: &[u8] = b"room,fit,count,at\n";
+
 /// Whether the room is there, or why no list of it is written.
 fn find_room<B: Walks>(books: &mut B, room: RoomNo) -> Result<(), ListFault>
     ensures room { B.is_honest books.new → FindsRoom (room_at (B.rows books.old) room) result }
     ensures unwritten { result ≡ Err Write → ⊥ }
     ensures books { LooksAt B.Kept books.old books.new result }
 {
-    match books.room(room) {
-        Ok(Some(_)) => Ok(()),
-        Ok(None) => Err(ListFault::NoRoom),
-        Err(LookFault::Memory) => Err(ListFault::Memory),
-        Err(LookFault::Store) => Err(ListFault::Store),
+    match books.room(room)? {
+        Some(_) => Ok(()),
+        None => Err(ListFault::NoRoom),
     }
 }
 
@@ -99,6 +106,27 @@ fn write_room_rows<B: Walks, L: WalkedList<B>, W: Write>(
 {
     find_room(books, room)?;
     write_rows(alloc, books, list, header, writer, calls)
+}
+
+/// Writes the header of a list and the lines of rows that were looked up.
+fn write_found<R: RowLine, W: Write>(
+    alloc: Global,
+    rows: &[R],
+    header: &[u8],
+    writer: &mut W,
+    calls: &mut IoCalls,
+) -> Result<(), ListFault>
+    ensures text { ListEnds [] (Some (listing header.now R.line rows.now)) (W.contents writer.old)
+        (W.contents writer.new) result }
+    ensures looked { IsAfterLookUps result }
+    ensures calls { CountsWrites calls.old calls.new (OnErrOf result Write) }
+{
+    write_bytes(writer, header, calls)?;
+    let mut gathered = Gathered::none(alloc);
+    let mut lines = LineSink::new(writer, calls, &mut gathered);
+    let handed = hand_rows(rows, &mut lines);
+    let end = lines.finish(handed);
+    listed(end, lines.write_failed)
 }
 
 /// Writes the booked stays that take the night of a day, by party.
@@ -271,4 +299,56 @@ pub fn write_availability<B: Walks, W: Write>(
         writer,
         calls,
     )
+}
+
+/// Writes the cards that a party was given, by number; no row where there is no such party.
+pub fn write_cards_given<B: Walks, W: Write>(
+    alloc: Global,
+    books: &mut B,
+    party: PartyNo,
+    writer: &mut W,
+    calls: &mut IoCalls,
+) -> Result<(), ListFault>
+    ensures text { B.is_honest books.new → ListEnds [] (given_listing (B.rows books.old) party) (W.contents writer.old)
+        (W.contents writer.new) result }
+    ensures no_room { result ≡ Err NoRoom → ⊥ }
+    ensures books { LooksAt B.Kept books.old books.new result }
+    ensures calls { CountsWrites calls.old calls.new (OnErrOf result Write) }
+{
+    write_rows(alloc, books, &CardsGiven(party), GIVEN, writer, calls)
+}
+
+/// Writes the card of a number, with its party and its party's guest; no row where there is no such card.
+pub fn write_card_of<B: Walks, W: Write>(
+    alloc: Global,
+    books: &mut B,
+    number: CardNo,
+    writer: &mut W,
+    calls: &mut IoCalls,
+) -> Result<(), ListFault>
+    ensures text { B.is_honest books.new → ListEnds [] (card_listing (B.rows books.old) number) (W.contents writer.old)
+        (W.contents writer.new) result }
+    ensures no_room { result ≡ Err NoRoom → ⊥ }
+    ensures books { LooksAt B.Kept books.old books.new result }
+    ensures calls { CountsWrites calls.old calls.new (OnErrOf result Write) }
+{
+    let cards = find_card(alloc, books, number)?;
+    write_found(alloc, cards.as_slice(), CARD, writer, calls)
+}
+
+/// Writes the present lock of each room, by room: how many of its notes were taken, and when it noted the last.
+pub fn write_locks<B: Walks, W: Write>(
+    alloc: Global,
+    books: &mut B,
+    writer: &mut W,
+    calls: &mut IoCalls,
+) -> Result<(), ListFault>
+    ensures text { B.is_honest books.new → ListEnds [] (locks_listing (B.rows books.old)) (W.contents writer.old)
+        (W.contents writer.new) result }
+    ensures no_room { result ≡ Err NoRoom → ⊥ }
+    ensures books { LooksAt B.Kept books.old books.new result }
+    ensures calls { CountsWrites calls.old calls.new (OnErrOf result Write) }
+{
+    let locks = find_locks(alloc, books)?;
+    write_found(alloc, locks.as_slice(), LOCKS, writer, calls)
 }

@@ -9,3 +9,4 @@ pub mod Lifted
 pub mod LeadsOn
 pub mod Reissued
 pub mod FreeNights
+pub mod InsidersListed

@@ -1,6 +1,6 @@
--- What is proved beside: what a reissue leaves as it is, which bookings are kept, where an issued code is listed, and
--- the limits.
-use Rattle.std.specs.Prelude.{ℕ, ◌≡◌, ◌≤◌, ◌<◌, ◌+◌, ◌↔◌, Bool, true, false, List, ◌∷◌, ◌++◌, length, Some}
+-- What is proved beside: what a reissue leaves as it is, which bookings are kept, where an issued code and a card inside
+-- are listed, and the limits.
+use Rattle.std.specs.Prelude.{ℕ, ◌≡◌, ◌≤◌, ◌<◌, ◌+◌, ◌↔◌, Bool, true, false, List, ◌∷◌, ◌++◌, length, map, Some}
 use Rattle.keycard_rules.specs.declared.numbers.TheConstants.{LAST_NUMBER, LAST_ROOM}
 use Rattle.hotel_nights.specs.declared.guest.TheConstants.{GUEST_BYTES}
 use Rattle.hotel_nights.specs.declared.kind.TheConstants.{KIND_BYTES}
@@ -13,12 +13,12 @@ use Rattle.hotel_model.specs.Rows.{at_number}
 use Rattle.hotel_model.specs.Event.{Event}
 use Rattle.hotel_model.specs.History.{History, ◌▷◌}
 use Rattle.hotel_model.specs.Issued.{all_issued, issued}
-use Rattle.hotel_model.specs.Guests.{registered}
+use Rattle.hotel_model.specs.Guests.{insiders, registered}
 use Rattle.hotel_model.specs.Stays.{stays}
 use Rattle.hotel_model.specs.Cases.{is_kind}
 use Rattle.hotel_model.specs.Answer.{answer_to}
 use Rattle.hotel_model.specs.Run.{Reached}
-use Rattle.hotel_model.specs.Lists.{free}
+use Rattle.hotel_model.specs.Lists.{cards_inside, free}
 
 -- After an accepted reissue each room has the party that it had, and the stays are the same.
 abbrev pub ReissuesKeep : Type 0
@@ -53,6 +53,10 @@ abbrev pub CodesAreListed : Type 0
 CodesAreListed = (h : History) → Reached h → (code : ℕ) (row : CodeRow)
     → (at_number (all_issued h) code ≡ Some row)
     ↔ ((before later : List ℕ) × (issued h row.room ≡ before ++ code ∷ later) × (length before ≡ row.place))
+
+-- Each card inside a room is listed, with its room and in order.
+abbrev pub InsidersAreListed : Type 0
+InsidersAreListed = (h : History) → Reached h → map (λ row. (row.room, row.card)) (cards_inside h) ≡ insiders h
 
 -- Each limit is its number.
 pub record LimitsAre : Type 0 where

@@ -65,7 +65,8 @@ pub mod Headline
 pub mod Leads
 -- What is proved of the definitions: they are what they say.
 pub mod Laws
--- What is proved beside: what a reissue leaves, which bookings are kept, where an issued code is listed, the limits.
+-- What is proved beside: what a reissue leaves, which bookings are kept, where an issued code and a card
+-- inside are listed, the limits.
 pub mod FurtherLaws
 -- The code's own terms, between the rows and the model.
 pub mod Refinement

@@ -1,8 +1,8 @@
 -- The rows of the lists, read off a history.
-use Rattle.std.specs.Prelude.{ℕ, Bool, false, List, [], ◌∷◌, ◌++◌, Option, Some, None, ◌+◌, ◌-◌, ◌&&◌, if◌then◌else◌}
+use Rattle.std.specs.Prelude.{ℕ, Bool, false, List, [], ◌∷◌, ◌++◌, Option, Some, None, ◌+◌, ◌-◌, ◌&&◌, ◌==◌, if◌then◌else◌}
 use Rattle.std.specs.Prelude.{nat_le, nat_lt, length, map, filter, filter_map, option_map}
 use Rattle.std.specs.Map.{keys_of, values_of}
-use Rattle.keycard_rules.specs.declared.note.TheConstants.{LAST_DAY}
+use Rattle.keycard_rules.specs.{declared.card.Card.Card, declared.note.TheConstants.LAST_DAY}
 use Rattle.hotel_nights.specs.declared.stay.Stay.{Stay}
 use Rattle.hotel_model.specs.declared.list_rows.HouseRow.{HouseRow}
 use Rattle.hotel_model.specs.declared.list_rows.ChainRow.{ChainRow}
@@ -122,3 +122,7 @@ free_row h d n kind = record { kind = kind; rooms = rooms_of h kind; free = free
 -- Kinds with their rooms, and what is free of them for so many nights from a day on, by kind.
 abbrev pub availability : History → ℕ → ℕ → List FreeRow
 availability h d n = map (free_row h d n) (kinds h)
+
+-- Cards that a party was given, by number.
+abbrev pub cards_given : History → ℕ → List Card
+cards_given h party = filter (λ card. card.party == party) (values_of (cards h))

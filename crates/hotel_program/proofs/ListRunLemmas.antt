@@ -9,7 +9,7 @@ use Rattle.hotel_model.specs.Rows.{Rows}
 use Rattle.hotel_lists.specs.Bytes.{AppendsFront}
 use Rattle.hotel_lists.specs.declared.fault.ListFault.{ListFault}
 use Rattle.hotel_lists.specs.declared.fault.ListFault.TheVariants as fault
-use Rattle.hotel_core.specs.declared.asks.ListAsk.{ListAsk}
+use Rattle.hotel_asks.specs.declared.asked.ListAsk.{ListAsk}
 use Rattle.hotel_program.specs.Script.ListAnswers.{refusal_text}
 use Rattle.hotel_program.specs.Alone.ListRuns.{AnswerEnds, AnswerEndsFor}
 use Rattle.hotel_lists.specs.Listings.{ListEnds, Listing}

@@ -10,8 +10,8 @@ use Rattle.keycard_rules.specs.Calls.{BeganShut, Passes, last_answers}
 use Rattle.keycard_rules.proofs.{CallsTogether.shut_fail, CallsTogether.together, Sinces.since_refl, Sinces.since_then}
 use Rattle.hotel_core.proofs.Names.{false≢true, failure_in}
 use Rattle.hotel_core.proofs.OfCode.Counting.{untold}
-use Rattle.hotel_core.specs.declared.asks.Ask.{Ask}
-use Rattle.hotel_core.specs.declared.asks.Ask.TheVariants as ask
+use Rattle.hotel_asks.specs.declared.asked.Ask.{Ask}
+use Rattle.hotel_asks.specs.declared.asked.Ask.TheVariants as ask
 use Rattle.hotel_model.specs.{declared.reply.Reply.Reply, History.History, History.start, Rows.Rows, Rows.no_rows}
 use Rattle.hotel_model.specs.declared.reply.Reply.TheVariants as reply
 use Rattle.hotel_model.specs.declared.reply.Refusal.TheVariants as refusal

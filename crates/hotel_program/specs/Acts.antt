@@ -11,7 +11,7 @@ use Rattle.hotel_model.specs.declared.reply.Reply.{Reply}
 use Rattle.hotel_lists.specs.Bytes.{AppendsFront}
 use Rattle.hotel_lists.specs.RowLines.{LooksAt}
 use Rattle.hotel_lists.specs.declared.fault.ListFault.{ListFault}
-use Rattle.hotel_core.specs.declared.asks.ListAsk.{ListAsk}
+use Rattle.hotel_asks.specs.declared.asked.ListAsk.{ListAsk}
 use Rattle.hotel_audit.specs.declared.answer.LineAnswer.{LineAnswer}
 use Rattle.hotel_audit.specs.declared.imports.ImportFault.{ImportFault}
 use Rattle.hotel_audit.specs.{AuditFile.audit_lines, Import.Imports}

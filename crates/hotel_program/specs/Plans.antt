@@ -12,8 +12,8 @@ use Rattle.hotel_asks.specs.Asks.{ask_of}
 use Rattle.hotel_asks.specs.Names.{name_text, names_of}
 use Rattle.keycard_rules.specs.Results.{◌>>=◌}
 use Rattle.hotel_asks.specs.Verbs.{read_verb}
-use Rattle.hotel_core.specs.declared.asks.Ask.{Ask}
-use Rattle.hotel_core.specs.declared.asks.Ask.TheVariants as ask
+use Rattle.hotel_asks.specs.declared.asked.Ask.{Ask}
+use Rattle.hotel_asks.specs.declared.asked.Ask.TheVariants as ask
 use Rattle.hotel_asks.specs.declared.values.ValueFault.{ValueFault}
 use Rattle.hotel_asks.specs.declared.values.ValueFault.TheVariants as fault
 use Rattle.hotel_asks.specs.declared.values.ValueName.{ValueName}

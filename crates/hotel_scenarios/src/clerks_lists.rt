@@ -1,5 +1,5 @@
 //! The lists that a clerk asks for first: which day it is, which rooms are free, who is inside, what is booked, and
-//! what can be booked.
+//! what can be booked; whose a card is, and which notes of the locks were taken.
 use crate::scenarios::{Scenario, Step};
 
 /// Before a business day is set.
@@ -9,6 +9,9 @@ pub const NOT_BEGUN: &[Step] = &[
     Step::Line(b"inside", b"room,card,party\n"),
     Step::Line(b"bookings", b"party,guest,kind,arrive,depart\n"),
     Step::Line(b"availability 2031-05-01 2", b"kind,rooms,free\n"),
+    Step::Line(b"cards 1", b"card,old,new\n"),
+    Step::Line(b"card 1", b"card,party,guest,old,new\n"),
+    Step::Line(b"locks", b"room,fit,count,at\n"),
 ];
 
 /// What can be booked, before and after a booking.
@@ -52,6 +55,14 @@ pub const IN_A_ROOM: &[Step] = &[
         b"check-in 1 101",
         b"card 1 party 1 old 0000000000a0 new 0000000000a1\n",
     ),
+    Step::Line(
+        b"card 1",
+        b"card,party,guest,old,new\n1,1,Ann,0000000000a0,0000000000a1\n",
+    ),
+    Step::Line(b"card 2", b"card,party,guest,old,new\n"),
+    Step::Line(b"cards 1", b"card,old,new\n1,0000000000a0,0000000000a1\n"),
+    Step::Line(b"cards 2", b"card,old,new\n"),
+    Step::Line(b"locks", b"room,fit,count,at\n101,1,0,\n"),
     Step::Line(b"bookings", b"party,guest,kind,arrive,depart\n"),
     Step::Line(
         b"availability 2031-05-02 1",
@@ -67,7 +78,15 @@ pub const IN_A_ROOM: &[Step] = &[
         b"room,kind,party,secured,awaited\n101,DBL,1,yes,0\n",
     ),
     Step::Line(b"inside", b"room,card,party\n101,1,1\n"),
+    Step::Line(
+        b"locks",
+        b"room,fit,count,at\n101,1,1,2031-05-02T15:00:00\n",
+    ),
     Step::Line(b"check-out 1", b"checked out\n"),
+    Step::Line(
+        b"card 1",
+        b"card,party,guest,old,new\n1,1,Ann,0000000000a0,0000000000a1\n",
+    ),
     Step::Line(
         b"room-status",
         b"room,kind,party,secured,awaited\n101,DBL,,yes,0\n",
@@ -92,6 +111,14 @@ pub const UNREAD_LISTS: &[Step] = &[
     Step::Line(b"availability 2100-01-01 1", b"unread\n"),
     Step::Line(b"availability 2031-05-02 0", b"unread\n"),
     Step::Line(b"availability 2031-05-02 91", b"unread\n"),
+    Step::Line(b"cards", b"unread\n"),
+    Step::Line(b"cards 0", b"unread\n"),
+    Step::Line(b"cards 1 1", b"unread\n"),
+    Step::Line(b"card", b"unread\n"),
+    Step::Line(b"card 0", b"unread\n"),
+    Step::Line(b"card 10000000", b"unread\n"),
+    Step::Line(b"card 1 1", b"unread\n"),
+    Step::Line(b"locks 101", b"unread\n"),
     Step::List(
         b"availability 2031-05-02 090",
         b"kind,rooms,free\nDBL,1,1\nSGL,0,0\n",

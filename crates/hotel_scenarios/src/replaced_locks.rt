@@ -19,7 +19,12 @@ pub const REPLACED_LOCK: &[Step] = &[
     Step::Line(b"entered 101 1 1 a0 a1 2031-05-01T15:00:00", b"taken\n"),
     Step::Line(b"refit 101", b"refused 14 RoomTaken\n"),
     Step::Line(b"check-out 1", b"checked out\n"),
+    Step::Line(
+        b"locks",
+        b"room,fit,count,at\n101,1,1,2031-05-01T15:00:00\n",
+    ),
     Step::Line(b"refit 101", b"lock 2 code 0000000000a2\n"),
+    Step::Line(b"locks", b"room,fit,count,at\n101,2,0,\n"),
     Step::Line(
         b"chain 101",
         b"place,code,state\n0,0000000000a0,passed\n1,0000000000a1,passed\n2,0000000000a2,held\n",
@@ -30,6 +35,10 @@ pub const REPLACED_LOCK: &[Step] = &[
         b"card 2 party 2 old 0000000000a2 new 0000000000a3\n",
     ),
     Step::Line(b"entered 101/2 1 2 a2 a3 2031-05-01T15:00:00", b"taken\n"),
+    Step::Line(
+        b"locks",
+        b"room,fit,count,at\n101,2,1,2031-05-01T15:00:00\n",
+    ),
     Step::Line(
         b"in-house",
         b"room,party,guest,kind,depart,secured\n101,2,Bo,DBL,2031-05-03,yes\n",

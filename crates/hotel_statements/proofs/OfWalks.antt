@@ -1,6 +1,7 @@
 -- The rows that the walks' statements show are those of the lists.
 pub mod Compared
 pub mod Single
+pub mod Given
 pub mod SoundCodes
 pub mod Chain
 pub mod Joined

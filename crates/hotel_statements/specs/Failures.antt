@@ -121,6 +121,9 @@ CardsInsideFail = WalkFails IsOfInside text.walk_inside []
 abbrev pub BookingsFail : State → State → Type 0
 BookingsFail = WalkFails IsStay text.walk_bookings []
 
+abbrev pub CardsGivenFail : ℕ → State → State → Type 0
+CardsGivenFail party = WalkFails IsCard text.walk_cards_given (int party ∷ [])
+
 -- for the business day, and then over the kinds
 abbrev pub AvailabilityFails : State → State → Type 0
 AvailabilityFails old new = DayFails old new ⊎ WalkFails (FirstColumnIs IsKind) text.read_kind [] old new

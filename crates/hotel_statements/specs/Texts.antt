@@ -177,6 +177,9 @@ walk_inside = constant.WALK_INSIDE.now
 abbrev pub walk_bookings : List ℕ
 walk_bookings = constant.WALK_BOOKINGS.now
 
+abbrev pub walk_cards_given : List ℕ
+walk_cards_given = constant.WALK_CARDS_GIVEN.now
+
 -- ---- whole tables
 
 abbrev pub read_meta : List ℕ

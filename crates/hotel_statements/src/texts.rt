@@ -66,7 +66,7 @@ pub(crate) const CREATE_FIT: &str = "CREATE TABLE fit (\
     UNIQUE (room, place)) STRICT";
 
 // The indexes: by the first two the rows that refer to a changed one are looked for, by the third arrivals and
-// bookings.
+// bookings. By the second the cards of a party are listed.
 
 pub(crate) const CREATE_STAY_ROOM: &str = "CREATE INDEX stay_room ON stay (room)";
 
@@ -204,6 +204,9 @@ pub(crate) const WALK_BOOKINGS: &str = "SELECT party, guest, kind, arrive, depar
     FROM stay \
     WHERE state = 0 \
     ORDER BY party";
+
+pub(crate) const WALK_CARDS_GIVEN: &str =
+    "SELECT number, party, old_code, new_code FROM card WHERE party = ?1 ORDER BY number";
 
 // Whole tables.
 

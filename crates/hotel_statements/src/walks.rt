@@ -4,21 +4,22 @@ ghost use Rattle.sqlite.specs.Held.{state};
 ghost use Rattle.hotel_model.specs.Sound.{IsSound};
 ghost use Rattle.hotel_model.specs.Refinement.ListsOnRows.{arrivals_on, in_house_on, chain_on, left_behind_on};
 ghost use Rattle.hotel_model.specs.Refinement.ListsOnRows.{room_status_on, cards_inside_on, bookings_on};
-ghost use Rattle.hotel_model.specs.Refinement.ListsOnRows.{availability_on};
+ghost use Rattle.hotel_model.specs.Refinement.ListsOnRows.{availability_on, cards_given_on};
 ghost use Rattle.hotel_model.specs.Rows.{notes_at};
 ghost use Rattle.hotel_statements.specs.Books.{IsBooks, IsKept};
 ghost use Rattle.hotel_statements.specs.Tables.{rows_in};
 ghost use Rattle.hotel_statements.specs.Walks.{AreCounted, WalksList};
 ghost use Rattle.hotel_statements.specs.Failures.{ArrivalsFail, AuditFails, ChainFails, InHouseFails, LeftBehindFails};
 ghost use Rattle.hotel_statements.specs.Failures.{RoomStatusFails, CardsInsideFail, BookingsFail, AvailabilityFails};
+ghost use Rattle.hotel_statements.specs.Failures.{CardsGivenFail};
 
 use crate::from_row::bare_rows::UnderFits;
 use crate::from_row::list_rows::{Alone, AtLock, FreeOn};
 use crate::look_ups;
 use crate::number::{dated, numbered};
 use crate::texts::{
-    READ_KIND, WALK_ARRIVALS, WALK_AUDIT, WALK_BOOKINGS, WALK_CHAIN, WALK_IN_HOUSE, WALK_INSIDE,
-    WALK_LEFT_BEHIND, WALK_ROOM_STATUS,
+    READ_KIND, WALK_ARRIVALS, WALK_AUDIT, WALK_BOOKINGS, WALK_CARDS_GIVEN, WALK_CHAIN,
+    WALK_IN_HOUSE, WALK_INSIDE, WALK_LEFT_BEHIND, WALK_ROOM_STATUS,
 };
 use crate::walk::walk;
 use hotel_core::{
@@ -26,7 +27,7 @@ use hotel_core::{
     WalkFault,
 };
 use hotel_nights::{Day, Nights, Stay};
-use keycard_rules::{LockNote, RoomNo};
+use keycard_rules::{Card, LockNote, PartyNo, RoomNo};
 use sqlite::{Alter, Connection};
 use std::alloc::Global;
 
@@ -155,6 +156,27 @@ pub fn bookings<S: Alter, K: Sink<Stay>>(
         (state S.Store conn.old) (state S.Store conn.new) sink.old sink.new result }
 {
     walk(alloc, conn, WALK_BOOKINGS, &[], &Alone, sink)
+}
+
+/// The cards that a party was given, by number.
+pub fn cards_given<S: Alter, K: Sink<Card>>(
+    alloc: Global,
+    conn: &mut Connection<S>,
+    party: PartyNo,
+    sink: &mut K,
+) -> Result<(), WalkFault>
+    requires { IsBooks (state S.Store conn.old) }
+    ensures { WalksList (CardsGivenFail party) K.Sink.after K.Sink.after_stop (λ rows. cards_given_on rows party)
+        (state S.Store conn.old) (state S.Store conn.new) sink.old sink.new result }
+{
+    walk(
+        alloc,
+        conn,
+        WALK_CARDS_GIVEN,
+        &[numbered(party)],
+        &Alone,
+        sink,
+    )
 }
 
 /// The kinds, in order, each with its rooms and what is free of it from a day on, for so many nights.

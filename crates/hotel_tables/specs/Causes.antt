@@ -18,6 +18,7 @@ use Rattle.hotel_statements.specs.Failures.{CodeAtFails, CardFails, InsideFails,
 use Rattle.hotel_statements.specs.Failures.{NoteFails, NumbersFail}
 use Rattle.hotel_statements.specs.Failures.{ArrivalsFail, InHouseFails, ChainFails, LeftBehindFails, AuditFails}
 use Rattle.hotel_statements.specs.Failures.{RoomStatusFails, CardsInsideFail, BookingsFail, AvailabilityFails}
+use Rattle.hotel_statements.specs.Failures.{CardsGivenFail}
 use Rattle.hotel_tables.specs.Applied.{known_for}
 
 -- One of the desk's look-ups or walks fails, of a connection from old to new.
@@ -45,6 +46,7 @@ pub data LookUpFails (old new : State) : Type 0 where
   of_cards_inside : CardsInsideFail old new → LookUpFails old new
   of_bookings : BookingsFail old new → LookUpFails old new
   of_availability : AvailabilityFails old new → LookUpFails old new
+  of_cards_given : (party : ℕ) → CardsGivenFail party old new → LookUpFails old new
 
 -- ---- changes
 

@@ -50,20 +50,21 @@ struct Asked {
     /// The path by which HTTP asks for it.
     path: &'static [u8],
     text: &'static [u8],
-    /// How many calls of the books it makes: one before each row and one behind the last one; and of a room that is
-    /// looked up first. The business day is one look-up.
+    /// How many calls of the books it makes: one before each row and one behind the last one, and of a room that is
+    /// looked up first. The business day is one look-up, a card is two: the card and its party's stay. For the locks
+    /// all rooms are walked over, and then looked up, each with the last note of its lock.
     calls: u64,
-    /// How many lines stand before the first of them.
-    header: u64,
+    /// How many of them it makes before its header is written.
+    unwritten: u64,
 }
 
-static ASKED: [Asked; 10] = [
+static ASKED: [Asked; 13] = [
     Asked {
         line: b"arrivals 2031-05-03",
         path: b"/arrivals/2031-05-03",
         text: b"party,guest,kind,arrive,depart\n4,Di,DBL,2031-05-03,2031-05-04\n",
         calls: 2,
-        header: 1,
+        unwritten: 0,
     },
     Asked {
         line: b"in-house",
@@ -74,7 +75,7 @@ room,party,guest,kind,depart,secured
 102,3,Cy,DBL,2031-05-02,yes
 ",
         calls: 3,
-        header: 1,
+        unwritten: 0,
     },
     Asked {
         line: b"chain 101",
@@ -86,14 +87,14 @@ place,code,state
 2,0000000000a2,awaited
 ",
         calls: 5,
-        header: 0,
+        unwritten: 1,
     },
     Asked {
         line: b"left-behind",
         path: b"/left-behind",
         text: b"room,held,current,awaited\n101,0000000000a0,0000000000a2,2\n",
         calls: 2,
-        header: 1,
+        unwritten: 0,
     },
     Asked {
         line: b"audit-of 102",
@@ -105,14 +106,14 @@ room,fit,count,kind,card,old,new,at
 102,1,3,in,3,0000000000b0,0000000000b1,2031-05-01T17:00:00
 ",
         calls: 5,
-        header: 0,
+        unwritten: 1,
     },
     Asked {
         line: b"business-day",
         path: b"/business-day",
         text: b"day\n2031-05-01\n",
         calls: 1,
-        header: 1,
+        unwritten: 0,
     },
     Asked {
         line: b"room-status",
@@ -123,28 +124,49 @@ room,kind,party,secured,awaited
 102,DBL,3,yes,0
 ",
         calls: 3,
-        header: 1,
+        unwritten: 0,
     },
     Asked {
         line: b"inside",
         path: b"/inside",
         text: b"room,card,party\n102,3,3\n",
         calls: 2,
-        header: 1,
+        unwritten: 0,
     },
     Asked {
         line: b"bookings",
         path: b"/bookings",
         text: b"party,guest,kind,arrive,depart\n4,Di,DBL,2031-05-03,2031-05-04\n",
         calls: 2,
-        header: 1,
+        unwritten: 0,
     },
     Asked {
         line: b"availability 2031-05-03 1",
         path: b"/availability/2031-05-03/1",
         text: b"kind,rooms,free\nDBL,2,1\n",
         calls: 2,
-        header: 1,
+        unwritten: 0,
+    },
+    Asked {
+        line: b"cards 2",
+        path: b"/parties/2/cards",
+        text: b"card,old,new\n2,0000000000a1,0000000000a2\n",
+        calls: 2,
+        unwritten: 0,
+    },
+    Asked {
+        line: b"card 2",
+        path: b"/cards/2",
+        text: b"card,party,guest,old,new\n2,2,Bo,0000000000a1,0000000000a2\n",
+        calls: 2,
+        unwritten: 2,
+    },
+    Asked {
+        line: b"locks",
+        path: b"/locks",
+        text: b"room,fit,count,at\n101,1,0,\n102,1,3,2031-05-01T17:00:00\n",
+        calls: 6,
+        unwritten: 6,
     },
 ];
 
@@ -166,7 +188,7 @@ impl Asked {
     /// Whether this may be written of the list where the call of this number fails: whole lines of it, and none of a
     /// row that the books hadn't handed over.
     fn may_be_cut_to(&self, text: &[u8], call: u64) -> bool {
-        let lines_before = self.header.saturating_add(call).saturating_sub(1);
+        let lines_before = call.saturating_sub(self.unwritten);
         let is_whole = text.is_empty() || text.ends_with(b"\n");
         is_whole && first_lines(self.text, lines_before).starts_with(text)
     }
@@ -279,7 +301,7 @@ fn a_failed_walk_is_told_before_a_failed_write(rt: HostRuntime) -> Result<(), Fa
 /// How many calls the list makes where the write behind so many bytes fails.
 fn calls_behind(asked: &Asked, bytes: u32) -> u64 {
     if bytes < header_bytes(asked) {
-        1u64.saturating_sub(asked.header)
+        asked.unwritten
     } else {
         asked.calls
     }

@@ -2,8 +2,8 @@
 use hotel_asks::{Ask, ListAsk};
 use hotel_core::Walks;
 use hotel_lists::{
-    ListFault, arrivals, audit_of, availability, bookings, business_day, chain_of, in_house,
-    inside, left_behind, room_status,
+    ListFault, arrivals, audit_of, availability, bookings, business_day, card_of, cards_given,
+    chain_of, in_house, inside, left_behind, locks, room_status,
 };
 use hotel_scenarios::chains::walks_end;
 use hotel_scenarios::desks::Desk;
@@ -39,6 +39,9 @@ pub(crate) fn write_alone<B: Walks, W: Write>(
         ListAsk::Inside => inside(alloc, books, writer),
         ListAsk::Bookings => bookings(alloc, books, writer),
         ListAsk::Availability(day, nights) => availability(alloc, books, *day, *nights, writer),
+        ListAsk::CardsGiven(party) => cards_given(alloc, books, *party, writer),
+        ListAsk::CardOf(number) => card_of(alloc, books, *number, writer),
+        ListAsk::Locks => locks(alloc, books, writer),
     }
 }
 

@@ -10,7 +10,7 @@ use hotel_core::{
     BehindRow, ChainRow, FreeRow, HouseRow, InsideRow, Sink, StatusRow, Stop, WalkFault, Walks,
 };
 use hotel_nights::{Day, Nights, Stay};
-use keycard_rules::{LockNote, LookFault, RoomNo};
+use keycard_rules::{Card, LockNote, LookFault, PartyNo, RoomNo};
 
 /// A sink that hands rows on to another one, up to the call that fails.
 #[derive(Drop)]
@@ -167,6 +167,16 @@ impl Walks for StoppingBooks {
     ) -> Result<(), WalkFault> {
         let mut passing = Passing::new(sink, self.calls);
         let end = self.books.walk_availability(day, nights, &mut passing);
+        self.ended(end, passing.calls, passing.failed)
+    }
+
+    fn walk_cards_given<S: Sink<Card>>(
+        &mut self,
+        party: PartyNo,
+        sink: &mut S,
+    ) -> Result<(), WalkFault> {
+        let mut passing = Passing::new(sink, self.calls);
+        let end = self.books.walk_cards_given(party, &mut passing);
         self.ended(end, passing.calls, passing.failed)
     }
 }

@@ -1,7 +1,7 @@
 -- Rows whose places say their numbers.
 use Rattle.std.proofs.Common.{ℕ, zero, suc, ◌≡◌, ◌+◌, ◌-◌, ◌≤◌, cond, Some, List, [], ◌∷◌, ◌++◌, length, refl, ap, sym}
 use Rattle.std.proofs.Common.{◌∙◌, arith, slice_get, nat_cmp}
-use Rattle.hotel_core.proofs.Names.{enumerate_from, match_ordering, is_at, insert_entry, at_number}
+use Rattle.hotel_core.proofs.Names.{enumerate_from, match_ordering, is_at, insert_entry, at_number, values_of}
 use Rattle.hotel_model.proofs.{OfTables.Tests.not_higher, OfTables.TableKeys.at_is, OfTables.TableKeys.is_at_self}
 use Rattle.hotel_model.proofs.{OfTables.Counting.greater_is}
 
@@ -31,3 +31,8 @@ put_last n (x ∷ xs) k v e =
     ap (λ zs. (n, x) ∷ zs) (put_last (n + 1) xs k v (omega (arith, e)))
     ∙ sym (ap (λ o. match_ordering o ((k, v) ∷ (n, x) ∷ enumerate_from (n + 1) xs) ((n, v) ∷ enumerate_from (n + 1) xs)
     ((n, x) ∷ insert_entry nat_cmp (enumerate_from (n + 1) xs) k v)) (greater_is k n (omega (arith, e))))
+
+-- the values are the list's items
+pub values_by_place : {X : Type 0} (n : ℕ) (xs : List X) → values_of (enumerate_from n xs) ≡ xs
+values_by_place n [] = refl
+values_by_place n (x ∷ xs) = ap (λ vs. x ∷ vs) (values_by_place (n + 1) xs)

@@ -2,7 +2,7 @@
 ghost use Rattle.std.specs.Prelude.{◌≡◌, false, Some, Err, OnOk, OnErr};
 ghost use Rattle.hotel_model.specs.Refinement.ListsOnRows.{arrivals_on, in_house_on, chain_on, left_behind_on};
 ghost use Rattle.hotel_model.specs.Refinement.ListsOnRows.{room_status_on, cards_inside_on, bookings_on};
-ghost use Rattle.hotel_model.specs.Refinement.ListsOnRows.{availability_on};
+ghost use Rattle.hotel_model.specs.Refinement.ListsOnRows.{availability_on, cards_given_on};
 ghost use Rattle.hotel_model.specs.Rows.{notes_at};
 ghost use Rattle.hotel_core.specs.{Books.Reads.is_any};
 ghost use Rattle.hotel_core.specs.Books.Walks.{WalksOver, failure_of, walk_text};
@@ -12,7 +12,7 @@ ghost use Rattle.hotel_core.specs.{declared.books.walks.WalkFault.TheVariants.St
 use crate::books::Books;
 use hotel_model::{BehindRow, ChainRow, FreeRow, HouseRow, InsideRow, StatusRow};
 use hotel_nights::{Day, Nights, Stay};
-use keycard_rules::{LockNote, LookFault, RoomNo};
+use keycard_rules::{Card, LockNote, LookFault, PartyNo, RoomNo};
 use std::alloc::AllocError;
 use std::error::Error;
 use std::fmt;
@@ -142,4 +142,13 @@ pub trait Walks: Books {
     ) -> Result<(), WalkFault>
         ensures { WalksOver Self.Kept false S.after S.after_stop
             (availability_on (Self.rows self.old) day nights) self.old self.new sink.old sink.new result };
+
+    /// The cards that a party was given, by number; none where the party isn't there.
+    fn walk_cards_given<S: Sink<Card>>(
+        &mut self,
+        party: PartyNo,
+        sink: &mut S,
+    ) -> Result<(), WalkFault>
+        ensures { WalksOver Self.Kept false S.after S.after_stop
+            (cards_given_on (Self.rows self.old) party) self.old self.new sink.old sink.new result };
 }

@@ -1,10 +1,13 @@
 //! The cards, found by number.
-ghost use Rattle.std.specs.Prelude.{◌≡◌, ◌+◌, [], length, OnOk, OnErr};
+ghost use Rattle.std.specs.Prelude.{◌≡◌, ◌+◌, ◌==◌, [], filter, length, OnOk, OnErr, None};
+ghost use Rattle.std.specs.Map.{values_of};
 ghost use Rattle.std.specs.Ordering.{nat_cmp};
 ghost use Rattle.std.specs.BTreeMap.{insert_entry};
 ghost use Rattle.hotel_model.specs.Rows.{at_number};
+ghost use Rattle.hotel_core.specs.{Books.Walks.Hands, Books.Walks.failure_of};
 
-use keycard_rules::{Card, CardNo, Memory};
+use crate::books::walks::{Sink, WalkFault};
+use keycard_rules::{Card, CardNo, Memory, PartyNo};
 use std::alloc::Global;
 use std::marker::Model;
 
@@ -22,6 +25,20 @@ impl Model for CardTable {
     ghost Value = { List (ℕ × Card) };
 
     ghost view = { λ t. enumerate_from 1 t.cards.items };
+}
+
+/// Walks those of some cards that a party was given.
+fn walk_given<S: Sink<Card>>(cards: &[Card], party: PartyNo, sink: &mut S) -> Result<(), WalkFault>
+    ensures hands { Hands S.after S.after_stop (filter (λ card. card.party == party) cards.now)
+        sink.old sink.new result }
+    ensures sure { failure_of result ≡ None }
+{
+    for card in cards {
+        if card.party == party {
+            sink.take(card)?;
+        }
+    }
+    Ok(())
 }
 
 impl CardTable {
@@ -61,5 +78,17 @@ impl CardTable {
             return Err(Memory);
         };
         Ok(())
+    }
+    /// Walks the cards of a party by number.
+    pub(crate) fn walk_given<S: Sink<Card>>(
+        &self,
+        party: PartyNo,
+        sink: &mut S,
+    ) -> Result<(), WalkFault>
+        ensures hands { Hands S.after S.after_stop (filter (λ card. card.party == party) (values_of self.now))
+            sink.old sink.new result }
+        ensures sure { failure_of result ≡ None }
+    {
+        walk_given(self.cards.as_slice(), party, sink)
     }
 }

@@ -295,4 +295,12 @@ impl Walks for ListBooks {
     ) -> Result<(), WalkFault> {
         self.tables.walk_availability(day, nights, sink)
     }
+
+    fn walk_cards_given<S: Sink<Card>>(
+        &mut self,
+        party: PartyNo,
+        sink: &mut S,
+    ) -> Result<(), WalkFault> {
+        self.tables.walk_cards_given(party, sink)
+    }
 }

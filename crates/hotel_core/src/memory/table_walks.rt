@@ -5,6 +5,7 @@ ghost use Rattle.hotel_model.specs.Refinement.ListsOnRows.{arrivals_on, in_house
 ghost use Rattle.hotel_model.specs.Refinement.ListsOnRows.{left_behind_on, house_row_on, chain_row_on};
 ghost use Rattle.hotel_model.specs.Refinement.ListsOnRows.{behind_row_on, room_status_on, cards_inside_on};
 ghost use Rattle.hotel_model.specs.Refinement.ListsOnRows.{inside_row_on, bookings_on, availability_on};
+ghost use Rattle.hotel_model.specs.Refinement.ListsOnRows.{cards_given_on};
 ghost use Rattle.hotel_model.specs.{Lists.arrives_on, Lists.is_booking, Rows.notes_at};
 ghost use Rattle.hotel_core.specs.{Books.Reads.is_any, Books.Walks.Hands, Books.Walks.failure_of};
 ghost use Rattle.hotel_core.specs.{declared.books.walks.WalkFault.TheVariants.Store};
@@ -16,7 +17,7 @@ use hotel_model::{
     BehindRow, ChainRow, CodeState, FreeRow, HouseRow, InsideRow, RoomRow, StatusRow,
 };
 use hotel_nights::{Day, Nights, Stay, StayState};
-use keycard_rules::{CardNo, LockNote, RoomNo};
+use keycard_rules::{Card, CardNo, LockNote, PartyNo, RoomNo};
 use std::alloc::AllocError;
 
 /// Whether a stay is booked: not in house, done or cancelled.
@@ -223,5 +224,16 @@ impl Tables {
             sink.take(&row)?;
         }
         Ok(())
+    }
+
+    pub(crate) fn walk_cards_given<S: Sink<Card>>(
+        &self,
+        party: PartyNo,
+        sink: &mut S,
+    ) -> Result<(), WalkFault>
+        ensures hands { Hands S.after S.after_stop (cards_given_on self.now party) sink.old sink.new result }
+        ensures sure { failure_of result ≡ None }
+    {
+        self.cards.walk_given(party, sink)
     }
 }

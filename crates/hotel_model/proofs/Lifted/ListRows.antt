@@ -1,6 +1,7 @@
 -- The rows of the lists, on the rows of a history and on the history itself.
 use Rattle.std.proofs.Common.{ℕ, zero, suc, ◌≡◌, ◌≤◌, ◌<◌, ◌+◌, ◌-◌, Bool, true, false, Option, Some, None, List, []}
-use Rattle.std.proofs.Common.{◌∷◌, ◌++◌, length, map, refl, ap, sym, ◌∙◌, arith, append_assoc, append-nil, length-append}
+use Rattle.std.proofs.Common.{◌∷◌, ◌++◌, length, map, refl, ap, sym, ◌∙◌, arith, append_assoc, append-nil}
+use Rattle.std.proofs.Common.{length-append}
 use Rattle.std.proofs.Common.{◌==◌, ◌||◌, filter_map, option_map, nat_lt, nat_le, if◌then◌else◌}
 use Rattle.hotel_model.proofs.Names.{range_with_len, cons_option, keys_of, values_of, nat_tests, filter_map-append}
 use Rattle.hotel_model.proofs.Names.{RoomRow, is_one_of, said_of, at_number, History, room_row, rows_of, issued}
@@ -199,4 +200,5 @@ lists_lift h ok = record {
   of_cards_inside = refl;
   of_bookings = refl;
   of_availability = availability_same h;
+  of_cards_given = λ party. refl;
 }

@@ -3,6 +3,7 @@ use Rattle.std.specs.Prelude.{ℕ, List, [], ◌∷◌, Option, None, ◌-◌, �
 use Rattle.std.specs.Prelude.{filter_map, option_map}
 use Rattle.std.specs.List.{range_with_len}
 use Rattle.std.specs.Map.{values_of}
+use Rattle.keycard_rules.specs.{declared.card.Card.Card}
 use Rattle.hotel_nights.specs.{declared.stay.Stay.Stay, FullNight.nights_taken}
 use Rattle.hotel_model.specs.{declared.rows.RoomRow.RoomRow, declared.list_rows.HouseRow.HouseRow}
 use Rattle.hotel_model.specs.{declared.list_rows.ChainRow.ChainRow}
@@ -114,3 +115,7 @@ free_row_on rows d n kind =
 -- Kinds with their rooms, and what is free of them for so many nights from a day on, by kind.
 abbrev pub availability_on : Rows → ℕ → ℕ → List FreeRow
 availability_on rows d n = map (free_row_on rows d n) rows.kinds
+
+-- Cards that a party was given, by number.
+abbrev pub cards_given_on : Rows → ℕ → List Card
+cards_given_on rows party = filter (λ card. card.party == party) (values_of rows.cards)

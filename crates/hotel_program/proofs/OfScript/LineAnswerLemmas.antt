@@ -18,9 +18,9 @@ use Rattle.hotel_lists.specs.declared.fault.ListFault.{ListFault}
 use Rattle.hotel_lists.proofs.CallsLemmas.{last_of}
 use Rattle.hotel_asks.specs.Asks.{ask_copies}
 use Rattle.hotel_asks.specs.Listings.{listing_on, listing_over}
-use Rattle.hotel_core.specs.declared.asks.Ask.{Ask}
-use Rattle.hotel_core.specs.declared.asks.Ask.TheVariants as ask
-use Rattle.hotel_core.specs.declared.asks.ListAsk.{ListAsk}
+use Rattle.hotel_asks.specs.declared.asked.Ask.{Ask}
+use Rattle.hotel_asks.specs.declared.asked.Ask.TheVariants as ask
+use Rattle.hotel_asks.specs.declared.asked.ListAsk.{ListAsk}
 use Rattle.hotel_asks.proofs.ListingLemmas.{listing_stands}
 use Rattle.hotel_core.specs.Books.Happens.{HappensBy}
 use Rattle.hotel_program.specs.Script.LineAnswers.{AskAnswered, AskEnds, AskGoes, ListAsked, Sure, unread_text}

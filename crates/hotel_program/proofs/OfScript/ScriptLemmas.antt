@@ -14,8 +14,8 @@ use Rattle.keycard_rules.specs.{declared.kept.Kept.Ghosts as KeptOf, Leaves.Leav
 use Rattle.keycard_rules.proofs.CallsTogether.{passes_join, passes_push, together}
 use Rattle.rand_core.specs.Stream.{Stream}
 use Rattle.keycard_rules.proofs.Drawing.{past-zero}
-use Rattle.hotel_core.specs.declared.asks.Ask.{Ask}
-use Rattle.hotel_core.specs.declared.asks.Ask.TheVariants as ask
+use Rattle.hotel_asks.specs.declared.asked.Ask.{Ask}
+use Rattle.hotel_asks.specs.declared.asked.Ask.TheVariants as ask
 use Rattle.hotel_model.proofs.Invariants.Assurance.{assured}
 use Rattle.hotel_model.specs.declared.reply.Reply.TheVariants.{Refused}
 use Rattle.hotel_model.specs.declared.reply.Refusal.TheVariants.{Memory}

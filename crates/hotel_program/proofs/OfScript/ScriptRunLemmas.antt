@@ -7,8 +7,8 @@ use Rattle.hotel_model.specs.History.{History}
 use Rattle.hotel_model.specs.Run.{Runs}
 use Rattle.keycard_rules.specs.Calls.{Told}
 use Rattle.hotel_program.specs.Script.Asks.{ask_in}
-use Rattle.hotel_core.specs.declared.asks.Ask.{Ask}
-use Rattle.hotel_core.specs.declared.asks.Ask.TheVariants as ask
+use Rattle.hotel_asks.specs.declared.asked.Ask.{Ask}
+use Rattle.hotel_asks.specs.declared.asked.Ask.TheVariants as ask
 use Rattle.hotel_program.specs.Script.LineAnswers.{AskGoes, ScriptLineGoes}
 use Rattle.hotel_program.specs.Script.WholeScript.{ScriptGoes}
 use Rattle.hotel_program.specs.Script.ScriptRun.{ToldIn, commands_asked, answer_texts, ScriptsRun, ListsBetween}

@@ -6,7 +6,7 @@ use Rattle.hotel_model.specs.History.{History}
 use Rattle.hotel_model.specs.Run.{StandsFor}
 use Rattle.hotel_lists.specs.declared.fault.ListFault.{ListFault}
 use Rattle.hotel_lists.specs.declared.fault.ListFault.TheVariants as fault
-use Rattle.hotel_core.specs.declared.asks.ListAsk.{ListAsk}
+use Rattle.hotel_asks.specs.declared.asked.ListAsk.{ListAsk}
 use Rattle.hotel_program.specs.declared.faults.Fault.{Fault}
 use Rattle.hotel_program.specs.declared.faults.Fault.TheVariants.{Memory, Store, Write}
 use Rattle.hotel_program.specs.Script.ListAnswers.{refusal_text}

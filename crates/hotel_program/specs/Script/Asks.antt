@@ -1,7 +1,7 @@
 -- What a script's line asks for.
 use Rattle.std.specs.Prelude.{ℕ, zero, suc, List, [], ◌∷◌, if◌then◌else◌, Option, Some, None}
 use Rattle.std.specs.Option.{option_and_then}
-use Rattle.hotel_core.specs.declared.asks.Ask.{Ask}
+use Rattle.hotel_asks.specs.declared.asked.Ask.{Ask}
 use Rattle.hotel_asks.specs.declared.verbs.Verb.{Verb}
 use Rattle.hotel_asks.specs.declared.verbs.Verb.TheVariants.{Reserve}
 use Rattle.hotel_asks.specs.{Asks.accepted, Verbs.read_verb}

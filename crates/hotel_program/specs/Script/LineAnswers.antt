@@ -14,8 +14,8 @@ use Rattle.hotel_program.specs.Script.ListAnswers.{AnswersList, tells_failure}
 use Rattle.hotel_asks.specs.Listings.{listing_over}
 use Rattle.keycard_rules.specs.Calls.{Told}
 use Rattle.hotel_lists.specs.Listings.{Listing}
-use Rattle.hotel_core.specs.declared.asks.Ask.{Ask}
-use Rattle.hotel_core.specs.declared.asks.Ask.TheVariants as ask
+use Rattle.hotel_asks.specs.declared.asked.Ask.{Ask}
+use Rattle.hotel_asks.specs.declared.asked.Ask.TheVariants as ask
 use Rattle.hotel_program.specs.declared.script.line_answers.ScriptAnswer.{ScriptAnswer}
 use Rattle.hotel_program.specs.declared.script.line_answers.ScriptAnswer.TheVariants.{Replied, Unread}
 

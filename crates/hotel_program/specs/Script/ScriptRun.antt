@@ -8,9 +8,9 @@ use Rattle.hotel_model.specs.Run.{Runs}
 use Rattle.keycard_rules.specs.Calls.{Told}
 use Rattle.hotel_core.specs.Texts.{reply_text}
 use Rattle.hotel_program.specs.Script.Asks.{ask_in}
-use Rattle.hotel_core.specs.declared.asks.Ask.{Ask}
-use Rattle.hotel_core.specs.declared.asks.Ask.TheVariants as ask
-use Rattle.hotel_core.specs.declared.asks.ListAsk.{ListAsk}
+use Rattle.hotel_asks.specs.declared.asked.Ask.{Ask}
+use Rattle.hotel_asks.specs.declared.asked.Ask.TheVariants as ask
+use Rattle.hotel_asks.specs.declared.asked.ListAsk.{ListAsk}
 use Rattle.hotel_program.specs.Script.LineAnswers.{CommandTold, unread_text}
 use Rattle.hotel_program.specs.Script.ListAnswers.{AnswersList}
 use Rattle.hotel_lists.specs.Listings.{Listing}

@@ -41,6 +41,9 @@ pub(crate) fn about_verb<'a>(verb: Verb) -> &'a str {
         Verb::Bookings => "List the bookings that aren't checked in: bookings",
         Verb::Availability =>
             "List the kinds with how many rooms are free for some nights: availability 2031-05-01 2",
+        Verb::CardsGiven => "List the cards of a party: cards 1",
+        Verb::CardOf => "List a card with its party and its guest: card 1",
+        Verb::Locks => "List the rooms' locks, each with its last note: locks",
     }
 }
 

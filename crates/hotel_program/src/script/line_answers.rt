@@ -1,7 +1,7 @@
 //! The answer to a line of a script.
 
 ghost use Rattle.std.specs.Prelude.{Some, OnErr};
-ghost use Rattle.hotel_core.specs.declared.asks.Ask.TheVariants as ask;
+ghost use Rattle.hotel_asks.specs.declared.asked.Ask.TheVariants as ask;
 ghost use Rattle.hotel_core.specs.Books.Happens.{HappensBy};
 ghost use Rattle.hotel_lists.specs.Bytes.{Writes};
 ghost use Rattle.hotel_lists.specs.Calls.{CountsWrites};

@@ -3,7 +3,7 @@
 ghost use Rattle.std.specs.Prelude.{Some, OnErr};
 ghost use Rattle.rand_core.specs.Stream.{Stream};
 ghost use Rattle.hotel_core.specs.Books.Happens.{HappensBy};
-ghost use Rattle.hotel_core.specs.declared.asks.Ask.TheVariants as ask;
+ghost use Rattle.hotel_asks.specs.declared.asked.Ask.TheVariants as ask;
 ghost use Rattle.hotel_lists.specs.Calls.{CountsWrites};
 ghost use Rattle.hotel_program.specs.Script.{LineAnswers.AskEnds};
 

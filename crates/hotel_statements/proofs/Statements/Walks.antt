@@ -68,6 +68,11 @@ pub walk_bookings : Asks text.walk_bookings
 unfolding understood everything
 walk_bookings = record { query = (_, refl); plain = (refl, refl); listing = refl }
 
+pub walk_cards_given : Asks text.walk_cards_given
+    (single card_tree (column_is 2 0 ∷ []) (columns (0 ∷ 2 ∷ 3 ∷ 4 ∷ [])) ((col 1 0, ascending Binary) ∷ []))
+unfolding understood everything
+walk_cards_given = record { query = (_, refl); plain = (refl, refl); listing = refl }
+
 pub walk_kinds : Asks text.read_kind
     (single kind_tree [] (columns (1 ∷ [])) ((col 1 1, ascending Binary) ∷ []))
 unfolding understood everything

@@ -12,7 +12,7 @@ use hotel_core::{
 };
 use hotel_nights::{Day, Nights, Stay};
 use hotel_statements::walks;
-use keycard_rules::{LockNote, LookFault, RoomNo};
+use keycard_rules::{Card, LockNote, LookFault, PartyNo, RoomNo};
 use sqlite::Alter;
 
 impl<S: Alter> TableBooks<S> {
@@ -112,6 +112,17 @@ impl<S: Alter> Walks for TableBooks<S> {
             nights: &self.nights,
         };
         let end = walks::availability(self.alloc, &mut self.conn, counts, day, nights, sink);
+        self.counting_walk(end)
+    }
+
+    fn walk_cards_given<K: Sink<Card>>(
+        &mut self,
+        party: PartyNo,
+        sink: &mut K,
+    ) -> Result<(), WalkFault> {
+        self.ask()?;
+        self.answers = false;
+        let end = walks::cards_given(self.alloc, &mut self.conn, party, sink);
         self.counting_walk(end)
     }
 }

@@ -7,6 +7,7 @@ use Rattle.hotel_asks.specs.declared.verbs.Verb.TheVariants.{Begin, AddKind, Add
 use Rattle.hotel_asks.specs.declared.verbs.Verb.TheVariants.{Reissue, Transfer, CheckOut, Refit, NextDay, Entered, Left}
 use Rattle.hotel_asks.specs.declared.verbs.Verb.TheVariants.{Recoded, Arrivals, InHouse, ChainOf, LeftBehind, AuditOf}
 use Rattle.hotel_asks.specs.declared.verbs.Verb.TheVariants.{BusinessDay, RoomStatus, Inside, Bookings, Availability}
+use Rattle.hotel_asks.specs.declared.verbs.Verb.TheVariants.{CardsGiven, CardOf, Locks}
 use Rattle.hotel_asks.specs.{Asks.command_of, Asks.copies, Values.IsReading}
 use Rattle.hotel_asks.proofs.asks.read_command.Goals.{in_default-via-in-Begin+then-values-lt1}
 use Rattle.hotel_asks.proofs.asks.read_command.Goals.{in_default-via-in-Begin+else-values-lt1+else-this-lt2}
@@ -191,5 +192,8 @@ returns-in_default c = let no = misfit c.args.verb c.args.values.now in elim c.i
         | Inside ↦ λ is. rw is refl
         | Bookings ↦ λ is. rw is refl
         | Availability ↦ λ is. rw is refl
+        | CardsGiven ↦ λ is. rw is refl
+        | CardOf ↦ λ is. rw is refl
+        | Locks ↦ λ is. rw is refl
       ]) refl
 ]

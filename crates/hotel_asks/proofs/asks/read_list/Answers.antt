@@ -6,6 +6,7 @@ use Rattle.hotel_asks.specs.declared.verbs.Verb.TheVariants.{Begin, AddKind, Add
 use Rattle.hotel_asks.specs.declared.verbs.Verb.TheVariants.{Reissue, Transfer, CheckOut, Refit, NextDay, Entered, Left}
 use Rattle.hotel_asks.specs.declared.verbs.Verb.TheVariants.{Recoded, Arrivals, InHouse, ChainOf, LeftBehind, AuditOf}
 use Rattle.hotel_asks.specs.declared.verbs.Verb.TheVariants.{BusinessDay, RoomStatus, Inside, Bookings, Availability}
+use Rattle.hotel_asks.specs.declared.verbs.Verb.TheVariants.{CardsGiven, CardOf, Locks}
 use Rattle.hotel_asks.specs.Asks.{list_of}
 use Rattle.hotel_asks.proofs.asks.read_list.Goals.{in_default-via-in-Arrivals+then-values-lt1}
 use Rattle.hotel_asks.proofs.asks.read_list.Goals.{in_default-via-in-Arrivals+else-values-lt1+else-this-lt2}
@@ -21,6 +22,11 @@ use Rattle.hotel_asks.proofs.asks.read_list.Goals.{in_default-via-in-Inside+else
 use Rattle.hotel_asks.proofs.asks.read_list.Goals.{in_default-via-in-Bookings+else-this-lt1-8}
 use Rattle.hotel_asks.proofs.asks.read_list.Goals.{in_default-via-in-Availability+then-this-lt2-4}
 use Rattle.hotel_asks.proofs.asks.read_list.Goals.{in_default-via-in-Availability+else-this-lt2-4+else-this-lt3}
+use Rattle.hotel_asks.proofs.asks.read_list.Goals.{in_default-via-in-CardsGiven+then-this-lt1-9}
+use Rattle.hotel_asks.proofs.asks.read_list.Goals.{in_default-via-in-CardsGiven+else-this-lt1-9+else-this-lt2-5}
+use Rattle.hotel_asks.proofs.asks.read_list.Goals.{in_default-via-in-CardOf+then-this-lt1-10}
+use Rattle.hotel_asks.proofs.asks.read_list.Goals.{in_default-via-in-CardOf+else-this-lt1-10+else-this-lt2-6}
+use Rattle.hotel_asks.proofs.asks.read_list.Goals.{in_default-via-in-Locks+else-this-lt1-11}
 use Rattle.hotel_asks.proofs.asks.read_list.Goals.{in_default-via-in_default}
 use Rattle.hotel_asks.proofs.asks.read_list.Goals as goal
 
@@ -37,6 +43,9 @@ misfit RoomStatus [] n = absurd (n refl)
 misfit Inside [] n = absurd (n refl)
 misfit Bookings [] n = absurd (n refl)
 misfit Availability (a ∷ b ∷ []) n = absurd (n refl)
+misfit CardsGiven (a ∷ []) n = absurd (n refl)
+misfit CardOf (a ∷ []) n = absurd (n refl)
+misfit Locks [] n = absurd (n refl)
 misfit _ _ n = refl
 
 pub returns-in_default : goal.returns-in_default
@@ -55,6 +64,11 @@ returns-in_default c = let no = misfit c.args.verb c.args.values.now in elim c.i
   | in_default-via-in-Bookings+else-this-lt1-8 w ↦ no (λ same. grind (arith, same))
   | in_default-via-in-Availability+then-this-lt2-4 w ↦ no (λ same. grind (arith, same))
   | in_default-via-in-Availability+else-this-lt2-4+else-this-lt3 w ↦ no (λ same. grind (arith, same))
+  | in_default-via-in-CardsGiven+then-this-lt1-9 w ↦ no (λ same. grind (arith, same))
+  | in_default-via-in-CardsGiven+else-this-lt1-9+else-this-lt2-5 w ↦ no (λ same. grind (arith, same))
+  | in_default-via-in-CardOf+then-this-lt1-10 w ↦ no (λ same. grind (arith, same))
+  | in_default-via-in-CardOf+else-this-lt1-10+else-this-lt2-6 w ↦ no (λ same. grind (arith, same))
+  | in_default-via-in-Locks+else-this-lt1-11 w ↦ no (λ same. grind (arith, same))
   | in_default-via-in_default w ↦
       let texts = map (λ v. v.now) c.args.values.now in
       (elim c.args.verb as (λ verb. c.args.verb ≡ verb → Err Number ≡ list_of c.args.verb texts) [
@@ -83,5 +97,8 @@ returns-in_default c = let no = misfit c.args.verb c.args.values.now in elim c.i
         | Inside ↦ λ is. search (rules, w.in_default, is)
         | Bookings ↦ λ is. search (rules, w.in_default, is)
         | Availability ↦ λ is. search (rules, w.in_default, is)
+        | CardsGiven ↦ λ is. search (rules, w.in_default, is)
+        | CardOf ↦ λ is. search (rules, w.in_default, is)
+        | Locks ↦ λ is. search (rules, w.in_default, is)
       ]) refl
 ]

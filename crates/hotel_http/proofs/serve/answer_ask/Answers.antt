@@ -1,6 +1,6 @@
 use Rattle.std.proofs.Common.{[], sym, subst}
 use Rattle.hotel_core.specs.Books.Happens.{HappensBy}
-use Rattle.hotel_core.specs.declared.asks.Ask.{Ask}
+use Rattle.hotel_asks.specs.declared.asked.Ask.{Ask}
 use Rattle.hotel_http.specs.Serve.{Answered, AskComes}
 use Rattle.hotel_http.proofs.serve.answer_ask.Goals as goal
 

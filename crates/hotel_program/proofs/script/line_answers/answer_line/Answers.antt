@@ -1,6 +1,6 @@
 use Rattle.std.proofs.Common.{◌∙◌, Some, Option, ap, subst, sym}
 use Rattle.hotel_core.specs.Books.Happens.{HappensBy}
-use Rattle.hotel_core.specs.declared.asks.Ask.{Ask}
+use Rattle.hotel_asks.specs.declared.asked.Ask.{Ask}
 use Rattle.hotel_program.specs.Script.Asks.{ask_in}
 use Rattle.hotel_program.specs.Script.LineAnswers.{AskEnds}
 use Rattle.hotel_program.proofs.OfScript.LineAnswerLemmas.{unread_ends, memory_ends}

@@ -3,6 +3,7 @@ use Rattle.hotel_model.specs.Refinement.ListsOnRows.{free_row_on}
 use Rattle.hotel_core.specs.NightIndex.{CountsNights}
 use Rattle.hotel_core.proofs.{Names.rest_more, Names.Rows, Names.rooms_of_kind, Names.values_of}
 use Rattle.hotel_core.proofs.{OfCode.Walking.one_more, OfCode.Walking.as_rest}
+use Rattle.hotel_core.proofs.OfNights.FreeRows.{free_by_rows}
 use Rattle.hotel_core.proofs.memory.tables.Tables.walk_availability.Goals as goal
 
 pub loop-kind-preserved : goal.loop-kind-preserved
@@ -17,7 +18,8 @@ loop-kind-preserved g c =
     ∙ ap (λ (r : Rows). rooms_of_kind r.rooms kind) c.self.view_is in
     let taken = subst (λ (r : Rows). CountsNights c.nights-index.result.now (values_of r.stays)) c.self.view_is
     c.nights-index.ensures in
-    let row = c.free_row-row.ensures.of_rows rows day rooms taken in
+    let row = c.free_row-row.ensures
+    ∙ free_by_rows _ _ rows _ c.args.day c.args.nights kind (sym day) rooms taken in
     one_more g.S.Sink.after _ c.free_row-row.result _ _ _ _
     (as_rest g.S.Sink.after _ (map f c.loop-kind.kind-iterator) _ _ _
     (ap (map f) e ∙ ap (λ r. r ∷ map f c.next.new.self) (sym row))

@@ -1,8 +1,8 @@
 //! What a desk may be asked.
 
-use hotel_model::Command;
+use hotel_core::Command;
 use hotel_nights::{Day, Nights};
-use keycard_rules::RoomNo;
+use keycard_rules::{CardNo, PartyNo, RoomNo};
 
 /// What is asked of the desk.
 #[derive(Drop)]
@@ -34,4 +34,10 @@ pub enum ListAsk {
     Bookings,
     /// The kinds, and how many more stays of each are accepted from the day on, for so many nights.
     Availability(Day, Nights),
+    /// The cards that the party was given.
+    CardsGiven(PartyNo),
+    /// The card of the number.
+    CardOf(CardNo),
+    /// The present locks of all rooms.
+    Locks,
 }
