@@ -80,6 +80,8 @@ before INTEGER NOT NULL, PRIMARY KEY (room, fit), UNIQUE (room, place)) STRICT;
 INSERT INTO fit SELECT room, 1, 0, 0 FROM room ORDER BY room;
 UPDATE meta SET version = 2;
 """
+# By what another program finds a file whole, and what it finds then.
+ARE_WHOLE, WHOLE = ["PRAGMA integrity_check", "PRAGMA foreign_key_check"], [[("ok",)], []]
 # The same two notes under each header.
 NOTES = HEADER + f"""\
 101,1,1,in,1,{FIRST},{SECOND},2031-05-01T15:00:00

@@ -4,9 +4,9 @@
 usage: document_names.py      (nothing is built or run)
 
 - Of each document: identifiers are words of crates, .ci or bench, and files of a crate are there.
-- The tables of docs/PROOFS.md, FAULTS.md, LIMITS.md and TESTING.md: a clause, as `run.through`, is one of a function
-  of that name, a part of a record, or a ghost member of a trait. A scenario, a test, a module of a crate and a function
-  of .ci is there.
+- The tables of docs/PROOFS.md, FAULTS.md, LIMITS.md and TESTING.md, and of each crate's must-fail/passes.md: a clause,
+  as `run.through`, is one of a function of that name, a part of a record, or a ghost member of a trait. A scenario, a
+  test, a module of a crate and a function of .ci is there.
 - Each must-fail edit says in a line '# breaks: CRATE CLAUSE, ..' which clause of docs/PROOFS.md it breaks.
 - docs/MODEL.md: a definition, as `Lock.held`, stands in that file of specs.
 - docs/ARCHITECTURE.md: a function of a step stands in the crate and in the file that the step names. The files of a
@@ -22,10 +22,12 @@ import sys
 
 TOP = pathlib.Path(__file__).resolve().parent.parent
 CRATES = {path.name: path for path in sorted((TOP / "crates").iterdir())}
-DOCUMENTS = [TOP / "README.md", *sorted((TOP / "docs").glob("*.md")), TOP / "bench" / "README.md"]
+# The mutants that the contracts of a crate let through.
+PASSES = sorted(TOP.glob("crates/*/must-fail/passes.md"))
+DOCUMENTS = [TOP / "README.md", *sorted((TOP / "docs").glob("*.md")), TOP / "bench" / "README.md", *PASSES]
 TEST_CRATES = ("hotel_tests", "hotel_client")
 # The documents whose tables name clauses and tests.
-WITH_CLAUSES = ("PROOFS", "FAULTS", "LIMITS", "TESTING")
+WITH_CLAUSES = ("PROOFS", "FAULTS", "LIMITS", "TESTING", "passes")
 # Words of other libraries that documents name.
 FOREIGN = {"assert_eq", "auto_vacuum", "proxy_pass", "proxy_set_header", "sqlite_stat1"}
 
@@ -102,7 +104,7 @@ def prose(document):
     for number, line in enumerate(document.read_text().split("\n"), 1):
         is_block ^= line.startswith("```")
         if not is_block:
-            yield f"{document.name}:{number}", line
+            yield f"{document.relative_to(TOP)}:{number}", line
 
 
 def cells(line):

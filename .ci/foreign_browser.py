@@ -47,7 +47,8 @@ for (const origin of [desk, own, local]) {
 await wait();
 document.title = `tried ${told}`;
 </script>"""
-LISTS = "business-day", "room-status", "bookings", "in-house", "rooms/101/chain", "availability/2031-05-01/1"
+LISTS = ("business-day", "room-status", "bookings", "in-house", "rooms/101/chain", "availability/2031-05-01/1",
+         "parties/1/cards", "cards/1", "locks")
 
 
 class Evil(http.server.BaseHTTPRequestHandler):

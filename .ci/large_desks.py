@@ -41,7 +41,7 @@ ENTERED, LEFT, RECODED = range(3)
 TODAY, SECONDS = 11443, 86400  # 2031-05-01, counted from 2000-01-01
 # On the first of these days each room is booked, and from the second on some.
 FULL, LATER = TODAY + 40, TODAY + 100
-LAST_DAY, MOST_NIGHTS = 36524, 90  # 2099-12-31
+LAST_DAY, MOST_NIGHTS, LAST_NUMBER = 36524, 90, 9999999  # 2099-12-31
 # Days and numbers of nights for which a party may ask: from the business day on, about each of these days, in the past,
 # and about the last day.
 ASKED = [(TODAY, 1), (TODAY, 30), (TODAY, MOST_NIGHTS), (FULL - 1, 1), (FULL - 1, 2), (FULL, 1), (FULL + 24, 1),
@@ -63,6 +63,10 @@ def guest(party):
     return text + "x" * (size - len(text.encode()))
 
 
+def moment(day, second):
+    return f"{day_of(day)}T{second // 3600:02}:{second // 60 % 60:02}:{second % 60:02}"
+
+
 def field(text):
     """The text as a field of a row."""
     return '"' + text.replace('"', '""') + '"' if set(text) & set(',"') else text
@@ -81,8 +85,12 @@ class Room:
         self.party = self.desk.booked(self.kind, TODAY, nights)
         self.codes.append(next(self.desk.codes))
         self.desk.stays[self.party].update(state=IN_HOUSE, room=self.room)
-        self.desk.cards.append((len(self.desk.cards) + 1, self.party, *self.codes[-2:]))
         self.secured = False
+        return self.spared()
+
+    def spared(self):
+        """The party is given one more card."""
+        self.desk.cards.append((len(self.desk.cards) + 1, self.party, *self.codes[-2:]))
         return self.desk.cards[-1]
 
     def checked_out(self):
@@ -132,6 +140,8 @@ class LargeDesk:
         self.rooms = [Room(self, room, KINDS[number % len(KINDS)]) for number, room in enumerate(ROOMS)]
         for number, room in enumerate(self.rooms):
             self.lived_in(number, room)
+        for room in self.rooms[::28]:
+            room.spared()
         for room in self.rooms:
             self.booked(room.kind, FULL, 1 + room.room % 50)
         self.stays[self.booked(KINDS[0], FULL, 1)]["state"] = CANCELLED
@@ -229,6 +239,25 @@ class LargeDesk:
             for card in sorted(it.inside):
                 yield f"{it.room},{card},{party_of[card]}"
 
+    def card(self, number):
+        yield "card,party,guest,old,new"
+        for card, party, old, new in self.cards[number - 1:number]:
+            yield f"{card},{party},{field(self.stays[party]['guest'])},{old:012x},{new:012x}"
+
+    def cards_of(self, party):
+        yield "card,old,new"
+        for card, its, old, new in self.cards:
+            if its == party:
+                yield f"{card},{old:012x},{new:012x}"
+
+    def locks(self):
+        """The newest lock of each room: its number, how many notes are behind those of the locks before, and when it
+        wrote the last of them."""
+        yield "room,fit,count,at"
+        for it in self.rooms:
+            fit, count = len(it.fits), len(it.notes) - it.fits[-1][1]
+            yield f"{it.room},{fit},{count},{moment(*it.notes[-1][4:]) if count else ''}"
+
     def availability(self, day, nights):
         """Of each kind its rooms, and how many of them no stay that is booked or in house takes on any of these nights.
         """
@@ -254,6 +283,12 @@ class LargeDesk:
             yield f"arrivals {day_of(day)}", self.bookings(day)
         for day, nights in ASKED:
             yield f"availability {day_of(day)} {nights}", self.availability(day, nights)
+        yield "locks", self.locks()
+        for number in (*range(1, len(self.cards), 61), len(self.cards), len(self.cards) + 1, LAST_NUMBER):
+            yield f"card {number}", self.card(number)
+        of_two = [room.party for room in self.rooms[::28]]
+        for party in (*of_two, *range(1, len(self.stays), 61), len(self.stays), len(self.stays) + 1, LAST_NUMBER):
+            yield f"cards {party}", self.cards_of(party)
         for it in self.rooms:
             yield f"chain {it.room}", chain(it)
             yield f"audit-of {it.room}", audit(it)
@@ -267,7 +302,6 @@ def chain(room):
 
 def audit(room):
     yield HEADER.decode().strip()
-    for fit, count, act, card, first, second, day, at in room.numbered():
-        moment = f"{day_of(day)}T{at // 3600:02}:{at // 60 % 60:02}:{at % 60:02}"
+    for fit, count, act, card, first, second, *at in room.numbered():
         yield (f"{room.room},{fit},{count},{('in', 'out', 'recode')[act]},{card or ''},{first:012x},{second:012x},"
-               f"{moment}")
+               f"{moment(*at)}")

@@ -15,7 +15,9 @@ import sys
 import tempfile
 
 import scripts
-from http_routes import DESK, HERE
+from built_desk import DESK
+
+HERE = pathlib.Path(__file__).resolve().parent
 
 
 def run(program, script, answers):

@@ -7,8 +7,8 @@ Needs valgrind. The counts are those of its cachegrind for scripts over copies o
 times, and one asks one of the lists so many times more. The difference, by the number of calls, is the cost of a call;
 what an opening and a first call cost isn't in it.
 
-- Each of the ten lists over a desk of so many past stays, beside the same over a desk of none. Both are those of
-  tables_speed.py, and have the same rows to show.
+- Each of the thirteen lists over a desk of so many past stays, beside the same over a desk of none. Both are those of
+  tables_speed.py, and have the same rows to show, but for `locks`, which has more notes to look up.
 - `room-status` of 300 rooms, and `availability` of 14 nights of four kinds, beside `in-house` of 300 guests, over one
   desk.
 
@@ -23,7 +23,7 @@ import sys
 import tempfile
 
 import scripts
-from http_routes import DESK
+from built_desk import DESK
 from tables_speed import INDEXES, ROOMS, SECOND, lists, make_desk
 
 CALLS, KINDS = 10, 4

@@ -14,7 +14,9 @@ import sys
 import tempfile
 import time
 
-from http_routes import DESK, HERE, serve
+HERE = pathlib.Path(__file__).resolve().parent
+sys.path.insert(0, str(HERE.parent / ".ci"))
+from built_desk import DESK, serve  # noqa: E402
 
 REQUEST = b"GET /in-house HTTP/1.1\r\nHost: 127.0.0.1\r\n\r\n"
 

@@ -15,7 +15,8 @@ import subprocess
 import sys
 import textwrap
 
-from http_routes import DESK, serve
+sys.path.insert(0, str(pathlib.Path(__file__).resolve().parent.parent / ".ci"))
+from built_desk import DESK, serve  # noqa: E402
 
 TEXT = (pathlib.Path(__file__).resolve().parent.parent / "docs" / "HTTP.md").read_text()
 TABLE = textwrap.dedent(re.search(r"^ +table inet .*?^ {7}\}\n", TEXT, re.MULTILINE | re.DOTALL)[0])

@@ -14,12 +14,13 @@ import random
 import re
 import shutil
 import socket
+import sqlite3
 import subprocess
 import sys
 import tempfile
 
-from http_routes import DESK, serve
-from stored_desk import answered, faults_of
+sys.path.insert(0, str(pathlib.Path(__file__).resolve().parent.parent / ".ci"))
+from built_desk import DESK, serve  # noqa: E402
 
 CHECKED_IN = ["begin 2031-05-01", "add-kind DBL", "add-room 101 DBL", "reserve DBL 2031-05-01 2 Ann Lee",
               "check-in 1 101"]
@@ -44,7 +45,7 @@ class Desk:
         """Lays a file with these lines carried out where fresh() takes it from."""
         for file in self.folder.glob("*.db"):
             file.unlink()
-        answered(self.program, lines, *self.words("script"))
+        assert self.run("\n".join(lines).encode(), *self.words("script"))[0] == 0
         shutil.copy(self.db, self.folder / "start.db")
 
     def fresh(self):
@@ -56,7 +57,11 @@ class Desk:
         return child.returncode, child.stdout.decode(), child.stderr.decode()
 
     def is_whole(self):
-        return not faults_of(self.db) and self.run("\n".join(LISTS).encode(), *self.words("script"))[0] == 0
+        """Whether another program finds the file whole, and the desk opens it."""
+        with sqlite3.connect(self.db) as file:
+            found = [file.execute(f"PRAGMA {test}").fetchall() for test in ("integrity_check", "foreign_key_check")]
+        file.close()
+        return found == [[("ok",)], []] and self.run("\n".join(LISTS).encode(), *self.words("script"))[0] == 0
 
 
 def is_named(status, faults):

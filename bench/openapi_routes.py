@@ -26,7 +26,8 @@ import urllib.parse
 
 import yaml
 
-from http_routes import DESK, serve
+sys.path.insert(0, str(pathlib.Path(__file__).resolve().parent.parent / ".ci"))
+from built_desk import DESK, serve  # noqa: E402
 
 TOP = pathlib.Path(__file__).resolve().parent.parent
 ROUTES = TOP / "crates" / "hotel_http" / "specs" / "Routes.antt"

@@ -9,8 +9,9 @@ Python's sqlite3, with the texts of hotel_statements' texts.rt, and a past stay 
 - Commands: twelve rounds of 150 of each kind over a desk of so many past stays, beside the same ones over a desk of
   none. The first round finds few pages of the file in memory, and is told apart from the later ones. Of these the mean
   counts: now and then a command copies the log into the file, for all that wrote to it.
-- Lists: each of the ten, many times, over a desk of so many past stays, beside the same over a desk of none. Both have
-  the same rows to show, in rooms that had none of the past stays.
+- Lists: each of the thirteen, many times, over a desk of so many past stays, beside the same over a desk of none. Both
+  have the same rows to show, in rooms that had none of the past stays. `room-status` and `locks` show the other rooms
+  too: over past stays `locks` looks up the last note of each of them, over none there is no note to look up.
 - Beside C SQLite: a check-in, a booking and a look-up, beside their statements run by sqlite_statements.c over the same
   file, with the same journal (WAL) and `synchronous` (FULL) and with foreign keys. Each commit of both syncs the log.
 - `open`: a script without a line, beside the same file with one table more. There the connection is opened, which is
@@ -37,7 +38,9 @@ import time
 import typing
 
 import scripts
-from http_routes import DESK, HERE
+from built_desk import DESK
+
+HERE = pathlib.Path(__file__).resolve().parent
 
 DAY = 11443  # 2031-05-01, counted from 2000-01-01
 ROOMS, GUESTS, ROUNDS = 300, 150, 12  # each guest of a round checks into one room, and moves to another
@@ -148,13 +151,14 @@ def lists(stays):
         made += [f"check-in {in_house + at} {SHOWN_ROOM + at}", f"check-in {behind + at} {SHOWN_ROOM + SHOWN + at}",
                  f"reissue {behind + at}", f"check-out {behind + at}",
                  scripts.note("entered", SHOWN_ROOM + at, 1, stays + 3 * at + 1, link)]
-    made += [f"refit {last}"] * SHOWN + [f"check-in {booked} {last}"]
+    made += [f"refit {last}"] * SHOWN + [f"check-in {booked} {last}"] + [f"spare {booked}"] * SHOWN
     lock, card = f"{last}/{SHOWN + 1}", stays + 3 * SHOWN + 1
     made += [scripts.note(("entered", "left")[at % 2], lock, at + 1, card, codes[-2:]) for at in range(SHOWN + 1)]
     return made, {"arrivals 2031-05-01": SHOWN, "in-house": SHOWN + 2, f"chain {last}": SHOWN + 3,
                   "left-behind": SHOWN + 1, f"audit-of {last}": SHOWN + 2, "business-day": 2,
                   "room-status": ROOMS + 3 * SHOWN + 1, "inside": SHOWN + 2, "bookings": SHOWN,
-                  "availability 2031-05-01 2": 3}
+                  "availability 2031-05-01 2": 3, f"cards {booked}": SHOWN + 2, f"card {card}": 2,
+                  "locks": ROOMS + 3 * SHOWN + 1}
 
 
 def plain_statements(db):

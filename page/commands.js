@@ -31,7 +31,7 @@ const roomNow = room => async () =>
 
 // --- verdicts -------------------------------------------------------------------------------------------------------
 
-const SPARE = "The card's codes are lost: write a spare card, which has the same codes.";
+const SPARE = "Write a spare card: it has the same codes.";
 const place = ({ room, isBooked }) => room ? `The guest is in house at ${room}.`
   : isBooked ? "The guest is booked, and not in house." : "The guest is neither booked nor in house.";
 const otherwise = now => `Somebody else has changed this: look at it before you do it again. ${place(now)}`;
@@ -52,6 +52,15 @@ function isReissued(before, after) {
   const todo = after.room ? "Write a spare card: it has the guest's newest codes." : "There is nothing to do.";
   const others = after.room ? "moved the guest" : "checked the guest out";
   return [undefined, `Somebody else has ${others}. ${place(after)} ${todo}`];
+}
+
+// Of a spare card: the guest has one more card, with the codes of the last one.
+function isSpare(before, after) {
+  const fresh = after.slice(before.length);
+  const last = before[before.length - 1];
+  const same = fresh.find(card => card.old === last.old && card.new === last.new);
+  if (same) return [true, `It is card ${same.card}, with the codes ${same.old} and ${same.new}.`];
+  return [false, fresh.length ? "Somebody else has given the guest another card." : "The guest has no new card."];
 }
 
 // Of a new lock: its code is held at once, and no code of an earlier card is. A guest's new code isn't held at once.
@@ -108,10 +117,9 @@ export const commands = {
     path: `/reservations/${party}/check-in`, form: { room }, what: ["check ", guestName(guest), ` in at ${room}`],
     look: guestNow(party, room), verdict: isBrought(room), card: party,
   }),
-  // No list shows a spare card.
   spare: ({ party, guest }) => ({
-    path: `/reservations/${party}/spare`, what: ["issue a spare card for ", guestName(guest)], look: day,
-    verdict: () => [undefined, "No list shows whether a spare card was issued. Issue one more: it does no harm."],
+    path: `/reservations/${party}/spare`, what: ["issue a spare card for ", guestName(guest)],
+    look: () => list(`/parties/${party}/cards`), verdict: isSpare,
   }),
   reissue: ({ party, guest }) => ({
     path: `/reservations/${party}/reissue`, what: ["replace the lost card of ", guestName(guest)],

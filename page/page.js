@@ -85,6 +85,7 @@ addEventListener("keydown", event => {
     $("find").focus();
     $("find").select();
   } else if (/^[1-6]$/.test(event.key)) {
+    event.preventDefault(); // the view may have a field before the key is typed
     location.hash = Object.keys(views)[event.key - 1];
   }
 });

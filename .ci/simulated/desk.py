@@ -65,22 +65,23 @@ class Desk:
         """What a client does whose answer is lost (docs/HTTP.md, Was it done?): it looks, and perhaps asks again."""
         self.counts["answers lost"] += 1
         books, stay = self.books, self.books.stays.get(v.get("party"))
-        if verb == "spare":
+        if verb == "spare" and self.chance.random() < 0.5:
             said = self.way.command(verb, v)
             if said.startswith(f"card {len(books.cards) + 2} "):
                 books.carry_out(verb, v)
             return self.done(verb, v, said)
         room = v["note"].room if "note" in v else v.get("room") or stay and stay.room
-        lines = ["business-day", "in-house", "bookings", *self.lists_of([room] if room else [])]
+        lines = ["business-day", "in-house", "bookings", *self.lists_of([room] if room else []),
+                 *([f"cards {v['party']}"] if stay else [])]
         seen = self.way.lists(lines)
         if seen == "".join(map(books.list_of, lines)):
             return self.do(verb, **v)
         self.counts["lost but done"] += 1
         new = [code for code in re.findall(CODE, seen) if code not in self.codes]
         result = self.done(verb, v, books.answer(verb, v, *new[:1]))
+        # The list of the party's cards has the number and the codes of a new one.
         self.compare(lines)
-        # The number of a card is in no list.
-        return self.do("spare", party=v["party"]) if verb in ("check-in", "reissue", "transfer") else result
+        return result
 
     def send(self, notes, cut=0):
         """Imports an audit file, which may be cut, and returns the answers to its lines. After a kill some lines were
@@ -123,7 +124,8 @@ class Desk:
         return {line: text.split("\n")[1:-1] for line, text in wanted.items()}
 
     def compare_all(self):
-        return self.compare(["business-day", "in-house", "room-status", "inside", "bookings", "left-behind",
+        return self.compare(["business-day", "in-house", "room-status", "inside", "bookings", "left-behind", "locks",
+                             f"card {len(self.books.cards) + 1}", f"cards {len(self.books.stays) + 1}",
                              *self.lists_of(sorted(self.books.rooms))])
 
     def back_up(self, what, number, folder):

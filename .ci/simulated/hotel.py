@@ -59,8 +59,8 @@ class Hotel(Guests, Staff):
         return is_open
 
     def look(self):
-        """Compares lists: those of all rooms, some chains, one of bookings, what is free for some nights, and now and
-        then one of notes."""
+        """Compares lists: those of all rooms, some chains, one of bookings, what is free for some nights, whose a card
+        is, mostly one of the last, the cards of a party, mostly of one in house, and now and then one of notes."""
         books, chance = self.desk.books, self.chance
         if chance.random() < self.desk.way.looks:
             rooms = chance.sample(sorted(books.rooms), min(4, len(books.rooms)))
@@ -69,8 +69,13 @@ class Hotel(Guests, Staff):
             chains = [f"chain {room}" for room in rooms]
             nights = chance.choice([1, 1, 2, 3, chance.randint(1, 90)])
             free = f"availability {day_text(max(FIRST_DAY, day - (chance.random() < 0.1)))} {nights}"
-            whole = chance.choice(["business-day", "room-status", "inside", "bookings"])
-            self.desk.compare(["in-house", "left-behind", f"arrivals {day_text(day)}", free, whole, *chains, *notes])
+            whole = chance.choice(["business-day", "room-status", "inside", "bookings", "locks", "locks"])
+            last = len(books.cards) + 1
+            card = f"card {chance.randint(1 if chance.random() < 0.1 else max(1, last - 9), last)}"
+            here = [room.party for room in books.rooms.values() if room.party]
+            party = chance.choice(here if here and chance.random() < 0.8 else range(1, len(books.stays) + 2))
+            self.desk.compare(["in-house", "left-behind", f"arrivals {day_text(day)}", free, whole, card,
+                               f"cards {party}", *chains, *notes])
 
     def runs(self, days, until):
         """Opens the hotel. So many days, or fewer if the time is over."""

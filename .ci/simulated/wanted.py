@@ -57,7 +57,8 @@ HEADERS = {"arrivals": "party,guest,kind,arrive,depart", "in-house": "room,party
            "chain": "place,code,state", "left-behind": "room,held,current,awaited",
            "audit-of": "room,fit,count,kind,card,old,new,at", "business-day": "day",
            "room-status": "room,kind,party,secured,awaited", "inside": "room,card,party",
-           "bookings": "party,guest,kind,arrive,depart", "availability": "kind,rooms,free"}
+           "bookings": "party,guest,kind,arrive,depart", "availability": "kind,rooms,free",
+           "cards": "card,old,new", "card": "card,party,guest,old,new", "locks": "room,fit,count,at"}
 
 
 def row(note):
@@ -177,7 +178,8 @@ class Books:
         name, *value = line.split(" ")
         if name in ("chain", "audit-of") and int(value[0]) not in self.rooms:
             return "refused 6 NoRoom\n"
-        return "\n".join([HEADERS[name], *getattr(self, name.replace("-", "_"))(*value), ""])
+        rows = self.cards_of if name == "cards" else getattr(self, name.replace("-", "_"))
+        return "\n".join([HEADERS[name], *rows(*value), ""])
 
     def bookings(self, night=None):
         return [f"{stay.party},{field(stay.guest)},{stay.kind},{day_text(stay.arrive)},{day_text(stay.depart)}"
@@ -211,6 +213,19 @@ class Books:
     def inside(self):
         return [f"{number},{card},{self.cards[card].party}"
                 for number, room in sorted(self.rooms.items()) for card in sorted(room.inside)]
+
+    def cards_of(self, party):
+        return [f"{card.number},{card.old},{card.new}" for card in self.cards.values() if card.party == int(party)]
+
+    def card(self, number):
+        return [f"{card.number},{card.party},{field(self.stays[card.party].guest)},{card.old},{card.new}"
+                for card in self.cards.values() if card.number == int(number)]
+
+    def locks(self):
+        """The newest lock of each room, with how many of its own notes were taken, and when it wrote the last of them.
+        """
+        rooms = [(number, len(room.fits), room.fits[-1]) for number, room in sorted(self.rooms.items())]
+        return [f"{number},{fit},{len(kept)},{kept[-1].at if kept else ''}" for number, fit, kept in rooms]
 
     def availability(self, day, nights):
         """The kinds with their rooms, and with what is free: what can be booked until a night is full."""

@@ -22,7 +22,7 @@ PATHS = {"begin": "/begin", "add-kind": "/kinds", "add-room": "/rooms", "reserve
 LISTS = {"arrivals": "/arrivals/{}", "in-house": "/in-house", "chain": "/rooms/{}/chain",
          "left-behind": "/left-behind", "audit-of": "/rooms/{}/audit", "business-day": "/business-day",
          "room-status": "/room-status", "inside": "/inside", "bookings": "/bookings",
-         "availability": "/availability/{}/{}"}
+         "availability": "/availability/{}/{}", "cards": "/parties/{}/cards", "card": "/cards/{}", "locks": "/locks"}
 
 
 class Wrong(Exception):
