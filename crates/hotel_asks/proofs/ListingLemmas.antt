@@ -11,7 +11,6 @@ use Rattle.hotel_lists.specs.RowLines.{day_header, status_header, inside_header,
 use Rattle.hotel_lists.specs.RowLines.{arrival_line, house_line, chain_line, behind_line, note_line}
 use Rattle.hotel_lists.specs.RowLines.{day_line, status_line, inside_line, free_line, lock_line}
 use Rattle.hotel_lists.specs.Listings.{listing, of_room}
-use Rattle.hotel_lists.proofs.LookedLifts.{locks_same}
 use Rattle.hotel_asks.specs.declared.asked.ListAsk.{ListAsk}
 use Rattle.hotel_asks.specs.{Listings.listing_on, Listings.listing_over}
 use Rattle.hotel_asks.specs.declared.asked.ListAsk.TheVariants.{Arrivals, InHouse, ChainOf, LeftBehind, AuditOf}
@@ -55,7 +54,7 @@ listing_lifts h (Availability day nights) ok =
     ap (λ rows. Some (listing free_header free_line rows)) ((lists_lift h ok).of_availability day nights)
 listing_lifts h (CardsGiven party) ok = refl
 listing_lifts h (CardOf number) ok = refl
-listing_lifts h Locks ok = ap (λ rows. Some (listing locks_header lock_line rows)) (locks_same h ok)
+listing_lifts h Locks ok = ap (λ rows. Some (listing locks_header lock_line rows)) (lists_lift h ok).of_locks
 
 pub listing_stands : (h : History) (rows : Rows) (its_list : ListAsk)
     → StandsFor h rows → listing_on rows its_list ≡ listing_over h its_list

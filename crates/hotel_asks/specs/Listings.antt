@@ -7,7 +7,8 @@ use Rattle.hotel_lists.specs.Listings.{Listing, listing, of_room, arrivals_listi
 use Rattle.hotel_lists.specs.Listings.{left_behind_listing, audit_listing, business_day_listing, room_status_listing}
 use Rattle.hotel_lists.specs.Listings.{inside_listing, bookings_listing, availability_listing, card_listing}
 use Rattle.hotel_lists.specs.{Listings.given_listing, RowLines.given_header, RowLines.given_line}
-use Rattle.hotel_lists.specs.{Listings.locks_listing, LookedRows.card_of, LookedRows.locks}
+use Rattle.hotel_lists.specs.Listings.{locks_listing}
+use Rattle.hotel_model.specs.Lists.{card_rows, locks}
 use Rattle.hotel_lists.specs.RowLines.{arrivals_header, in_house_header, chain_header, left_behind_header, audit_header}
 use Rattle.hotel_lists.specs.RowLines.{day_header, status_header, inside_header, free_header, card_header, locks_header}
 use Rattle.hotel_lists.specs.RowLines.{arrival_line, house_line, chain_line, behind_line, note_line}
@@ -30,7 +31,7 @@ listing_over h Inside = Some (listing inside_header inside_line (cards_inside h)
 listing_over h Bookings = Some (listing arrivals_header arrival_line (bookings h))
 listing_over h (Availability day nights) = Some (listing free_header free_line (availability h day nights))
 listing_over h (CardsGiven party) = Some (listing given_header given_line (cards_given h party))
-listing_over h (CardOf number) = Some (listing card_header card_line (card_of h number))
+listing_over h (CardOf number) = Some (listing card_header card_line (card_rows h number))
 listing_over h Locks = Some (listing locks_header lock_line (locks h))
 
 -- The same over the rows of the books.

@@ -1,17 +1,18 @@
 //! The list that is asked for, written.
 
 ghost use Rattle.std.specs.Prelude.{[]};
-ghost use Rattle.hotel_lists.specs.Calls.{CountsWrites, OnErrOf};
+ghost use Rattle.hotel_streams.specs.Calls.{CountsWrites, OnErrOf};
 ghost use Rattle.hotel_lists.specs.{RowLines.LooksAt, Listings.ListEnds};
 ghost use Rattle.hotel_asks.specs.Listings.{listing_on};
 
 use crate::asked::ListAsk;
 use hotel_core::Walks;
 use hotel_lists::{
-    IoCalls, ListFault, write_arrivals, write_audit_of, write_availability, write_bookings,
+    ListFault, write_arrivals, write_audit_of, write_availability, write_bookings,
     write_business_day, write_card_of, write_cards_given, write_chain_of, write_in_house,
     write_inside, write_left_behind, write_locks, write_room_status,
 };
+use hotel_streams::IoCalls;
 use std::alloc::Global;
 use std::io::Write;
 

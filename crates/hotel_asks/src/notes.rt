@@ -38,7 +38,7 @@ fn card_act(verb: Verb, card: CardNo, link: Link) -> Act
 }
 
 /// Reads the report of what a lock noted of a card.
-pub fn read_card_report(
+pub(crate) fn read_card_report(
     verb: Verb,
     lock: &[u8],
     count: &[u8],
@@ -58,7 +58,7 @@ pub fn read_card_report(
 }
 
 /// Reads the report that a lock was set to another code.
-pub fn read_recoding(
+pub(crate) fn read_recoding(
     lock: &[u8],
     count: &[u8],
     from: &[u8],

@@ -4,8 +4,8 @@ use Rattle.std.proofs.Common.{subst, ◌∙◌, append_assoc, append-nil, take-a
 use Rattle.std.proofs.lemmas.List.{take_more}
 use Rattle.std.specs.Io.KnownBytes.{Appends}
 use Rattle.std.proofs.KnownBytes.{Appends-trans}
-use Rattle.hotel_lists.specs.Bytes.{AppendsFront}
-use Rattle.hotel_lists.proofs.BytesLemmas.{front_next}
+use Rattle.hotel_streams.specs.Bytes.{AppendsPrefix}
+use Rattle.hotel_streams.proofs.BytesLemmas.{prefix_next}
 use Rattle.hotel_audit.specs.{Answers.answer_text, Answers.answers_text, declared.answer.LineAnswer.LineAnswer}
 
 answers_text-append : (number : ℕ) (answers more : List LineAnswer)
@@ -43,15 +43,15 @@ answers_written old mid new i answers a text h e said first next =
     subst (Appends old new) (sym (answers_more i answers a h e))
     (Appends-trans old mid new _ _ first (subst (Appends mid new) said next))
 
-pub answers_front : (old mid new : Option (List ℕ)) (i : ℕ) (answers : List LineAnswer) (a : LineAnswer) (text : List ℕ)
-    → i < length answers → a ≡ get_or answers i a → text ≡ answer_text (i + 1) a
-    → Appends old mid (answers_text 1 (take i answers)) → AppendsFront mid new text
-    → AppendsFront old new (answers_text 1 answers)
-answers_front old mid new i answers a text h e said first next =
+pub answers_prefix : (old mid new : Option (List ℕ)) (i : ℕ) (answers : List LineAnswer) (a : LineAnswer)
+    (text : List ℕ) → i < length answers → a ≡ get_or answers i a → text ≡ answer_text (i + 1) a
+    → Appends old mid (answers_text 1 (take i answers)) → AppendsPrefix mid new text
+    → AppendsPrefix old new (answers_text 1 answers)
+answers_prefix old mid new i answers a text h e said first next =
     let rest = answers_text (1 + length (take (i + 1) answers)) (drop (i + 1) answers) in
     let whole : answers_text 1 answers ≡ (answers_text 1 (take i answers) ++ answer_text (i + 1) a) ++ rest =
     ap (answers_text 1) (sym (take-append-drop (i + 1) answers))
     ∙ answers_text-append 1 (take (i + 1) answers) (drop (i + 1) answers)
     ∙ ap (λ l. l ++ rest) (answers_more i answers a h e) in
-    subst (AppendsFront old new) (sym whole)
-    (front_next old mid new _ _ rest first (subst (AppendsFront mid new) said next))
+    subst (AppendsPrefix old new) (sym whole)
+    (prefix_next old mid new _ _ rest first (subst (AppendsPrefix mid new) said next))

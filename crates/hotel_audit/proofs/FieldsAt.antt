@@ -8,11 +8,11 @@ use Rattle.hotel_audit.specs.declared.header.Columns.TheVariants.{WithFit, Witho
 use Rattle.csv.specs.declared.record.ByteRecordIter.{ByteRecordIter}
 
 -- from a place on there are the field at it and those behind it
-front_at : {f : List ℕ} (fs : List (List ℕ)) (n : ℕ) → Some f ≡ field_at fs n → drop n fs ≡ f ∷ drop (suc n) fs
+prefix_at : {f : List ℕ} (fs : List (List ℕ)) (n : ℕ) → Some f ≡ field_at fs n → drop n fs ≡ f ∷ drop (suc n) fs
 unfolding field_at
-front_at [] n e = cc e
-front_at (f ∷ fs) zero e = cc e
-front_at (f ∷ fs) (suc n) e = front_at fs n e
+prefix_at [] n e = cc e
+prefix_at (f ∷ fs) zero e = cc e
+prefix_at (f ∷ fs) (suc n) e = prefix_at fs n e
 
 none_at : (fs : List (List ℕ)) (n : ℕ) → None ≡ field_at fs n → drop n fs ≡ []
 unfolding field_at
@@ -41,7 +41,7 @@ pub took : {f : List ℕ} {fs : List (List ℕ)} (old new : ByteRecordIter) → 
     → left_of old ≡ f ∷ fs
 took {f = f} old new (row, is, at) left =
     let next : suc old.at ≡ new.at = omega (arith, at) in
-    front_at (fields_of old.row.now) old.at is
+    prefix_at (fields_of old.row.now) old.at is
     ∙ ap (λ fs. f ∷ fs) (ap (λ n. drop n (fields_of old.row.now)) next
     ∙ ap (λ (row : Bor ByteRecord). drop new.at (fields_of row.now)) (sym row) ∙ left)
 

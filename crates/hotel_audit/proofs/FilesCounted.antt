@@ -13,7 +13,7 @@ use Rattle.hotel_audit.specs.declared.line.Line.TheVariants as line
 use Rattle.hotel_audit.specs.FilesCounted.{AnsweredFile, FilesCounted, FilesLead, all_events_taken, event_of}
 use Rattle.hotel_audit.specs.FilesCounted.{events_taken, followed_by}
 use Rattle.hotel_audit.proofs.{CountsOfFits.notes_counted, NoteOutcomes.note_outcome, NotesInRange.commands_in_range}
-use Rattle.hotel_audit.proofs.{NotesInRange.file_in_range, NotesInRange.front_in_range}
+use Rattle.hotel_audit.proofs.{NotesInRange.file_in_range, NotesInRange.prefix_in_range}
 
 -- a note that was answered Taken happened
 taken_step : (h : History) (s : Stream) (note : Note) (h' : History) (s' : Stream)
@@ -83,7 +83,7 @@ files_reach : (h h' : History) (files : List AnsweredFile) → Reached h → Fil
 files_reach h h' [] ok l = subst Reached (sym l) ok
 files_reach h h' (file ∷ files) ok l =
     let in_range = commands_in_range file.lines
-    (front_in_range file.lines l.0.0 (file_in_range file.bytes (file.lines ++ l.0.0) l.0.1)) in
+    (prefix_in_range file.lines l.0.0 (file_in_range file.bytes (file.lines ++ l.0.0) l.0.1)) in
     files_reach l.1 h' files (runs_reach h l.1 l.2 l.3 (commands_of file.lines) (replies_in file.answers) ok in_range
     (replies_in_range file.answers) l.4.1) l.5
 

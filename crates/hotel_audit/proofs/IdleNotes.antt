@@ -38,11 +38,11 @@ after_lines h [] = h
 after_lines h (line.Note note ∷ lines) = after_lines (after_note h note) lines
 after_lines h (line.Unread cause ∷ lines) = after_lines h lines
 
-pub after_lines-append : (h : History) (front rest : List Line)
-    → after_lines h (front ++ rest) ≡ after_lines (after_lines h front) rest
+pub after_lines-append : (h : History) (prefix rest : List Line)
+    → after_lines h (prefix ++ rest) ≡ after_lines (after_lines h prefix) rest
 after_lines-append h [] rest = refl
-after_lines-append h (line.Note note ∷ front) rest = after_lines-append (after_note h note) front rest
-after_lines-append h (line.Unread cause ∷ front) rest = after_lines-append h front rest
+after_lines-append h (line.Note note ∷ prefix) rest = after_lines-append (after_note h note) prefix rest
+after_lines-append h (line.Unread cause ∷ prefix) rest = after_lines-append h prefix rest
 
 stepped : (h : History) (s : Stream) (note : Note) (given : Reply) (h' : History) (s' : Stream)
     → StepsIf false h s (command.Reported note) given h' s' → h' ≡ after_note h note

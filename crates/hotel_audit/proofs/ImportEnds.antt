@@ -11,15 +11,15 @@ use Rattle.hotel_audit.specs.{declared.answer.LineAnswer.LineAnswer, declared.au
 use Rattle.hotel_audit.specs.{declared.line.Line.Line}
 use Rattle.hotel_audit.specs.declared.audit_file.AuditFault.TheVariants as fault
 use Rattle.hotel_audit.specs.declared.imports.ImportFault.TheVariants.{File}
-use Rattle.hotel_audit.specs.Import.{AreAnswered, EndsAfter, Imports, IsFrontOf, ImportLeaves, ImportsLine}
+use Rattle.hotel_audit.specs.Import.{AreAnswered, EndsAfter, Imports, IsPrefixOf, ImportLeaves, ImportsLine}
 use Rattle.hotel_audit.specs.Import.{LineImported, NextFails, has_taken, stopped}
 
 -- an import that was stopped ended after a prefix of the file's lines
 ends_stopped : (by : LookFault) (file : Result (List Line) AuditFault) (lines : List Line)
     (answers : List LineAnswer) (answered : ℕ) (taken : Bool)
-    → IsFrontOf file lines answers answered taken → EndsAfter file (Err (stopped by answered taken)) lines answers
-ends_stopped look.Memory file lines answers answered taken front = front
-ends_stopped look.Store file lines answers answered taken front = front
+    → IsPrefixOf file lines answers answered taken → EndsAfter file (Err (stopped by answered taken)) lines answers
+ends_stopped look.Memory file lines answers answered taken prefix = prefix
+ends_stopped look.Store file lines answers answered taken prefix = prefix
 
 -- it left what the line left that failed
 leaves_stopped : {B : Type 0} (K : KeptOf B) (rows : B → Rows) (by : LookFault) (file : Result (List Line) AuditFault)
@@ -31,7 +31,7 @@ leaves_stopped K rows look.Store file lines old new answered taken fails = fails
 -- the lines of a file, with one in their midst
 around : (lines : List Line) (i : ℕ) (next : Line)
     → take (i + 1) lines ≡ take i lines ++ next ∷ [] → lines ≡ take i lines ++ next ∷ drop (i + 1) lines
-around lines i next more = sym (take-append-drop (i + 1) lines) ∙ ap (λ front. front ++ drop (i + 1) lines) more
+around lines i next more = sym (take-append-drop (i + 1) lines) ∙ ap (λ prefix. prefix ++ drop (i + 1) lines) more
     ∙ append_assoc (take i lines) (next ∷ []) (drop (i + 1) lines)
 
 -- a line failed behind the state mid: those before it were answered

@@ -141,14 +141,15 @@ lines_known h [] all = tt
 lines_known h (note ∷ taken) all =
     (All-head (Knows h) note taken all, lines_known h taken (All-tail (Knows h) note taken all))
 
-front_known : (h : History) (front rest : List Line) → KnowsLines h (front ++ rest) → KnowsLines h front
-front_known h [] rest k = tt
-front_known h (line.Note note ∷ front) rest k = (k.0, front_known h front rest k.1)
-front_known h (line.Unread cause ∷ front) rest k = absurd k
+prefix_known : (h : History) (prefix rest : List Line) → KnowsLines h (prefix ++ rest) → KnowsLines h prefix
+prefix_known h [] rest k = tt
+prefix_known h (line.Note note ∷ prefix) rest k = (k.0, prefix_known h prefix rest k.1)
+prefix_known h (line.Unread cause ∷ prefix) rest k = absurd k
 
 pub list_is_seen : ListIsSeen
 list_is_seen h later end s source t s' room commands replies lines rest again ok read between second =
     let all = subst (KnowsLines h) (sym (lines_are h ok room (lines ++ rest) read))
     (lines_known h (notes h room) (known h ok room)) in
     seen_lines later end t s' lines again
-    (knows_lines_along h later s source commands replies lines between (front_known h lines rest all)) second.0 second.1
+    (knows_lines_along h later s source commands replies lines between (prefix_known h lines rest all))
+    second.0 second.1

@@ -180,9 +180,9 @@ file_by false rows lines e = rows_by rows lines e
 pub file_in_range : (bytes : List ℕ) (lines : List Line) → audit_lines bytes ≡ Ok lines → AreInRange lines
 file_in_range bytes lines e = file_by (nat_lt AUDIT_BYTES (length bytes)) (file_records bytes) lines e
 
-pub front_in_range : (front rest : List Line) → AreInRange (front ++ rest) → AreInRange front
-front_in_range [] rest a = tt
-front_in_range (l ∷ front) rest a = (a.0, front_in_range front rest a.1)
+pub prefix_in_range : (prefix rest : List Line) → AreInRange (prefix ++ rest) → AreInRange prefix
+prefix_in_range [] rest a = tt
+prefix_in_range (l ∷ prefix) rest a = (a.0, prefix_in_range prefix rest a.1)
 
 -- so have the commands that the lines are
 pub commands_in_range : (lines : List Line) → AreInRange lines → All IsCommand (commands_of lines)

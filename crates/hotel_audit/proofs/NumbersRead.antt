@@ -36,12 +36,12 @@ one_digit m h =
 one_more : (m : ℕ) (text : List ℕ) → 10 ≤ m → Writes (m / 10) text → Writes m (text ++ ((48 + m % 10) ∷ []))
 one_more m text h w =
     let last = digit_written (m % 10) (omega arith) in
-    let front = w.number in
+    let prefix = w.number in
     let pushed = number_of-push 10 text (48 + m % 10) in
     record {
       some = omega (arith, length-append text ((48 + m % 10) ∷ []));
       digits = All-push IsDigit text (48 + m % 10) w.digits (omega arith);
-      number = omega (arith, pushed, front, last);
+      number = omega (arith, pushed, prefix, last);
     }
 
 written : (n : ℕ) → n < 2 ^ 64 → Writes n (decimal n)

@@ -44,13 +44,13 @@ pub record AnsweredFile : Type 0 where
   pub answers : List LineAnswer
 
 -- The lines that were answered are the file's, or a prefix of them where the import was stopped.
-abbrev pub IsFileFront : AnsweredFile → Type 0
-IsFileFront file = (rest : List Line) × (audit_lines file.bytes ≡ Ok (file.lines ++ rest))
+abbrev pub IsFilePrefix : AnsweredFile → Type 0
+IsFilePrefix file = (rest : List Line) × (audit_lines file.bytes ≡ Ok (file.lines ++ rest))
 
 -- The files, one after the other, lead from a history to that at the end.
 abbrev pub FilesLead : History → List AnsweredFile → History → Type 0
 FilesLead h [] h' = h' ≡ h
-FilesLead h (file ∷ files) h' = IsFileFront file × (mid : History) × (s s' : Stream)
+FilesLead h (file ∷ files) h' = IsFilePrefix file × (mid : History) × (s s' : Stream)
     × LinesLead h s file.lines file.answers mid s' × FilesLead mid files h'
 
 -- the events of all files' notes that were answered Taken, in order

@@ -78,8 +78,8 @@ outcome_of answers (Ok given) = Ok (answers given)
 outcome_of answers (Err why) = Err why
 
 -- These lines are a prefix of the file's. Their answers are so many, and one of them is Taken or none.
-abbrev pub IsFrontOf : Result (List Line) AuditFault → List Line → List LineAnswer → ℕ → Bool → Type 0
-IsFrontOf file lines answers answered taken =
+abbrev pub IsPrefixOf : Result (List Line) AuditFault → List Line → List LineAnswer → ℕ → Bool → Type 0
+IsPrefixOf file lines answers answered taken =
     (rest : List Line) × (file ≡ Ok (lines ++ rest)) × (length answers ≡ answered) × (has_taken answers ≡ taken)
 
 -- An import of a file ended so after these lines with these answers: with all of its lines; with none, where it is no
@@ -89,8 +89,8 @@ abbrev pub EndsAfter : Result (List Line) AuditFault → Result (List LineAnswer
 EndsAfter file (Ok given) lines answers = (file ≡ Ok lines) × (answers ≡ given)
 EndsAfter file (Err (File why)) lines answers =
     (lines ≡ []) × (answers ≡ []) × ((why ≡ fault.Memory) ⊎ (file ≡ Err why))
-EndsAfter file (Err (Memory answered taken)) lines answers = IsFrontOf file lines answers answered taken
-EndsAfter file (Err (Store answered taken)) lines answers = IsFrontOf file lines answers answered taken
+EndsAfter file (Err (Memory answered taken)) lines answers = IsPrefixOf file lines answers answered taken
+EndsAfter file (Err (Store answered taken)) lines answers = IsPrefixOf file lines answers answered taken
 
 -- which of the two failed, by the refusal that says so
 abbrev pub failed_by : Refusal → LookFault

@@ -21,13 +21,13 @@ CountsDoNotFall (line.Unread cause ∷ lines) = CountsDoNotFall lines
 
 -- Lines in which no lock's counts fall, and then any prefix of them again: nothing happens, whatever the answers were.
 abbrev pub SentAtOnce : Type 0
-SentAtOnce = (h mid end : History) (s source t s' : Stream) (front rest : List Line) (answers again : List LineAnswer)
-    → CountsDoNotFall (front ++ rest)
-    → LinesLead h s (front ++ rest) answers mid source → LinesLead mid t front again end s' → end ≡ mid
+SentAtOnce = (h mid end : History) (s source t s' : Stream) (prefix rest : List Line) (answers again : List LineAnswer)
+    → CountsDoNotFall (prefix ++ rest)
+    → LinesLead h s (prefix ++ rest) answers mid source → LinesLead mid t prefix again end s' → end ≡ mid
 
 -- A prefix of lines in which no lock's counts fall, and then all of them, come to the history of all of them sent once.
 abbrev pub StoppedAndSent : Type 0
-StoppedAndSent = (h mid end once : History) (s source t s' u u' : Stream) (front rest : List Line)
-    (answers again whole : List LineAnswer) → CountsDoNotFall (front ++ rest)
-    → LinesLead h s front answers mid source → LinesLead mid t (front ++ rest) again end s'
-    → LinesLead h u (front ++ rest) whole once u' → end ≡ once
+StoppedAndSent = (h mid end once : History) (s source t s' u u' : Stream) (prefix rest : List Line)
+    (answers again whole : List LineAnswer) → CountsDoNotFall (prefix ++ rest)
+    → LinesLead h s prefix answers mid source → LinesLead mid t (prefix ++ rest) again end s'
+    → LinesLead h u (prefix ++ rest) whole once u' → end ≡ once

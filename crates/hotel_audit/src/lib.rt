@@ -21,7 +21,7 @@ pub use answer::{LineAnswer, has_taken};
 pub use audit_file::{AUDIT_BYTES, AuditFault, read_notes};
 pub use imports::{ImportFault, import};
 pub use laws::{
-    files_counted, imports_lead, records_of_bytes, seen_again, sent_again_at_once,
+    files_counted, imports_lead, list_comes_back, records_of_bytes, seen_again, sent_again_at_once,
     shut_import_answers_nothing, stopped_and_sent_again,
 };
 pub use line::{Cause, Line};

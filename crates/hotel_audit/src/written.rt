@@ -1,11 +1,11 @@
 //! The answers to an audit file, written to any writer.
 
-ghost use Rattle.hotel_lists.specs.Bytes.{Writes};
+ghost use Rattle.hotel_streams.specs.Bytes.{Writes};
 ghost use Rattle.hotel_audit.specs.Answers.{answers_text};
 
 use crate::answer::LineAnswer;
 use crate::texts::answer_text;
-use hotel_lists::{IoCalls, WriteFailed, write_bytes};
+use hotel_streams::{IoCalls, WriteFailed, write_bytes};
 use std::io::Write;
 
 /// Writes the texts of answers, a line each, numbered from 1. After a fault the writer took a prefix of them.

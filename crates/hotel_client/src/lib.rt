@@ -5,10 +5,11 @@
 //!
 //! Its line in crates.txt names the crates whose names it writes. The line of a client of everything is
 //!
-//!     my_client: keycard_rules hotel_nights hotel_core hotel_lists hotel_audit hotel_http hotel_program hotel_tables
+//!     my_client: keycard_rules hotel_nights hotel_core hotel_streams hotel_lists hotel_audit hotel_http hotel_program
+//!         hotel_tables
 //!
 //! - keycard_rules, hotel_nights: values. hotel_core: commands and replies, and books in memory, `ListBooks`.
-//! - hotel_lists: the lists, and readers and writers for tests. hotel_audit: audit files.
+//! - hotel_streams: readers and writers for tests. hotel_lists: the lists. hotel_audit: audit files.
 //! - hotel_http: one request. hotel_program: scripts, a command line's arguments, connections. (The crate hotel_desk is
 //!   the program, and no crate can depend on a program.)
 //! - hotel_tables: books in a database. Whoever makes its connection names sqlite too; the tests here also name

@@ -152,8 +152,8 @@ struct Call {
     given: Vec<u8>,
 }
 
-/// A limit that is some time is set.
-fn set(limit: Duration) -> io::Result<()>
+/// A limit that is some time is needs_time.
+fn needs_time(limit: Duration) -> io::Result<()>
     ensures { as_nanos limit ≡ 0 → OnOk result ⊥ }
 {
     if limit.is_zero() {
@@ -184,11 +184,11 @@ impl Caller<Peer> for Call {
     }
 
     fn limit_reads(&mut self, _peer: &Peer, limit: Duration) -> io::Result<()> {
-        set(limit)
+        needs_time(limit)
     }
 
     fn limit_writes(&mut self, _peer: &Peer, limit: Duration) -> io::Result<()> {
-        set(limit)
+        needs_time(limit)
     }
 
     fn read_some(&mut self, _peer: &Peer, room: &mut [u8]) -> io::Result<usize> {

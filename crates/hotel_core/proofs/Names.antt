@@ -2,7 +2,7 @@
 -- Declares nothing.
 pub use Rattle.hotel_core.specs.Books.Failures.{failure_in, refusal_of}
 pub use Rattle.keycard_rules.specs.Calls.{Passes}
-pub use Rattle.hotel_core.specs.Books.Walks.{Hands, StopsAt, TakesFront, failure_of}
+pub use Rattle.hotel_core.specs.Books.Walks.{Hands, StopsAt, TakesPrefix, failure_of}
 pub use Rattle.hotel_core.specs.KindRooms.{is_there, rooms_in}
 pub use Rattle.hotel_core.specs.Memory.{HaveCardNumbers, HaveCounts, HaveRoomNumbers, LaterPlacesFree, PlacesAgree}
 pub use Rattle.hotel_core.specs.Memory.{RoomsKnown, CountsNightsOf, TablesAgree}

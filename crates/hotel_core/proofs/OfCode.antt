@@ -12,4 +12,5 @@ pub mod FailuresCounted
 pub mod Happened
 pub mod Happens
 pub mod Walking
+pub mod StillWalks
 pub mod AnswerParts

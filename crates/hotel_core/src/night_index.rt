@@ -128,6 +128,19 @@ impl NightIndex {
         Ok(())
     }
 
+    /// Counts a standing stay of the kind at each night from its arrival on and before its departure. Where memory is
+    /// refused, no count changes.
+    ///
+    /// A count that has reached its greatest value stays there, so what is said holds of counts below 2^63.
+    pub fn add_span(&mut self, kind: &KindCode, arrive: Day, depart: Day) -> Result<(), Memory>
+        ensures ok { OnOk result ((k : List ℕ) (d : ℕ) → counted self.old k d < 2 ^ 63
+            → counted self.new k d ≡ counted self.old k d + one_if (spans kind.now arrive depart k d)) }
+        ensures err { OnErr result ((k : List ℕ) (d : ℕ) → counted self.old k d < 2 ^ 63
+            → counted self.new k d ≡ counted self.old k d) }
+    {
+        self.add_nights(kind, arrive.number(), depart.number())
+    }
+
     /// Counts a stay at each night that it takes: none, where it doesn't stand. Where memory is refused, no count
     /// changes.
     ///
@@ -142,9 +155,7 @@ impl NightIndex {
         if !stay.state.is_standing() {
             return Ok(());
         }
-        let first = stay.arrive.number();
-        let last = stay.depart.number();
-        self.add_nights(&stay.kind, first, last)
+        self.add_span(&stay.kind, stay.arrive, stay.depart)
     }
 
     /// Counts a stay no longer: once less at each night that it takes, down to 0. It takes no memory.

@@ -4,10 +4,10 @@
 ghost use Rattle.std.specs.Prelude.{◌≡◌, IfErr};
 ghost use Rattle.hotel_program.specs.declared.faults.Fault.TheVariants as fault;
 
-use hotel_lists::IoCalls;
 use hotel_program::{
     ClockedListener, Databases, Fault, FileName, SEED_BYTES, Surroundings, audit_file_in, seed_in,
 };
+use hotel_streams::IoCalls;
 use hotel_tables::{FileFault, PathDisk, TableBooks, close_file, open_file};
 use sqlite::FileStore;
 use std::alloc::Global;

@@ -11,9 +11,12 @@ use std::process::ExitCode;
 
 /// The program over the system's streams, with books over these stores. It answers the exit status.
 ///
-/// Here the store is a parameter, and in `run_on` the disk: what the books and the store know is compared as it stands
-/// here, and not with all that is below it.
-fn run_over<S: Alter + Drop, E: Databases<TableBooks<S>>>(rt: &HostRuntime, around: &mut E) -> u8 {
+/// Here the store is a parameter, and in `run_on_disks` the disk: what the books and the store know is compared as it
+/// stands here, and not with all that is below it.
+fn run_with_stores<S: Alter + Drop, E: Databases<TableBooks<S>>>(
+    rt: &HostRuntime,
+    around: &mut E,
+) -> u8 {
     let mut reader = rt.stdin().lock();
     let mut writer = rt.stdout().lock();
     let mut faults = rt.stderr().lock();
@@ -29,11 +32,11 @@ fn run_over<S: Alter + Drop, E: Databases<TableBooks<S>>>(rt: &HostRuntime, arou
 }
 
 /// The program with databases in files on these disks.
-fn run_on<D: PathDisk>(rt: &HostRuntime) -> u8 {
+fn run_on_disks<D: PathDisk>(rt: &HostRuntime) -> u8 {
     let mut around: Host<D> = Host::new(rt);
-    run_over::<FileStore<D>, Host<D>>(rt, &mut around)
+    run_with_stores::<FileStore<D>, Host<D>>(rt, &mut around)
 }
 
 fn main(rt: HostRuntime) -> ExitCode {
-    ExitCode::from(run_on::<SystemDisk>(&rt))
+    ExitCode::from(run_on_disks::<SystemDisk>(&rt))
 }

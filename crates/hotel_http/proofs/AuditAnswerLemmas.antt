@@ -5,8 +5,8 @@ use Rattle.std.proofs.lemmas.List.{take-append-le}
 use Rattle.std.specs.Prelude.{Result, Ok, Err, OnOk, OnErr}
 use Rattle.std.specs.Io.KnownBytes.{Appends}
 use Rattle.std.proofs.KnownBytes.{Appends-trans}
-use Rattle.hotel_lists.specs.Bytes.{AppendsFront}
-use Rattle.hotel_lists.proofs.BytesLemmas.{front_next}
+use Rattle.hotel_streams.specs.Bytes.{AppendsPrefix}
+use Rattle.hotel_streams.proofs.BytesLemmas.{prefix_next}
 use Rattle.hotel_audit.proofs.AnswersWritten.{answers_more}
 use Rattle.hotel_audit.specs.{Answers.answer_text, Answers.answers_text, declared.answer.LineAnswer.LineAnswer}
 
@@ -19,10 +19,10 @@ answers_longer i answers a text h e said =
     ∙ ap (λ (l : List ℕ). length (answers_text 1 (take i answers)) + length l) (sym said)
 
 -- A prefix of the head of an answer, where its text is the head.
-pub front_of_head : (old new : Option (List ℕ)) (head body : List ℕ) {text : List ℕ}
-    → text ≡ head → AppendsFront old new text → AppendsFront old new (head ++ body)
-front_of_head old new head body is written =
-    let (n, within, took) = subst (AppendsFront old new) is written in
+pub prefix_of_head : (old new : Option (List ℕ)) (head body : List ℕ) {text : List ℕ}
+    → text ≡ head → AppendsPrefix old new text → AppendsPrefix old new (head ++ body)
+prefix_of_head old new head body is written =
+    let (n, within, took) = subst (AppendsPrefix old new) is written in
     (n, rw length-append (omega arith), subst (Appends old new) (sym (take-append-le n head body within)) took)
 
 -- The head, and then its body.
@@ -34,8 +34,8 @@ then_ok (Err e) old mid new text head body is first next = tt
 
 -- The head, and then a prefix of its body.
 pub then_err : {A E : Type 0} (r : Result A E) (old mid new : Option (List ℕ)) (text head body : List ℕ) → text ≡ head
-    → Appends old mid text → OnErr r (AppendsFront mid new body) → OnErr r (AppendsFront old new (head ++ body))
+    → Appends old mid text → OnErr r (AppendsPrefix mid new body) → OnErr r (AppendsPrefix old new (head ++ body))
 then_err (Ok a) old mid new text head body is first next = tt
 then_err (Err e) old mid new text head body is first next =
-    subst (AppendsFront old new) (append-nil (head ++ body))
-    (front_next old mid new head body [] (subst (Appends old mid) is first) next)
+    subst (AppendsPrefix old new) (append-nil (head ++ body))
+    (prefix_next old mid new head body [] (subst (Appends old mid) is first) next)

@@ -11,25 +11,25 @@ use Rattle.httparse.specs.Grammar.{RequestHead, print_request, ReadsRequest, Has
 use Rattle.httparse.specs.{Spans.IsRequestAt, Spans.IsRequestOf, Spans.IsRequestWithin, Spans.RequestOverflows}
 use Rattle.httparse.specs.{Spans.RequestExceeds, declared.spans.HeaderSpan.HeaderSpan}
 use Rattle.httparse.specs.declared.spans.RequestSpans.{RequestSpans}
-use Rattle.hotel_lists.specs.Bytes.{ReadsOnto}
+use Rattle.hotel_streams.specs.Bytes.{ReadsOnto}
 use Rattle.hotel_http.specs.declared.head.Judged.{Judged}
 use Rattle.hotel_http.specs.Head.{BeginsWith, HasNoHead, IsCut, IsMalformed, IsTooLong, HasTooManyFields, IsJudged}
 use Rattle.hotel_http.specs.declared.head.TheConstants.{HEAD_BYTES, HEAD_FIELDS}
 
 -- A head stays one where more follows.
-reads_longer : (front more : List ℕ) (h : RequestHead) (rest : List ℕ)
-    → ReadsRequest front h rest → ReadsRequest (front ++ more) h (rest ++ more)
-reads_longer front more h rest (is, e) = (is, ap (λ l. l ++ more) e ∙ append_assoc (print_request h) rest more)
+reads_longer : (prefix more : List ℕ) (h : RequestHead) (rest : List ℕ)
+    → ReadsRequest prefix h rest → ReadsRequest (prefix ++ more) h (rest ++ more)
+reads_longer prefix more h rest (is, e) = (is, ap (λ l. l ++ more) e ∙ append_assoc (print_request h) rest more)
 
-never_longer : (front more : List ℕ) → NeverHasRequest front → NeverHasRequest (front ++ more)
-never_longer front more never after = subst HasNoRequest (sym (append_assoc front more after)) (never (more ++ after))
+never_longer : (prefix more : List ℕ) → NeverHasRequest prefix → NeverHasRequest (prefix ++ more)
+never_longer prefix more never after = subst HasNoRequest (sym (append_assoc prefix more after)) (never (more ++ after))
 
-exceeds_longer : (room : ℕ) (front more : List ℕ) → RequestExceeds room front → RequestExceeds room (front ++ more)
-exceeds_longer room front more (lines, rest, e, h, reads, over) =
+exceeds_longer : (room : ℕ) (prefix more : List ℕ) → RequestExceeds room prefix → RequestExceeds room (prefix ++ more)
+exceeds_longer room prefix more (lines, rest, e, h, reads, over) =
     (lines, rest ++ more, ap (λ l. l ++ more) e ∙ append_assoc lines rest more, h, reads, over)
 
-no_head_where_overflows : (front more : List ℕ) → RequestOverflows HEAD_FIELDS front → HasNoHead (front ++ more)
-no_head_where_overflows front more over h rest begins =
+no_head_where_overflows : (prefix more : List ℕ) → RequestOverflows HEAD_FIELDS prefix → HasNoHead (prefix ++ more)
+no_head_where_overflows prefix more over h rest begins =
     let many = over more h rest begins.reads in
     let few = begins.few in
     absurd (omega arith)
@@ -80,15 +80,15 @@ pub begins : (n : ℕ) (bytes more : List ℕ) (headers : List HeaderSpan) (span
     → IsRequestWithin (take n bytes) headers spans → IsRequestAt (take n bytes) headers spans h
     → BeginsWith (bytes ++ more) h (drop spans.len (bytes ++ more))
 begins n bytes more headers spans h is room within at =
-    let front = take n bytes in
+    let prefix = take n bytes in
     let left = drop n bytes ++ more in
     let len = within.section.len_fits in
-    let here = reads_longer front left h (drop spans.len front) at.reads in
-    let rest : drop spans.len front ++ left ≡ drop spans.len (front ++ left) =
-    sym (drop-append-le spans.len front left len) in
-    let there : ReadsRequest (front ++ left) h (drop spans.len (front ++ left)) =
-    subst (ReadsRequest (front ++ left) h) rest here in
-    let inside : length front ≤ n = rw (length-take n bytes) (omega arith) in
+    let here = reads_longer prefix left h (drop spans.len prefix) at.reads in
+    let rest : drop spans.len prefix ++ left ≡ drop spans.len (prefix ++ left) =
+    sym (drop-append-le spans.len prefix left len) in
+    let there : ReadsRequest (prefix ++ left) h (drop spans.len (prefix ++ left)) =
+    subst (ReadsRequest (prefix ++ left) h) rest here in
+    let inside : length prefix ≤ n = rw (length-take n bytes) (omega arith) in
     let covered : length (take spans.headers headers) ≡ length h.fields =
     sym (length-map (take spans.headers headers) _) ∙ ap length at.fields ∙ length-map h.fields _ in
     let written : length (take spans.headers headers) ≤ length headers =

@@ -6,8 +6,8 @@ use Rattle.std.proofs.KnownBytes.{Appends-nil, Consumes-kept, Consumes-nil, Cons
 use Rattle.std.proofs.lemmas.List.{drop-append-le}
 use Rattle.httparse.specs.{Grammar.RequestHead, Spans.IsRequestAt, Spans.IsRequestOf, Spans.IsRequestWithin}
 use Rattle.httparse.specs.{declared.spans.HeaderSpan.HeaderSpan, declared.spans.RequestSpans.RequestSpans}
-use Rattle.hotel_lists.specs.Reads.{ReadsWhile}
-use Rattle.hotel_lists.proofs.ReadLemmas.{reads_while}
+use Rattle.hotel_streams.specs.Reads.{ReadsWhile}
+use Rattle.hotel_streams.proofs.ReadLemmas.{reads_while}
 use Rattle.hotel_http.specs.{Body.ReadsBody, Body.interim_where, Head.BeginsWith, Head.IsJudged, Head.LiesWithin}
 use Rattle.hotel_http.specs.{Head.WantsHead, declared.head.Judged.Judged, declared.origins.Origins.Origins}
 use Rattle.hotel_http.specs.declared.head.TheConstants.{HEAD_BYTES, HEAD_FIELDS}
@@ -108,17 +108,17 @@ module _ (origins : Origins) where
       inr (awaits (plan_in origins head), ends, (head, drop len input, begins, refl))
 
   -- a whole head, and what was read behind it
-  whole_ends : (known mid left old new : Option (List ℕ)) (items front : List ℕ)
+  whole_ends : (known mid left old new : Option (List ℕ)) (items prefix : List ℕ)
       (headers : List HeaderSpan) (spans : RequestSpans)
       (result : Result Received RequestFault) → Consumes known mid items
-      → IfSome known (λ input. IsJudged input front headers (judged.Whole spans)) → IsRequestOf front headers spans
-      → ((head : RequestHead) → IsRequestAt front headers spans head
+      → IfSome known (λ input. IsJudged input prefix headers (judged.Whole spans)) → IsRequestOf prefix headers spans
+      → ((head : RequestHead) → IsRequestAt prefix headers spans head
       → EndsHead origins head (λ left. drop spans.len (items ++ left)) mid old new result)
       → EndsRequest origins known left old new result
-  whole_ends None mid left old new items front headers spans result taken found (head, at) ends =
+  whole_ends None mid left old new items prefix headers spans result taken found (head, at) ends =
       unknown_ends head (λ left. drop spans.len (items ++ left)) mid left old new result (ends head at)
-  whole_ends (Some input) None left old new items front headers spans result taken found of ends = absurd taken
-  whole_ends (Some input) (Some rest) left old new items front headers spans result taken (head, begins, at) of ends =
+  whole_ends (Some input) None left old new items prefix headers spans result taken found of ends = absurd taken
+  whole_ends (Some input) (Some rest) left old new items prefix headers spans result taken (head, begins, at) of ends =
       known_ends head spans.len input items rest left old new result taken begins (ends head at)
 
   -- what may follow a whole head is as its plan says

@@ -15,8 +15,8 @@ use Rattle.hotel_model.specs.{declared.command.Command.Command, declared.reply.R
 use Rattle.hotel_model.specs.Rows.{Rows}
 use Rattle.hotel_core.specs.{Books.Happens.HappensBy, Books.Stepped.Stepped}
 use Rattle.hotel_model.specs.declared.reply.Reply.TheVariants as reply
-use Rattle.hotel_lists.specs.{Bytes.AppendsFront, declared.calls.WriteFailed.WriteFailed}
-use Rattle.hotel_lists.proofs.CallsLemmas.{last_of}
+use Rattle.hotel_streams.specs.{Bytes.AppendsPrefix, declared.calls.WriteFailed.WriteFailed}
+use Rattle.hotel_lists.proofs.ToldLemmas.{last_of}
 use Rattle.hotel_asks.specs.declared.asked.Ask.TheVariants as ask
 use Rattle.hotel_lists.specs.{Listings.Listing, RowLines.ListTold, RowLines.LooksAt, declared.fault.ListFault.ListFault}
 use Rattle.hotel_lists.specs.declared.fault.ListFault.TheVariants as fault
@@ -41,7 +41,8 @@ use Rattle.hotel_http.specs.Serve.{IsListText, list_refusal, WasAnswered}
 -- an answer that was written or not
 pub ends_as : (text : List ℕ) (status : Status) (acted : Bool) (written : Result (Unit {0}) WriteFailed)
     (old new : Option (List ℕ)) (end : Result Served Cut)
-    → end ≡ ended written status acted → OnOk written (Appends old new text) → OnErr written (AppendsFront old new text)
+    → end ≡ ended written status acted
+    → OnOk written (Appends old new text) → OnErr written (AppendsPrefix old new text)
     → EndsAs (full_answer text status acted) [] old new end
 ends_as text status acted (Ok done) old new end e ok err =
     subst (EndsAs (full_answer text status acted) [] old new) (sym e) (refl, refl, ok)

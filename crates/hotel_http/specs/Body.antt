@@ -2,7 +2,7 @@
 use Rattle.std.specs.Prelude.{◌≡◌, ◌<◌, ◌⊎◌, ◌++◌, ℕ, Bool, List, [], length, take, nat_lt, codes, if◌then◌else◌}
 use Rattle.std.specs.Prelude.{Option}
 use Rattle.std.specs.Io.KnownBytes.{Keeps}
-use Rattle.hotel_lists.specs.Reads.{ReadsWhile}
+use Rattle.hotel_streams.specs.Reads.{ReadsWhile}
 
 -- These bytes are as good as all that follow the head: as many as are wanted are the same, or too few came.
 pub record HoldsBody (all : List ℕ) (size : ℕ) (body : List ℕ) : Type 0 where

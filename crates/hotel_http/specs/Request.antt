@@ -2,10 +2,10 @@
 use Rattle.std.specs.Prelude.{◌≡◌, ◌<◌, ◌⊎◌, ℕ, Bool, true, false, List, [], ◌++◌, length, take, drop, if◌then◌else◌}
 use Rattle.std.specs.Prelude.{map, nat_lt, Option, Some, None, IfSome, Result, Ok, Err}
 use Rattle.std.specs.Io.KnownBytes.{Appends, Keeps}
-use Rattle.hotel_lists.specs.Reads.{ReadsWhile}
+use Rattle.hotel_streams.specs.Reads.{ReadsWhile}
 use Rattle.httparse.specs.{Grammar.RequestHead, Spans.name_and_value}
-use Rattle.hotel_lists.specs.{Bytes.AppendsFront, declared.bytes.ReadFault.ReadFault}
-use Rattle.hotel_lists.specs.declared.bytes.ReadFault.TheVariants as more
+use Rattle.hotel_streams.specs.{Bytes.AppendsPrefix, declared.bytes.ReadFault.ReadFault}
+use Rattle.hotel_streams.specs.declared.bytes.ReadFault.TheVariants as more
 use Rattle.hotel_http.specs.{declared.origins.Origins.Origins, declared.plan.Plan.Plan}
 use Rattle.hotel_http.specs.{declared.rejection.Rejection.Rejection}
 use Rattle.hotel_http.specs.{declared.requests.Request.Request, declared.requests.RequestFault.RequestFault}
@@ -93,7 +93,7 @@ EndsBody plan path begun known old new (Ok got) =
     Appends old new (interim_where plan.awaited) × IfSome known
     (λ left. IsMeant plan path (begun ++ left) (wanted_of got.asks))
 EndsBody plan path begun known old new (Err Closed) = ⊥
-EndsBody plan path begun known old new (Err Write) = (plan.awaited ≡ true) × AppendsFront old new interim_text
+EndsBody plan path begun known old new (Err Write) = (plan.awaited ≡ true) × AppendsPrefix old new interim_text
 EndsBody plan path begun known old new (Err Read) = Appends old new (interim_where plan.awaited)
 EndsBody plan path begun known old new (Err Memory) = Appends old new (interim_where plan.awaited)
 
@@ -148,7 +148,7 @@ module _ (origins : Origins) where
       × IfSome known (λ left. IsAsked (plan_in origins head) (path_of head.target) (behind left) (wanted_of got.asks))
   EndsHead head behind known old new (Err Closed) = ⊥
   EndsHead head behind known old new (Err Write) =
-      (awaits (plan_in origins head) ≡ true) × AppendsFront old new interim_text
+      (awaits (plan_in origins head) ≡ true) × AppendsPrefix old new interim_text
   EndsHead head behind known old new (Err Read) = Appends old new (interim_where (awaits (plan_in origins head)))
   EndsHead head behind known old new (Err Memory) = Appends old new (interim_where (awaits (plan_in origins head)))
 
@@ -159,6 +159,6 @@ module _ (origins : Origins) where
       (awaited : Bool) × Appends old new (interim_where awaited)
       × IfSome known (λ input. Requests input awaited (wanted_of got.asks))
   EndsRequest known left old new (Err Closed) = Appends old new [] × IfSome known (λ input. input ≡ [])
-  EndsRequest known left old new (Err Write) = AppendsFront old new interim_text × IfSome known (Awaits true)
+  EndsRequest known left old new (Err Write) = AppendsPrefix old new interim_text × IfSome known (Awaits true)
   EndsRequest known left old new (Err Read) = IsUnread known left old new
   EndsRequest known left old new (Err Memory) = IsUnread known left old new

@@ -11,8 +11,8 @@ use Rattle.hotel_core.specs.{Books.Failures.failure_in, Books.Failures.refusal_o
 use Rattle.hotel_model.specs.declared.reply.Reply.TheVariants as reply
 use Rattle.hotel_model.specs.declared.reply.Refusal.TheVariants as refusal
 use Rattle.hotel_model.specs.Run.{Steps, Runs}
-use Rattle.hotel_lists.specs.{Bytes.AppendsFront, declared.calls.WriteFailed.WriteFailed}
-use Rattle.hotel_lists.specs.Reads.{ReadsWhile}
+use Rattle.hotel_streams.specs.{Bytes.AppendsPrefix, declared.calls.WriteFailed.WriteFailed}
+use Rattle.hotel_streams.specs.Reads.{ReadsWhile}
 use Rattle.hotel_lists.specs.{Faults.told_refusal, RowLines.ListFailed, declared.fault.ListFault.ListFault}
 use Rattle.hotel_lists.specs.declared.fault.ListFault.TheVariants as fault
 use Rattle.hotel_lists.specs.Listings.{Listing, in_full}
@@ -162,7 +162,7 @@ module _ (origins : Origins) where
   -- The interim answer was cut short: the client awaits it, and nothing was read but for the head.
   abbrev pub InterimCut : Option (List ℕ) → Option (List ℕ) → Option (List ℕ) → Option (List ℕ) → Type 0
   InterimCut known left old new =
-      AppendsFront old new interim_text × IfSome known (Awaits origins true) × ReadsWhile WantsHead known left
+      AppendsPrefix old new interim_text × IfSome known (Awaits origins true) × ReadsWhile WantsHead known left
 
   -- How a request was served: it was answered; or its answer or the interim one was cut short; or no request was read.
   -- Where it wasn't begun, this is the same as before. The reader had what is known, and has what is left of it.

@@ -55,13 +55,13 @@ field_texts (name ∷ names) form = do
   Some (text ∷ texts)
 
 -- The texts of a verb's values, in their order: those from the path, if any, and then those of the form.
-abbrev pub texts_of : Verb → List ℕ → List Pair → Option (List (List ℕ))
-texts_of verb path form = option_map (λ texts. parts_of verb path ++ texts) (field_texts (fields_of verb) form)
+abbrev pub value_texts : Verb → List ℕ → List Pair → Option (List (List ℕ))
+value_texts verb path form = option_map (λ texts. parts_of verb path ++ texts) (field_texts (fields_of verb) form)
 
 -- What a verb asks for, its values from the path or the form; nothing where one is missing, stands twice or is refused.
 abbrev pub ask_of_request : Verb → List ℕ → List ℕ → Option Ask
 ask_of_request verb path body = do
-  texts ← texts_of verb path (form_fields body)
+  texts ← value_texts verb path (form_fields body)
   accepted verb texts
 
 -- A value of the verb is a field of the form.

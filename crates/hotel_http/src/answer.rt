@@ -1,7 +1,7 @@
 //! The bytes of answers, from buffers of fixed size.
 
 ghost use Rattle.std.specs.Prelude.{◌≡◌, ◌≤◌, length};
-ghost use Rattle.hotel_lists.specs.Bytes.{Writes};
+ghost use Rattle.hotel_streams.specs.Bytes.{Writes};
 ghost use Rattle.hotel_core.specs.declared.reply_texts.TheConstants.{REPLY_BYTES};
 ghost use Rattle.hotel_http.specs.declared.answer.Media.TheVariants.{Plain};
 ghost use Rattle.hotel_http.specs.Answer.{media_type, allow_field, status_line, head_text, answer_text};
@@ -12,12 +12,12 @@ use crate::buffer::HeadText;
 use crate::rejection::{Method, Rejection};
 use crate::status::Status;
 use hotel_core::{Refusal, Reply, reply_text};
-use hotel_lists::{IoCalls, WriteFailed, write_bytes, write_parts};
+use hotel_streams::{IoCalls, WriteFailed, write_bytes, write_parts};
 use std::io::Write;
 
 /// What the body of an answer is.
 #[derive(Clone, Copy, Debug, PartialEq, Eq)]
-pub enum Media {
+pub(crate) enum Media {
     Plain,
     Csv,
 }

@@ -1,7 +1,7 @@
 //! The answer to an audit file, from buffers of fixed size.
 
 ghost use Rattle.std.specs.Prelude.{◌≡◌, ◌≤◌, length};
-ghost use Rattle.hotel_lists.specs.Bytes.{Writes};
+ghost use Rattle.hotel_streams.specs.Bytes.{Writes};
 ghost use Rattle.hotel_audit.specs.{Answers.answers_text};
 ghost use Rattle.hotel_core.specs.declared.reply_texts.TheConstants.{REPLY_BYTES};
 ghost use Rattle.hotel_http.specs.AuditAnswer.{lines_answer, import_status, fault_body, fault_answer};
@@ -10,7 +10,7 @@ use crate::answer::{Media, head_text, memory_text, write_short};
 use crate::buffer::HeadText;
 use crate::status::Status;
 use hotel_audit::{AuditFault, ImportFault, LineAnswer, answer_text, stopped_text, write_answers};
-use hotel_lists::{IoCalls, WriteFailed, write_bytes};
+use hotel_streams::{IoCalls, WriteFailed, write_bytes};
 use keycard_rules::LookFault;
 use std::io::Write;
 

@@ -1,11 +1,11 @@
 //! The body of a request, and the interim answer before it.
 
 ghost use Rattle.std.specs.Prelude.{◌≡◌, ◌++◌, true, IfOk, OnOk, OnErr, IfSome};
-ghost use Rattle.hotel_lists.specs.Calls.{CountsReads, OnErrOf};
-ghost use Rattle.hotel_lists.specs.{Bytes.Writes, declared.bytes.ReadFault.TheVariants.Read};
+ghost use Rattle.hotel_streams.specs.Calls.{CountsReads, OnErrOf};
+ghost use Rattle.hotel_streams.specs.{Bytes.Writes, declared.bytes.ReadFault.TheVariants.Read};
 ghost use Rattle.hotel_http.specs.Body.{HoldsBody, ReadsBody, interim_where};
 
-use hotel_lists::{IoCalls, ReadFault, WriteFailed, read_more, write_bytes};
+use hotel_streams::{IoCalls, ReadFault, WriteFailed, read_more, write_bytes};
 use std::alloc::Global;
 use std::io::{Read, Write};
 

@@ -3,4 +3,4 @@
 use keycard_rules::ShortText;
 
 /// The text of an answer's head: at most 320 bytes.
-pub type HeadText = ShortText<320>;
+pub(crate) type HeadText = ShortText<320>;

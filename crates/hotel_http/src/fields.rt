@@ -12,7 +12,7 @@ use httparse::spans::HeaderSpan;
 
 /// How often a field stands, and its value where it stands once.
 #[derive(Clone, Copy, Debug)]
-pub enum Named<'b> {
+pub(crate) enum Named<'b> {
     Absent,
     Once(&'b [u8]),
     Often,

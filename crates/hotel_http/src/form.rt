@@ -17,7 +17,7 @@ struct Field<'b> {
 
 /// The fields of a form, in order. Contracts see the name and the text of each.
 #[derive(Drop)]
-pub struct Form<'b> {
+pub(crate) struct Form<'b> {
     fields: Vec<Field<'b>>,
 }
 

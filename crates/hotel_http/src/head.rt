@@ -3,26 +3,26 @@
 ghost use Rattle.std.specs.Prelude.{◌≡◌, ◌≢◌, ◌≤◌, ℕ, List, [], ◌++◌, take, length, IfOk, OnOk, IfSome};
 ghost use Rattle.std.specs.Prelude.{true};
 ghost use Rattle.std.specs.Io.KnownBytes.{Consumes};
-ghost use Rattle.hotel_lists.specs.Reads.{ReadsWhile};
-ghost use Rattle.hotel_lists.specs.Calls.{CountsReads, OnErrOf};
-ghost use Rattle.hotel_lists.specs.{declared.bytes.ReadFault.TheVariants.Read};
+ghost use Rattle.hotel_streams.specs.Reads.{ReadsWhile};
+ghost use Rattle.hotel_streams.specs.Calls.{CountsReads, OnErrOf};
+ghost use Rattle.hotel_streams.specs.declared.bytes.ReadFault.TheVariants.{Read};
 ghost use Rattle.httparse.specs.{Grammar.HasNoRequest, declared.spans.HeaderSpan.HeaderSpan};
 ghost use Rattle.hotel_http.specs.Head.{IsParsed, IsJudged, IsUnended, LiesWithin, IsOpen, WantsHead};
 
-use hotel_lists::{IoCalls, ReadFault, read_more};
+use hotel_streams::{IoCalls, ReadFault, read_more};
 use httparse::spans::{HeaderSpan, RequestSpans, parse_request};
 use httparse::{Error, Status};
 use std::io::Read;
 
 /// The most bytes of a head.
-pub const HEAD_BYTES: usize = 16_384;
+pub(crate) const HEAD_BYTES: usize = 16_384;
 
 /// The most field lines of a head.
-pub const HEAD_FIELDS: usize = 64;
+pub(crate) const HEAD_FIELDS: usize = 64;
 
 /// What is known of the head of an input.
 #[derive(Clone, Copy, Debug)]
-pub enum Judged {
+pub(crate) enum Judged {
     /// It goes on.
     More,
     /// The input has no byte.

@@ -12,7 +12,7 @@ use httparse::spans::HeaderSpan;
 
 /// What the head of a request asks for.
 #[derive(Clone, Copy, Debug)]
-pub struct Plan {
+pub(crate) struct Plan {
     pub target: Target,
     /// How many bytes of the body are read.
     pub size: usize,

@@ -2,14 +2,14 @@
 
 /// The methods that the routes take.
 #[derive(Clone, Copy, Debug, PartialEq, Eq)]
-pub enum Method {
+pub(crate) enum Method {
     Get,
     Post,
 }
 
 /// Why a request asks nothing of the desk. Each has a status and a text.
 #[derive(Clone, Copy, Debug, PartialEq, Eq)]
-pub enum Rejection {
+pub(crate) enum Rejection {
     /// The head, its fields or its target are wrong, or the input ends before the body does.
     BadRequest,
     /// The head has too many bytes or fields.

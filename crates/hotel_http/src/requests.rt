@@ -4,8 +4,8 @@ ghost use Rattle.std.specs.Prelude.{◌≡◌, ◌++◌, ◌≤◌, true, length
 ghost use Rattle.std.specs.Io.KnownBytes.{Keeps};
 ghost use Rattle.httparse.specs.{Grammar.RequestHead, Spans.IsRequestWithin, Spans.IsRequestAt, Spans.name_and_value};
 ghost use Rattle.httparse.specs.Spans.{span_bytes};
-ghost use Rattle.hotel_lists.specs.Calls.{CountsCalls, OnErrOf};
-ghost use Rattle.hotel_lists.specs.Reads.{ReadsWhile};
+ghost use Rattle.hotel_streams.specs.Calls.{CountsCalls, OnErrOf};
+ghost use Rattle.hotel_streams.specs.Reads.{ReadsWhile};
 ghost use Rattle.hotel_http.specs.{Body.ReadsBody, Plan.plan_in, Request.request_fault_of, Request.IsMeant};
 ghost use Rattle.hotel_http.specs.{Request.EndsBody, Request.wanted_of, Request.EndsHead, Request.EndsRequest};
 ghost use Rattle.hotel_http.specs.{Fields.framing, Head.WantsHead, Request.is_some_body};
@@ -21,14 +21,14 @@ use crate::plan::{Plan, make_plan, path_part};
 use crate::rejection::Rejection;
 use crate::service::Service;
 use crate::tasks::{Task, read_task};
-use hotel_lists::{IoCalls, ReadFault, WriteFailed};
+use hotel_streams::{IoCalls, ReadFault, WriteFailed};
 use httparse::spans::{EMPTY_HEADER_SPAN, HeaderSpan, RequestSpans};
 use std::alloc::{AllocError, Global};
 use std::io::{Read, Write};
 
 /// A request that was read whole, and no check rejected it.
 #[derive(Drop)]
-pub struct Request {
+pub(crate) struct Request {
     pub task: Task,
     /// The bytes behind the head, as many as the head says; none of a list.
     pub body: Vec<u8>,
@@ -36,7 +36,7 @@ pub struct Request {
 
 /// What was read of a request.
 #[derive(Drop)]
-pub struct Received {
+pub(crate) struct Received {
     /// What it asks for, or the first rejection.
     pub asks: Result<Request, Rejection>,
     /// More of it may follow: a body that it announces isn't read, or it isn't known what it announces.
@@ -45,7 +45,7 @@ pub struct Received {
 
 /// Why no request was read.
 #[derive(Debug, Drop)]
-pub enum RequestFault {
+pub(crate) enum RequestFault {
     /// The input had no byte.
     Closed,
     /// A read failed.
@@ -87,24 +87,24 @@ fn refused(why: Rejection, follows: bool) -> Received
 }
 
 /// Whether a head announces a body, or it isn't known whether it does.
-fn announces_body(front: &[u8], headers: &[HeaderSpan], spans: &RequestSpans) -> bool
-    requires { IsRequestWithin front.now headers.now spans.now }
-    ensures { (head : RequestHead) → IsRequestAt front.now headers.now spans.now head
+fn announces_body(prefix: &[u8], headers: &[HeaderSpan], spans: &RequestSpans) -> bool
+    requires { IsRequestWithin prefix.now headers.now spans.now }
+    ensures { (head : RequestHead) → IsRequestAt prefix.now headers.now spans.now head
         → result ≡ is_some_body (framing (map name_and_value head.fields)) }
 {
-    match read_framing(front, &headers[..spans.headers]) {
+    match read_framing(prefix, &headers[..spans.headers]) {
         Ok(announced) => announced > 0,
         Err(_) => true,
     }
 }
 
 /// The target of a head; no text where it isn't UTF-8, as no head's is.
-fn target_text<'b>(front: &'b [u8], spans: &RequestSpans) -> &'b str
+fn target_text<'b>(prefix: &'b [u8], spans: &RequestSpans) -> &'b str
     requires ordered { spans.now.path.start ≤ spans.now.path.end }
-    requires within { spans.now.path.end ≤ length front.now }
-    ensures { IsUtf8 (span_bytes front.now spans.now.path) → result.now ≡ span_bytes front.now spans.now.path }
+    requires within { spans.now.path.end ≤ length prefix.now }
+    ensures { IsUtf8 (span_bytes prefix.now spans.now.path) → result.now ≡ span_bytes prefix.now spans.now.path }
 {
-    match std::str::from_utf8(spans.path.of(front)) {
+    match std::str::from_utf8(spans.path.of(prefix)) {
         Ok(text) => text,
         Err(_) => "",
     }
@@ -114,19 +114,26 @@ fn target_text<'b>(front: &'b [u8], spans: &RequestSpans) -> &'b str
 #[tactic(auto, unfolding(crate::specs::Plan::plan_in))]
 fn plan_head(
     service: Service<'_>,
-    front: &[u8],
+    prefix: &[u8],
     headers: &[HeaderSpan],
     spans: &RequestSpans,
 ) -> Result<Plan, Rejection>
-    requires { IsRequestWithin front.now headers.now spans.now }
-    ensures { (head : RequestHead) → IsRequestAt front.now headers.now spans.now head
+    requires { IsRequestWithin prefix.now headers.now spans.now }
+    ensures { (head : RequestHead) → IsRequestAt prefix.now headers.now spans.now head
         → result ≡ plan_in service.entry.origins head }
 {
     let fields = &headers[..spans.headers];
-    admit(service.origins, spans.version, front, fields)?;
-    let method = spans.method.of(front);
-    let target = target_text(front, spans);
-    make_plan(service.routes, spans.version, method, target, front, fields)
+    admit(service.origins, spans.version, prefix, fields)?;
+    let method = spans.method.of(prefix);
+    let target = target_text(prefix, spans);
+    make_plan(
+        service.routes,
+        spans.version,
+        method,
+        target,
+        prefix,
+        fields,
+    )
 }
 
 /// What a plan asks for with the body that was read, which may be too short.
@@ -202,11 +209,11 @@ fn read_behind_head<R: Read, W: Write>(
     ensures before { OnErrOf result Write (Keeps (R.remaining reader.old) (R.remaining reader.new)) }
     ensures calls { CountsCalls calls.old calls.new (OnErrOf result Read) (OnErrOf result Write) }
 {
-    let front = head_part(bytes);
-    match plan_head(service, front, headers, spans) {
-        Err(why) => Ok(refused(why, announces_body(front, headers, spans))),
+    let prefix = head_part(bytes);
+    match plan_head(service, prefix, headers, spans) {
+        Err(why) => Ok(refused(why, announces_body(prefix, headers, spans))),
         Ok(plan) => {
-            let path = path_part(target_text(front, spans));
+            let path = path_part(target_text(prefix, spans));
             let begun = behind(bytes, spans.len);
             read_planned(alloc, reader, writer, begun, plan, path, calls)
         }

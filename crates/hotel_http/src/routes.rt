@@ -12,7 +12,7 @@ use std::marker::Model;
 
 /// What a path asks for.
 #[derive(Clone, Copy, Debug, PartialEq, Eq)]
-pub enum Target {
+pub(crate) enum Target {
     /// A command or a list.
     Asks(Verb),
     /// The import of an audit file.

@@ -2,9 +2,9 @@
 
 ghost use Rattle.std.specs.Prelude.{◌≡◌, [], true, Some, IfOk, IfSome, OnErr};
 ghost use Rattle.rand_core.specs.Stream.{Stream};
-ghost use Rattle.hotel_lists.specs.Calls.{CountsCalls, CountsWrites, OnErrOf};
+ghost use Rattle.hotel_streams.specs.Calls.{CountsCalls, CountsWrites, OnErrOf};
 ghost use Rattle.hotel_asks.specs.Listings.{listing_on};
-ghost use Rattle.hotel_lists.specs.Reads.{ReadsWhile};
+ghost use Rattle.hotel_streams.specs.Reads.{ReadsWhile};
 ghost use Rattle.hotel_http.specs.Request.{MayFollow, WantsMore};
 ghost use Rattle.hotel_http.specs.declared.origins.Origins.TheVariants.{Any};
 ghost use Rattle.hotel_asks.specs.declared.asked.Ask.TheVariants as ask;
@@ -28,7 +28,8 @@ use crate::tasks::Task;
 use hotel_asks::{Ask, ListAsk, write_list};
 use hotel_audit::{ImportFault, has_taken, import};
 use hotel_core::{Books, Command, Refusal, Reply, Walks, step};
-use hotel_lists::{IoCalls, ListFault, WriteFailed};
+use hotel_lists::ListFault;
+use hotel_streams::{IoCalls, WriteFailed};
 use rand_core::Rng;
 use std::alloc::Global;
 use std::error::Error;

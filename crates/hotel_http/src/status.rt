@@ -5,7 +5,7 @@ ghost use Rattle.hotel_http.specs.Status.{number_of, phrase_of};
 
 /// The status of an answer.
 #[derive(Clone, Copy, Debug, PartialEq, Eq)]
-pub enum Status {
+pub(crate) enum Status {
     Success,
     BadRequest,
     Forbidden,

@@ -4,7 +4,7 @@ ghost use Rattle.std.specs.Prelude.{◌≡◌, ◌≤◌, ◌+◌, true, length,
 ghost use Rattle.hotel_asks.specs.declared.texts.TheConstants.{MOST_VALUES};
 ghost use Rattle.hotel_http.specs.declared.tasks.TheConstants.{MOST_PARTS};
 ghost use Rattle.hotel_http.specs.Tasks.{after_slash, before_slash, after_first, second_part, third_part, fields_of};
-ghost use Rattle.hotel_http.specs.Tasks.{parts_of, texts_of, ask_of_request, has_fields, task_in, reads_form};
+ghost use Rattle.hotel_http.specs.Tasks.{parts_of, value_texts, ask_of_request, has_fields, task_in, reads_form};
 
 use crate::form::{Form, read_form};
 use crate::routes::Target;
@@ -33,7 +33,7 @@ fn before_slash(path: &str) -> &str
     ensures { result.now ≡ before_slash path.now }
 {
     match path.split_once('/') {
-        Some((front, _)) => front,
+        Some((prefix, _)) => prefix,
         None => path,
     }
 }
@@ -95,8 +95,8 @@ fn parts_of<'p>(verb: Verb, path: &'p str) -> ValueTexts<'p>
 }
 
 /// The texts of a verb's values, from the path and the form. None where one is missing or stands twice.
-fn texts_of<'t>(verb: Verb, path: &'t str, form: &'t Form<'_>) -> Option<ValueTexts<'t>>
-    ensures { result ≡ texts_of verb path.now form.now }
+fn value_texts<'t>(verb: Verb, path: &'t str, form: &'t Form<'_>) -> Option<ValueTexts<'t>>
+    ensures { result ≡ value_texts verb path.now form.now }
 {
     let mut texts = parts_of(verb, path);
     for name in fields_of(verb) {
@@ -119,7 +119,7 @@ fn ask_by_verb(
         return accept_ask(alloc, verb, &parts_of(verb, path));
     }
     let form = read_form(alloc, body)?;
-    match texts_of(verb, path, &form) {
+    match value_texts(verb, path, &form) {
         Some(texts) => accept_ask(alloc, verb, &texts),
         None => Ok(None),
     }

@@ -11,17 +11,18 @@ use Rattle.std.specs.Io.KnownBytes.{Appends}
 use Rattle.std.proofs.KnownBytes.{Appends-trans, Appends-kept}
 use Rattle.hotel_core.specs.declared.books.walks.WalkFault.{WalkFault}
 use Rattle.hotel_core.specs.declared.books.walks.WalkFault.TheVariants as walk
-use Rattle.hotel_lists.specs.{Bytes.AppendsFront, LineSink.SameEnds, LineSink.Gathers, LineSink.StopsAtWrite}
+use Rattle.hotel_streams.specs.Bytes.{AppendsPrefix}
+use Rattle.hotel_lists.specs.{LineSink.SameEnds, LineSink.Gathers, LineSink.StopsAtWrite}
 use Rattle.hotel_lists.specs.{LineSink.Finishes, declared.line_sink.LineSink.LineSink}
 use Rattle.hotel_lists.specs.RowLines.{ListTold, StopsAtLine, list_result}
 use Rattle.hotel_lists.specs.declared.fault.ListFault.{ListFault}
-use Rattle.hotel_lists.specs.{Listings.IsListFront, Listings.ListEnds, Listings.listing}
+use Rattle.hotel_lists.specs.{Listings.IsListPrefix, Listings.ListEnds, Listings.listing}
 use Rattle.hotel_lists.specs.declared.fault.ListFault.TheVariants as fault
-use Rattle.hotel_lists.proofs.{BytesLemmas.front_next, CallsLemmas.none_forgotten, CallsLemmas.then_none_forgotten}
+use Rattle.hotel_streams.proofs.{BytesLemmas.prefix_next, CallsLemmas.none_forgotten, CallsLemmas.then_none_forgotten}
 
 -- a prefix of the first of two texts is a prefix of both
-pub front_of_first : (a b : Option (List ℕ)) (bs cs : List ℕ) → AppendsFront a b bs → AppendsFront a b (bs ++ cs)
-front_of_first a b bs cs (n, within, h) =
+pub prefix_of_first : (a b : Option (List ℕ)) (bs cs : List ℕ) → AppendsPrefix a b bs → AppendsPrefix a b (bs ++ cs)
+prefix_of_first a b bs cs (n, within, h) =
     (n, simp length-append (omega arith), subst (Appends a b) (sym (take-append-le n bs cs within)) h)
 
 -- a sink that stopped, and not for lack of memory
@@ -93,13 +94,13 @@ module _ {R : Type 0} (line : R → List ℕ) (old new : Option (List ℕ)) (hea
   whole_ends : Appends old new (list_text header line rows) → Ends (Ok tt)
   whole_ends written = (refl, subst (Appends old new) (lines_text header line rows) written)
 
-  pub cut_ends : AppendsFront old new (header ++ concat (map line rows)) → Ends (Err fault.Write)
-  cut_ends front = ((λ none. cc none), front)
+  pub cut_ends : AppendsPrefix old new (header ++ concat (map line rows)) → Ends (Err fault.Write)
+  cut_ends prefix = ((λ none. cc none), prefix)
 
   -- whole lines of it
-  front_ends : (sent rest : List R) → rows ≡ sent ++ rest → Appends old new (list_text header line sent)
-      → (front : List ℕ) × IsListFront (Some (listing header line rows)) front × Appends old new front
-  front_ends sent rest e written = (
+  prefix_ends : (sent rest : List R) → rows ≡ sent ++ rest → Appends old new (list_text header line sent)
+      → (prefix : List ℕ) × IsListPrefix (Some (listing header line rows)) prefix × Appends old new prefix
+  prefix_ends sent rest e written = (
     header ++ concat (map line sent),
     inr (map line sent, map line rest, ap (map line) e ∙ map-append line sent rest, refl),
     subst (Appends old new) (lines_text header line sent) written,
@@ -215,10 +216,10 @@ module _ {W R : Type 0} (contents : W → Option (List ℕ)) (line : R → List 
       ap (λ l. list_text header line l) e ∙ sym (text_of_both header (sent ++ more) rest)
       ∙ ap (λ l. l ++ flat_map line rest) (sym (text_of_both header sent more))
       ∙ ap (λ l. (list_text header line sent ++ l) ++ flat_map line rest) (sym same) in
-      cut_ends line w new header rows (subst (AppendsFront w new) (sym whole ∙ lines_text header line rows)
-      (front_next w old new (list_text header line sent) bytes (flat_map line rest) first stop))
+      cut_ends line w new header rows (subst (AppendsPrefix w new) (sym whole ∙ lines_text header line rows)
+      (prefix_next w old new (list_text header line sent) bytes (flat_map line rest) first stop))
   stopped false w old new header rows sent more rest bytes e same first stop =
-      front_ends line w new header rows sent (more ++ rest) (e ∙ append_assoc sent more rest)
+      prefix_ends line w new header rows sent (more ++ rest) (e ∙ append_assoc sent more rest)
       (Appends-kept w old new _ first stop)
 
   -- the rest of the rows wasn't written, or the rest of them was
@@ -232,11 +233,12 @@ module _ {W R : Type 0} (contents : W → Option (List ℕ)) (line : R → List 
   -- what was gathered before the walk failed isn't written
   walk_failed : (w : Option (List ℕ)) (header : List ℕ) (rows taken rest : List R) (b c : LineSink W)
       → rows ≡ taken ++ rest → Stands w header taken b → c ≡ b
-      → (front : List ℕ) × IsListFront (Some (listing header line rows)) front × Appends w (contents c.writer.now) front
+      → (prefix : List ℕ) × IsListPrefix (Some (listing header line rows)) prefix
+      × Appends w (contents c.writer.now) prefix
   walk_failed w header rows taken rest b c e (sent, held, all, written, gathered) same =
-      subst (λ (s : LineSink W). (front : List ℕ) × IsListFront (Some (listing header line rows)) front
-      × Appends w (contents s.writer.now) front) (sym same)
-      (front_ends line w (contents b.writer.now) header rows sent (held ++ rest)
+      subst (λ (s : LineSink W). (prefix : List ℕ) × IsListPrefix (Some (listing header line rows)) prefix
+      × Appends w (contents s.writer.now) prefix) (sym same)
+      (prefix_ends line w (contents b.writer.now) header rows sent (held ++ rest)
       (e ∙ ap (λ l. l ++ rest) all ∙ append_assoc sent held rest) written)
 
   rest_written : (w : Option (List ℕ)) (header : List ℕ) (rows : List R) (b c : LineSink W)

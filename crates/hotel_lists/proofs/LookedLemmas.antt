@@ -13,7 +13,8 @@ use Rattle.keycard_rules.specs.{Calls.Passes, declared.card.Card.Card}
 use Rattle.keycard_rules.proofs.CallsTogether.{passes_join, together}
 use Rattle.hotel_nights.specs.{Moments.Moment, Moments.moment_of, declared.stay.Stay.Stay}
 use Rattle.hotel_model.specs.declared.rows.RoomRow.{RoomRow}
-use Rattle.hotel_model.proofs.Names.{Rows, card_at, cons_option, nat_tests, note_at, room_at, said_of, stay_at, values_of}
+use Rattle.hotel_model.proofs.Names.{Rows, card_at, cons_option, nat_tests, note_at, room_at, said_of, stay_at}
+use Rattle.hotel_model.proofs.Names.{values_of}
 use Rattle.hotel_model.proofs.{OfTables.Tests.and_true, OfTables.Tests.le_from}
 use Rattle.hotel_model.specs.declared.list_rows.StatusRow.{StatusRow}
 use Rattle.hotel_model.specs.Refinement.ListsOnRows.{room_status_on, status_row_on}
@@ -23,10 +24,13 @@ use Rattle.hotel_core.specs.declared.books.walks.WalkFault.TheVariants as walk
 use Rattle.hotel_lists.specs.{Faults.list_fault, RowLines.LooksAt, RowLines.list_result}
 use Rattle.hotel_lists.specs.declared.fault.ListFault.{ListFault}
 use Rattle.hotel_lists.specs.declared.fault.ListFault.TheVariants as fault
-use Rattle.hotel_lists.specs.declared.looked_rows.LockRow.{LockRow}
-use Rattle.hotel_lists.specs.{LookedLists.FindsRows, LookedLists.one_or_none, LookedRows.card_on, LookedRows.card_row}
-use Rattle.hotel_lists.specs.LookedRows.{counted_note, is_count, lock_at, lock_row_by, lock_row_on, room_numbers}
-use Rattle.hotel_lists.proofs.CallsLemmas.{told_both}
+use Rattle.hotel_model.specs.declared.list_rows.LockRow.{LockRow}
+use Rattle.hotel_lists.specs.{LookedLists.FindsRows, LookedLists.one_or_none}
+use Rattle.hotel_model.specs.Refinement.ListsOnRows.{card_rows_on}
+use Rattle.hotel_model.specs.Lists.{card_row}
+use Rattle.hotel_model.specs.Refinement.ListsOnRows.{counted_note, is_count, lock_at, lock_row_by, lock_row_on}
+use Rattle.hotel_model.specs.Refinement.ListsOnRows.{room_numbers}
+use Rattle.hotel_lists.proofs.ToldLemmas.{told_both}
 
 -- what is looked at behind look-ups that were answered
 pub looks_next : {B : Type 0} (K : KeptOf B) {a b c : B} (end : Result (Unit {0}) ListFault)
@@ -133,19 +137,19 @@ same_option (Some x) (Some y) e = cc e
 
 -- ---- a card
 
-pub no_card : (rows : Rows) (number : ℕ) → card_at rows number ≡ None → [] ≡ card_on rows number
+pub no_card : (rows : Rows) (number : ℕ) → card_at rows number ≡ None → [] ≡ card_rows_on rows number
 no_card rows number e = ap (λ (o : Option Card). said_of o [] (λ card. said_of (stay_at rows card.party) []
     (λ stay. card_row card stay ∷ []))) (sym e)
 
 pub no_stay : (rows : Rows) (number : ℕ) (card : Card) → card_at rows number ≡ Some card
-    → stay_at rows card.party ≡ None → [] ≡ card_on rows number
+    → stay_at rows card.party ≡ None → [] ≡ card_rows_on rows number
 no_stay rows number card e f =
     ap (λ (o : Option Stay). said_of o [] (λ stay. card_row card stay ∷ [])) (sym f)
     ∙ ap (λ (o : Option Card). said_of o [] (λ card. said_of (stay_at rows card.party) []
     (λ stay. card_row card stay ∷ []))) (sym e)
 
 pub card_there : (rows : Rows) (number : ℕ) (card : Card) (stay : Stay) → card_at rows number ≡ Some card
-    → stay_at rows card.party ≡ Some stay → card_row card stay ∷ [] ≡ card_on rows number
+    → stay_at rows card.party ≡ Some stay → card_row card stay ∷ [] ≡ card_rows_on rows number
 card_there rows number card stay e f =
     ap (λ (o : Option Stay). said_of o [] (λ stay. card_row card stay ∷ [])) (sym f)
     ∙ ap (λ (o : Option Card). said_of o [] (λ card. said_of (stay_at rows card.party) []
@@ -179,9 +183,11 @@ none_counted rows row n wrong =
 
 pub lock_there : (rows : Rows) (room : ℕ) (row : RoomRow) (n : ℕ) (at : Option Moment) → room_at rows room ≡ Some row
     → n ≡ row.notes - row.before → at ≡ option_map moment_of (counted_note rows row n)
-    → ◌≡◌ {A = Option LockRow} (Some (record { room = row.room; fit = row.fit; count = n; at = at })) (lock_at rows room)
+    → ◌≡◌ {A = Option LockRow} (Some (record { room = row.room; fit = row.fit; count = n; at = at }))
+    (lock_at rows room)
 lock_there rows room row n at e same last =
-    ap (λ (o : Option Moment). let r : LockRow = record { room = row.room; fit = row.fit; count = n; at = o } in Some r) last
+    ap (λ (o : Option Moment). let r : LockRow = record { room = row.room; fit = row.fit; count = n; at = o } in Some r)
+    last
     ∙ ap (λ c. Some (lock_row_by rows row c)) same
     ∙ ap (option_map (lock_row_on rows)) (sym e)
 
@@ -218,7 +224,8 @@ one_more f rooms i d before now wanted o l same grown so_far =
     ap (λ rows. rows ++ rest) grown
     ∙ append_assoc before (one_or_none o) rest
     ∙ ap (λ rows. before ++ (rows ++ rest)) same
-    ∙ ap (λ rows. before ++ rows) (sym (ap (filter_map f) (drop_more rooms i d l) ∙ cons_is (f (get_or rooms i d)) rest))
+    ∙ ap (λ rows. before ++ rows)
+    (sym (ap (filter_map f) (drop_more rooms i d l) ∙ cons_is (f (get_or rooms i d)) rest))
     ∙ so_far
 
 -- ---- the numbers of the rooms

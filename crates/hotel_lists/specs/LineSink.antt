@@ -3,7 +3,8 @@ use Rattle.std.specs.Prelude.{◌≡◌, ℕ, ◌⊎◌, true, List, [], ◌++�
 use Rattle.std.specs.Io.KnownBytes.{Appends, Keeps}
 use Rattle.hotel_core.specs.declared.books.walks.WalkFault.{WalkFault}
 use Rattle.hotel_core.specs.declared.books.walks.WalkFault.TheVariants as walk
-use Rattle.hotel_lists.specs.{Calls.NoneForgotten, RowLines.StopsAtLine, declared.line_sink.LineSink.LineSink}
+use Rattle.hotel_streams.specs.Calls.{NoneForgotten}
+use Rattle.hotel_lists.specs.{RowLines.StopsAtLine, declared.line_sink.LineSink.LineSink}
 
 -- It has the same writer and the same calls, of which none was forgotten.
 pub record SameEnds {W : Type 0} (old new : LineSink W) : Type 0 where

@@ -3,17 +3,21 @@ use Rattle.std.specs.Prelude.{◌≡◌, ◌≢◌, ◌⊎◌, ℕ, Bool, true, 
 use Rattle.std.specs.Prelude.{Result, Ok, Err}
 use Rattle.std.specs.List.{concat}
 use Rattle.std.specs.Io.KnownBytes.{Appends}
+use Rattle.keycard_rules.specs.{declared.kept.Kept.Ghosts as KeptOf}
 use Rattle.hotel_model.specs.{Rows.Rows, Rows.notes_at, Refinement.Lookups.room_at}
 use Rattle.hotel_model.specs.Refinement.ListsOnRows.{arrivals_on, in_house_on, chain_on, left_behind_on}
 use Rattle.hotel_model.specs.Refinement.ListsOnRows.{business_day_on, room_status_on, cards_inside_on, bookings_on}
 use Rattle.hotel_model.specs.Refinement.ListsOnRows.{availability_on, cards_given_on}
-use Rattle.hotel_lists.specs.{Bytes.AppendsFront, declared.fault.ListFault.ListFault}
+use Rattle.hotel_streams.specs.Bytes.{AppendsPrefix}
+use Rattle.hotel_lists.specs.declared.fault.ListFault.{ListFault}
+use Rattle.hotel_lists.specs.RowLines.{LooksAt}
 use Rattle.hotel_lists.specs.RowLines.{arrivals_header, in_house_header, chain_header, left_behind_header, audit_header}
 use Rattle.hotel_lists.specs.RowLines.{day_header, status_header, inside_header, free_header}
 use Rattle.hotel_lists.specs.RowLines.{arrival_line, house_line, chain_line, behind_line, note_line}
 use Rattle.hotel_lists.specs.RowLines.{day_line, status_line, inside_line, free_line, card_line, lock_line}
 use Rattle.hotel_lists.specs.RowLines.{given_header, given_line}
-use Rattle.hotel_lists.specs.{RowLines.card_header, RowLines.locks_header, LookedRows.card_on, LookedRows.locks_on}
+use Rattle.hotel_lists.specs.{RowLines.card_header, RowLines.locks_header}
+use Rattle.hotel_model.specs.Refinement.ListsOnRows.{card_rows_on, locks_on}
 use Rattle.hotel_lists.specs.declared.fault.ListFault.TheVariants as fault
 
 -- A list's header and its lines.
@@ -67,7 +71,7 @@ abbrev pub given_listing : Rows → ℕ → Option Listing
 given_listing rows party = Some (listing given_header given_line (cards_given_on rows party))
 
 abbrev pub card_listing : Rows → ℕ → Option Listing
-card_listing rows number = Some (listing card_header card_line (card_on rows number))
+card_listing rows number = Some (listing card_header card_line (card_rows_on rows number))
 
 abbrev pub locks_listing : Rows → Option Listing
 locks_listing rows = Some (listing locks_header lock_line (locks_on rows))
@@ -78,20 +82,33 @@ in_full no_room None = no_room
 in_full no_room (Some listing) = listing.header ++ concat listing.lines
 
 -- The header of a list and some whole lines from the first on; or nothing.
-abbrev pub IsListFront : Option Listing → List ℕ → Type 0
-IsListFront None text = text ≡ []
-IsListFront (Some listing) text = (text ≡ []) ⊎ ((taken : List (List ℕ)) × (rest : List (List ℕ))
+abbrev pub IsListPrefix : Option Listing → List ℕ → Type 0
+IsListPrefix None text = text ≡ []
+IsListPrefix (Some listing) text = (text ≡ []) ⊎ ((taken : List (List ℕ)) × (rest : List (List ℕ))
     × (listing.lines ≡ taken ++ rest) × (text ≡ listing.header ++ concat taken))
 
--- What a writer took of a list that ended so, where this is said if its room isn't there: all; a front after a write of
--- it failed, if there was anything to write; whole lines where memory or the store failed.
+-- What a writer took of a list that ended so, where this is said if its room isn't there: all; a prefix after a write
+-- of it failed, if there was anything to write; whole lines where memory or the store failed.
 abbrev pub ListEnds : List ℕ → Option Listing → Option (List ℕ) → Option (List ℕ) → Result (Unit {0}) ListFault → Type 0
 ListEnds no_room listing old new (Ok done) = (is_some listing ≡ true) × Appends old new (in_full no_room listing)
 ListEnds no_room listing old new (Err fault.NoRoom) =
     (is_some listing ≡ false) × Appends old new (in_full no_room listing)
 ListEnds no_room listing old new (Err fault.Write) =
-    (is_some listing ≡ false → no_room ≢ []) × AppendsFront old new (in_full no_room listing)
+    (is_some listing ≡ false → no_room ≢ []) × AppendsPrefix old new (in_full no_room listing)
 ListEnds no_room listing old new (Err fault.Memory) =
-    (front : List ℕ) × IsListFront listing front × Appends old new front
+    (prefix : List ℕ) × IsListPrefix listing prefix × Appends old new prefix
 ListEnds no_room listing old new (Err fault.Store) =
-    (front : List ℕ) × IsListFront listing front × Appends old new front
+    (prefix : List ℕ) × IsListPrefix listing prefix × Appends old new prefix
+
+-- A list of a room was written of books from old to new: what the writer had taken before it, and what it has behind
+-- it.
+pub record WritesRoomList {B : Type 0} (K : KeptOf B) (its_listing : Option Listing) (old new : B)
+    (had has : Option (List ℕ)) (result : Result (Unit {0}) ListFault) : Type 0 where
+  pub text : K.is_honest new → ListEnds [] its_listing had has result
+  pub books : LooksAt K old new result
+
+-- The same of a list that needs no room.
+pub record WritesList {B : Type 0} (K : KeptOf B) (its_listing : Option Listing) (old new : B)
+    (had has : Option (List ℕ)) (result : Result (Unit {0}) ListFault) : Type 0 where
+  pub written : WritesRoomList K its_listing old new had has result
+  pub no_room : result ≡ Err fault.NoRoom → ⊥

@@ -18,8 +18,8 @@ abbrev pub end_of : {A : Type 0} → Result A ListFault → Result (Unit {0}) Li
 end_of (Ok found) = Ok tt
 end_of (Err why) = Err why
 
--- Rows were looked up in books from old to new, before a header or a line was written: where the books are honest at the
--- end, they are the rows that are wanted.
+-- Rows were looked up in books from old to new, before a header or a line was written: where the books are honest at
+-- the end, they are the rows that are wanted.
 pub record FindsRows {B A R : Type 0} (K : KeptOf B) (said : A → List R) (wanted : List R) (old new : B)
     (result : Result A ListFault) : Type 0 where
   pub rows : K.is_honest new → IfOk result (λ found. said found ≡ wanted)

@@ -20,8 +20,10 @@ use Rattle.hotel_model.specs.{declared.list_rows.FreeRow.FreeRow}
 use Rattle.hotel_core.specs.declared.books.walks.WalkFault.{WalkFault}
 use Rattle.hotel_model.specs.declared.list_rows.CodeState.TheVariants as state
 use Rattle.hotel_core.specs.declared.books.walks.WalkFault.TheVariants as walk
-use Rattle.hotel_lists.specs.{Bytes.AppendsFront, declared.fault.ListFault.ListFault}
-use Rattle.hotel_lists.specs.{declared.looked_rows.CardRow.CardRow, declared.looked_rows.LockRow.LockRow}
+use Rattle.hotel_streams.specs.Bytes.{AppendsPrefix}
+use Rattle.hotel_lists.specs.declared.fault.ListFault.{ListFault}
+use Rattle.hotel_model.specs.declared.list_rows.CardRow.{CardRow}
+use Rattle.hotel_model.specs.declared.list_rows.LockRow.{LockRow}
 use Rattle.hotel_lists.specs.declared.fault.ListFault.TheVariants as fault
 
 -- the line of these fields
@@ -145,7 +147,7 @@ locks_header = codes "room,fit,count,at\n"
 
 -- A writer stopped at a line: it took a prefix of it where the write failed, and nothing of it otherwise.
 abbrev pub StopsAtLine : Bool → Option (List ℕ) → Option (List ℕ) → List ℕ → Type 0
-StopsAtLine true old new line = AppendsFront old new line
+StopsAtLine true old new line = AppendsPrefix old new line
 StopsAtLine false old new line = Keeps old new
 
 -- how a list ended, where its walk ended so, and the sink stopped for a failed write or not

@@ -1,11 +1,11 @@
 //! Why a list was not written whole.
 ghost use Rattle.std.specs.Prelude.{◌≡◌, Some};
 ghost use Rattle.hotel_lists.specs.{Faults.fault_text, Faults.told_refusal};
-ghost use Rattle.hotel_lists.specs.{declared.fault.ListFault.TheVariants.Write};
-ghost use Rattle.hotel_lists.specs.{Faults.list_fault};
+ghost use Rattle.hotel_lists.specs.declared.fault.ListFault.TheVariants.{Write};
+ghost use Rattle.hotel_lists.specs.Faults.{list_fault};
 
-use crate::calls::WriteFailed;
 use hotel_core::Refusal;
+use hotel_streams::WriteFailed;
 use keycard_rules::LookFault;
 use std::error::Error;
 use std::fmt;

@@ -4,12 +4,11 @@ ghost use Rattle.hotel_core.specs.{Books.Walks.Hands, Books.Walks.failure_of};
 ghost use Rattle.std.specs.Io.KnownBytes.{Appends};
 ghost use Rattle.hotel_lists.specs.{LineSink.SameEnds, LineSink.StopsAtWrite, LineSink.Finishes, RowLines.list_result};
 
-use crate::bytes::write_bytes;
-use crate::calls::IoCalls;
 use crate::fault::ListFault;
 use crate::gathered::Gathered;
 use crate::row_lines::RowLine;
 use hotel_core::{Sink, Stop, WalkFault};
+use hotel_streams::{IoCalls, write_bytes};
 use std::io::Write;
 
 /// Writes the line of each row that it takes. Lines are gathered in memory first, and many of them are written at once.

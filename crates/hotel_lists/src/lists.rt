@@ -1,13 +1,9 @@
 //! The lists as text: a header, and a line for each row.
-ghost use Rattle.std.specs.Prelude.{◌≡◌, [], Err};
-ghost use Rattle.hotel_lists.specs.Listings.{ListEnds, arrivals_listing, in_house_listing, chain_listing};
-ghost use Rattle.hotel_lists.specs.{Listings.left_behind_listing, Listings.audit_listing, RowLines.LooksAt};
-ghost use Rattle.hotel_lists.specs.Listings.{business_day_listing, room_status_listing, inside_listing};
-ghost use Rattle.hotel_lists.specs.Listings.{bookings_listing, availability_listing, card_listing, locks_listing};
-ghost use Rattle.hotel_lists.specs.Listings.{given_listing};
-ghost use Rattle.hotel_lists.specs.declared.fault.ListFault.TheVariants.{NoRoom};
+ghost use Rattle.hotel_lists.specs.Listings.{WritesList, WritesRoomList, arrivals_listing, audit_listing};
+ghost use Rattle.hotel_lists.specs.Listings.{availability_listing, bookings_listing, business_day_listing};
+ghost use Rattle.hotel_lists.specs.Listings.{card_listing, chain_listing, given_listing, in_house_listing};
+ghost use Rattle.hotel_lists.specs.Listings.{inside_listing, left_behind_listing, locks_listing, room_status_listing};
 
-use crate::calls::IoCalls;
 use crate::fault::ListFault;
 use crate::write_lists::{
     write_arrivals, write_audit_of, write_availability, write_bookings, write_business_day,
@@ -16,6 +12,7 @@ use crate::write_lists::{
 };
 use hotel_core::Walks;
 use hotel_nights::{Day, Nights};
+use hotel_streams::IoCalls;
 use keycard_rules::{CardNo, PartyNo, RoomNo};
 use std::alloc::Global;
 use std::io::Write;
@@ -27,10 +24,8 @@ pub fn arrivals<B: Walks, W: Write>(
     day: Day,
     writer: &mut W,
 ) -> Result<(), ListFault>
-    ensures text { B.is_honest books.new → ListEnds [] (arrivals_listing (B.rows books.old) day) (W.contents writer.old)
-        (W.contents writer.new) result }
-    ensures no_room { result ≡ Err NoRoom → ⊥ }
-    ensures books { LooksAt B.Kept books.old books.new result }
+    ensures list { WritesList B.Kept (arrivals_listing (B.rows books.old) day) books.old books.new
+        (W.contents writer.old) (W.contents writer.new) result }
 {
     write_arrivals(alloc, books, day, writer, &mut IoCalls::none())
 }
@@ -41,10 +36,8 @@ pub fn in_house<B: Walks, W: Write>(
     books: &mut B,
     writer: &mut W,
 ) -> Result<(), ListFault>
-    ensures text { B.is_honest books.new → ListEnds [] (in_house_listing (B.rows books.old)) (W.contents writer.old)
-        (W.contents writer.new) result }
-    ensures no_room { result ≡ Err NoRoom → ⊥ }
-    ensures books { LooksAt B.Kept books.old books.new result }
+    ensures list { WritesList B.Kept (in_house_listing (B.rows books.old)) books.old books.new
+        (W.contents writer.old) (W.contents writer.new) result }
 {
     write_in_house(alloc, books, writer, &mut IoCalls::none())
 }
@@ -56,9 +49,8 @@ pub fn chain_of<B: Walks, W: Write>(
     room: RoomNo,
     writer: &mut W,
 ) -> Result<(), ListFault>
-    ensures text { B.is_honest books.new → ListEnds [] (chain_listing (B.rows books.old) room) (W.contents writer.old)
-        (W.contents writer.new) result }
-    ensures books { LooksAt B.Kept books.old books.new result }
+    ensures list { WritesRoomList B.Kept (chain_listing (B.rows books.old) room) books.old books.new
+        (W.contents writer.old) (W.contents writer.new) result }
 {
     write_chain_of(alloc, books, room, writer, &mut IoCalls::none())
 }
@@ -69,10 +61,8 @@ pub fn left_behind<B: Walks, W: Write>(
     books: &mut B,
     writer: &mut W,
 ) -> Result<(), ListFault>
-    ensures text { B.is_honest books.new → ListEnds [] (left_behind_listing (B.rows books.old)) (W.contents writer.old)
-        (W.contents writer.new) result }
-    ensures no_room { result ≡ Err NoRoom → ⊥ }
-    ensures books { LooksAt B.Kept books.old books.new result }
+    ensures list { WritesList B.Kept (left_behind_listing (B.rows books.old)) books.old books.new
+        (W.contents writer.old) (W.contents writer.new) result }
 {
     write_left_behind(alloc, books, writer, &mut IoCalls::none())
 }
@@ -84,9 +74,8 @@ pub fn audit_of<B: Walks, W: Write>(
     room: RoomNo,
     writer: &mut W,
 ) -> Result<(), ListFault>
-    ensures text { B.is_honest books.new → ListEnds [] (audit_listing (B.rows books.old) room) (W.contents writer.old)
-        (W.contents writer.new) result }
-    ensures books { LooksAt B.Kept books.old books.new result }
+    ensures list { WritesRoomList B.Kept (audit_listing (B.rows books.old) room) books.old books.new
+        (W.contents writer.old) (W.contents writer.new) result }
 {
     write_audit_of(alloc, books, room, writer, &mut IoCalls::none())
 }
@@ -97,10 +86,8 @@ pub fn business_day<B: Walks, W: Write>(
     books: &mut B,
     writer: &mut W,
 ) -> Result<(), ListFault>
-    ensures text { B.is_honest books.new → ListEnds [] (business_day_listing (B.rows books.old)) (W.contents writer.old)
-        (W.contents writer.new) result }
-    ensures no_room { result ≡ Err NoRoom → ⊥ }
-    ensures books { LooksAt B.Kept books.old books.new result }
+    ensures list { WritesList B.Kept (business_day_listing (B.rows books.old)) books.old books.new
+        (W.contents writer.old) (W.contents writer.new) result }
 {
     write_business_day(alloc, books, writer, &mut IoCalls::none())
 }
@@ -112,10 +99,8 @@ pub fn room_status<B: Walks, W: Write>(
     books: &mut B,
     writer: &mut W,
 ) -> Result<(), ListFault>
-    ensures text { B.is_honest books.new → ListEnds [] (room_status_listing (B.rows books.old)) (W.contents writer.old)
-        (W.contents writer.new) result }
-    ensures no_room { result ≡ Err NoRoom → ⊥ }
-    ensures books { LooksAt B.Kept books.old books.new result }
+    ensures list { WritesList B.Kept (room_status_listing (B.rows books.old)) books.old books.new
+        (W.contents writer.old) (W.contents writer.new) result }
 {
     write_room_status(alloc, books, writer, &mut IoCalls::none())
 }
@@ -126,10 +111,8 @@ pub fn inside<B: Walks, W: Write>(
     books: &mut B,
     writer: &mut W,
 ) -> Result<(), ListFault>
-    ensures text { B.is_honest books.new → ListEnds [] (inside_listing (B.rows books.old)) (W.contents writer.old)
-        (W.contents writer.new) result }
-    ensures no_room { result ≡ Err NoRoom → ⊥ }
-    ensures books { LooksAt B.Kept books.old books.new result }
+    ensures list { WritesList B.Kept (inside_listing (B.rows books.old)) books.old books.new
+        (W.contents writer.old) (W.contents writer.new) result }
 {
     write_inside(alloc, books, writer, &mut IoCalls::none())
 }
@@ -140,10 +123,8 @@ pub fn bookings<B: Walks, W: Write>(
     books: &mut B,
     writer: &mut W,
 ) -> Result<(), ListFault>
-    ensures text { B.is_honest books.new → ListEnds [] (bookings_listing (B.rows books.old)) (W.contents writer.old)
-        (W.contents writer.new) result }
-    ensures no_room { result ≡ Err NoRoom → ⊥ }
-    ensures books { LooksAt B.Kept books.old books.new result }
+    ensures list { WritesList B.Kept (bookings_listing (B.rows books.old)) books.old books.new
+        (W.contents writer.old) (W.contents writer.new) result }
 {
     write_bookings(alloc, books, writer, &mut IoCalls::none())
 }
@@ -157,10 +138,8 @@ pub fn availability<B: Walks, W: Write>(
     nights: Nights,
     writer: &mut W,
 ) -> Result<(), ListFault>
-    ensures text { B.is_honest books.new → ListEnds [] (availability_listing (B.rows books.old) day nights)
+    ensures list { WritesList B.Kept (availability_listing (B.rows books.old) day nights) books.old books.new
         (W.contents writer.old) (W.contents writer.new) result }
-    ensures no_room { result ≡ Err NoRoom → ⊥ }
-    ensures books { LooksAt B.Kept books.old books.new result }
 {
     write_availability(alloc, books, day, nights, writer, &mut IoCalls::none())
 }
@@ -172,10 +151,8 @@ pub fn cards_given<B: Walks, W: Write>(
     party: PartyNo,
     writer: &mut W,
 ) -> Result<(), ListFault>
-    ensures text { B.is_honest books.new → ListEnds [] (given_listing (B.rows books.old) party) (W.contents writer.old)
-        (W.contents writer.new) result }
-    ensures no_room { result ≡ Err NoRoom → ⊥ }
-    ensures books { LooksAt B.Kept books.old books.new result }
+    ensures list { WritesList B.Kept (given_listing (B.rows books.old) party) books.old books.new
+        (W.contents writer.old) (W.contents writer.new) result }
 {
     write_cards_given(alloc, books, party, writer, &mut IoCalls::none())
 }
@@ -187,10 +164,8 @@ pub fn card_of<B: Walks, W: Write>(
     number: CardNo,
     writer: &mut W,
 ) -> Result<(), ListFault>
-    ensures text { B.is_honest books.new → ListEnds [] (card_listing (B.rows books.old) number) (W.contents writer.old)
-        (W.contents writer.new) result }
-    ensures no_room { result ≡ Err NoRoom → ⊥ }
-    ensures books { LooksAt B.Kept books.old books.new result }
+    ensures list { WritesList B.Kept (card_listing (B.rows books.old) number) books.old books.new
+        (W.contents writer.old) (W.contents writer.new) result }
 {
     write_card_of(alloc, books, number, writer, &mut IoCalls::none())
 }
@@ -201,10 +176,8 @@ pub fn locks<B: Walks, W: Write>(
     books: &mut B,
     writer: &mut W,
 ) -> Result<(), ListFault>
-    ensures text { B.is_honest books.new → ListEnds [] (locks_listing (B.rows books.old)) (W.contents writer.old)
-        (W.contents writer.new) result }
-    ensures no_room { result ≡ Err NoRoom → ⊥ }
-    ensures books { LooksAt B.Kept books.old books.new result }
+    ensures list { WritesList B.Kept (locks_listing (B.rows books.old)) books.old books.new
+        (W.contents writer.old) (W.contents writer.new) result }
 {
     write_locks(alloc, books, writer, &mut IoCalls::none())
 }

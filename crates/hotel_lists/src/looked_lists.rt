@@ -3,12 +3,11 @@ ghost use Rattle.std.specs.Prelude.{option_map};
 ghost use Rattle.hotel_nights.specs.Moments.{moment_of};
 ghost use Rattle.hotel_model.specs.Refinement.Lookups.{note_at};
 ghost use Rattle.hotel_lists.specs.LookedLists.{FindsRows, one_or_none};
-ghost use Rattle.hotel_lists.specs.LookedRows.{card_on, lock_at, locks_on, room_numbers};
+ghost use Rattle.hotel_model.specs.Refinement.ListsOnRows.{card_rows_on, lock_at, locks_on, room_numbers};
 
 use crate::fault::ListFault;
 use crate::line_sink::listed;
-use crate::looked_rows::{CardRow, LockRow};
-use hotel_core::{Books, RoomRow, Sink, StatusRow, Stop, Walks};
+use hotel_core::{Books, CardRow, LockRow, RoomRow, Sink, StatusRow, Stop, Walks};
 use hotel_nights::Moment;
 use keycard_rules::{CardNo, Count, RoomNo};
 use std::alloc::Global;
@@ -40,7 +39,8 @@ pub(crate) fn find_card<B: Books>(
     books: &mut B,
     number: CardNo,
 ) -> Result<Vec<CardRow>, ListFault>
-    ensures { FindsRows B.Kept (λ cards. cards.items) (card_on (B.rows books.old) number) books.old books.new result }
+    ensures { FindsRows B.Kept (λ cards. cards.items) (card_rows_on (B.rows books.old) number) books.old books.new
+        result }
 {
     let mut cards = Vec::new(alloc);
     let Some(card) = books.card(number)? else {

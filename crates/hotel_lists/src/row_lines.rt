@@ -9,8 +9,9 @@ ghost use Rattle.hotel_lists.specs.RowLines.{given_line};
 ghost use Rattle.hotel_lists.specs.RowLines.{yes_or_no, state_text, party_field};
 
 use crate::gathered::Gathered;
-use crate::looked_rows::{CardRow, LockRow};
-use hotel_core::{BehindRow, ChainRow, CodeState, FreeRow, HouseRow, InsideRow, StatusRow};
+use hotel_core::{
+    BehindRow, CardRow, ChainRow, CodeState, FreeRow, HouseRow, InsideRow, LockRow, StatusRow,
+};
 use hotel_nights::{Day, Moment, Stay};
 use keycard_rules::{Act, Card, Code, LockNote, Memory, PartyNo};
 

@@ -1,17 +1,16 @@
 //! The lists as text, within a call whose reads and writes are counted. The writes of a list are added to them.
 ghost use Rattle.std.specs.Prelude.{◌≡◌, [], Some, is_some, Err};
 ghost use Rattle.hotel_model.specs.Refinement.Lookups.{room_at};
-ghost use Rattle.hotel_lists.specs.Calls.{CountsWrites, OnErrOf};
+ghost use Rattle.hotel_streams.specs.Calls.{CountsWrites, OnErrOf};
 ghost use Rattle.hotel_lists.specs.declared.fault.ListFault.TheVariants.{NoRoom, Write};
-ghost use Rattle.hotel_lists.specs.Listings.{ListEnds, listing, of_room, arrivals_listing, in_house_listing};
+ghost use Rattle.hotel_lists.specs.Listings.{ListEnds, WritesList, WritesRoomList, listing, of_room};
+ghost use Rattle.hotel_lists.specs.Listings.{arrivals_listing, in_house_listing};
 ghost use Rattle.hotel_lists.specs.Listings.{chain_listing, left_behind_listing, audit_listing};
 ghost use Rattle.hotel_lists.specs.Listings.{business_day_listing, room_status_listing, inside_listing};
 ghost use Rattle.hotel_lists.specs.Listings.{bookings_listing, availability_listing};
 ghost use Rattle.hotel_lists.specs.Listings.{given_listing, card_listing, locks_listing};
 ghost use Rattle.hotel_lists.specs.{RowLines.LooksAt, RowLines.FindsRoom, LookedLists.IsAfterLookUps};
 
-use crate::bytes::write_bytes;
-use crate::calls::IoCalls;
 use crate::fault::ListFault;
 use crate::gathered::Gathered;
 use crate::line_sink::{LineSink, hand_rows, listed};
@@ -23,6 +22,7 @@ use crate::walked_lists::{
 };
 use hotel_core::Walks;
 use hotel_nights::{Day, Nights};
+use hotel_streams::{IoCalls, write_bytes};
 use keycard_rules::{CardNo, PartyNo, RoomNo};
 use std::alloc::Global;
 use std::io::Write;
@@ -73,11 +73,9 @@ fn write_rows<B: Walks, L: WalkedList<B>, W: Write>(
     writer: &mut W,
     calls: &mut IoCalls,
 ) -> Result<(), ListFault>
-    ensures text { B.is_honest books.new → ListEnds [] (Some
-        (listing header.now L.Row.line (L.rows list.now (B.rows books.old)))) (W.contents writer.old)
-        (W.contents writer.new) result }
-    ensures no_room { result ≡ Err NoRoom → ⊥ }
-    ensures books { LooksAt B.Kept books.old books.new result }
+    ensures list { WritesList B.Kept (Some (listing header.now L.Row.line (L.rows list.now (B.rows books.old))))
+        books.old books.new
+        (W.contents writer.old) (W.contents writer.new) result }
     ensures calls { CountsWrites calls.old calls.new (OnErrOf result Write) }
 {
     write_bytes(writer, header, calls)?;
@@ -98,10 +96,9 @@ fn write_room_rows<B: Walks, L: WalkedList<B>, W: Write>(
     writer: &mut W,
     calls: &mut IoCalls,
 ) -> Result<(), ListFault>
-    ensures text { B.is_honest books.new → ListEnds [] (of_room (is_some (room_at (B.rows books.old) room))
-        (listing header.now L.Row.line (L.rows list.now (B.rows books.old)))) (W.contents writer.old)
-        (W.contents writer.new) result }
-    ensures books { LooksAt B.Kept books.old books.new result }
+    ensures list { WritesRoomList B.Kept (of_room (is_some (room_at (B.rows books.old) room)) (listing header.now
+        L.Row.line (L.rows list.now (B.rows books.old)))) books.old books.new
+        (W.contents writer.old) (W.contents writer.new) result }
     ensures calls { CountsWrites calls.old calls.new (OnErrOf result Write) }
 {
     find_room(books, room)?;
@@ -137,10 +134,8 @@ pub fn write_arrivals<B: Walks, W: Write>(
     writer: &mut W,
     calls: &mut IoCalls,
 ) -> Result<(), ListFault>
-    ensures text { B.is_honest books.new → ListEnds [] (arrivals_listing (B.rows books.old) day) (W.contents writer.old)
-        (W.contents writer.new) result }
-    ensures no_room { result ≡ Err NoRoom → ⊥ }
-    ensures books { LooksAt B.Kept books.old books.new result }
+    ensures list { WritesList B.Kept (arrivals_listing (B.rows books.old) day) books.old books.new
+        (W.contents writer.old) (W.contents writer.new) result }
     ensures calls { CountsWrites calls.old calls.new (OnErrOf result Write) }
 {
     write_rows(alloc, books, &Arrivals(day), ARRIVALS, writer, calls)
@@ -153,10 +148,8 @@ pub fn write_in_house<B: Walks, W: Write>(
     writer: &mut W,
     calls: &mut IoCalls,
 ) -> Result<(), ListFault>
-    ensures text { B.is_honest books.new → ListEnds [] (in_house_listing (B.rows books.old)) (W.contents writer.old)
-        (W.contents writer.new) result }
-    ensures no_room { result ≡ Err NoRoom → ⊥ }
-    ensures books { LooksAt B.Kept books.old books.new result }
+    ensures list { WritesList B.Kept (in_house_listing (B.rows books.old)) books.old books.new
+        (W.contents writer.old) (W.contents writer.new) result }
     ensures calls { CountsWrites calls.old calls.new (OnErrOf result Write) }
 {
     write_rows(alloc, books, &InHouse, HOUSE, writer, calls)
@@ -170,9 +163,8 @@ pub fn write_chain_of<B: Walks, W: Write>(
     writer: &mut W,
     calls: &mut IoCalls,
 ) -> Result<(), ListFault>
-    ensures text { B.is_honest books.new → ListEnds [] (chain_listing (B.rows books.old) room) (W.contents writer.old)
-        (W.contents writer.new) result }
-    ensures books { LooksAt B.Kept books.old books.new result }
+    ensures list { WritesRoomList B.Kept (chain_listing (B.rows books.old) room) books.old books.new
+        (W.contents writer.old) (W.contents writer.new) result }
     ensures calls { CountsWrites calls.old calls.new (OnErrOf result Write) }
 {
     write_room_rows(alloc, books, room, &ChainOf(room), CHAIN, writer, calls)
@@ -185,10 +177,8 @@ pub fn write_left_behind<B: Walks, W: Write>(
     writer: &mut W,
     calls: &mut IoCalls,
 ) -> Result<(), ListFault>
-    ensures text { B.is_honest books.new → ListEnds [] (left_behind_listing (B.rows books.old)) (W.contents writer.old)
-        (W.contents writer.new) result }
-    ensures no_room { result ≡ Err NoRoom → ⊥ }
-    ensures books { LooksAt B.Kept books.old books.new result }
+    ensures list { WritesList B.Kept (left_behind_listing (B.rows books.old)) books.old books.new
+        (W.contents writer.old) (W.contents writer.new) result }
     ensures calls { CountsWrites calls.old calls.new (OnErrOf result Write) }
 {
     write_rows(alloc, books, &LeftBehind, BEHIND, writer, calls)
@@ -202,9 +192,8 @@ pub fn write_audit_of<B: Walks, W: Write>(
     writer: &mut W,
     calls: &mut IoCalls,
 ) -> Result<(), ListFault>
-    ensures text { B.is_honest books.new → ListEnds [] (audit_listing (B.rows books.old) room) (W.contents writer.old)
-        (W.contents writer.new) result }
-    ensures books { LooksAt B.Kept books.old books.new result }
+    ensures list { WritesRoomList B.Kept (audit_listing (B.rows books.old) room) books.old books.new
+        (W.contents writer.old) (W.contents writer.new) result }
     ensures calls { CountsWrites calls.old calls.new (OnErrOf result Write) }
 {
     write_room_rows(alloc, books, room, &AuditOf(room), AUDIT, writer, calls)
@@ -217,10 +206,8 @@ pub fn write_business_day<B: Walks, W: Write>(
     writer: &mut W,
     calls: &mut IoCalls,
 ) -> Result<(), ListFault>
-    ensures text { B.is_honest books.new → ListEnds [] (business_day_listing (B.rows books.old)) (W.contents writer.old)
-        (W.contents writer.new) result }
-    ensures no_room { result ≡ Err NoRoom → ⊥ }
-    ensures books { LooksAt B.Kept books.old books.new result }
+    ensures list { WritesList B.Kept (business_day_listing (B.rows books.old)) books.old books.new
+        (W.contents writer.old) (W.contents writer.new) result }
     ensures calls { CountsWrites calls.old calls.new (OnErrOf result Write) }
 {
     write_rows(alloc, books, &BusinessDay, DAY, writer, calls)
@@ -234,10 +221,8 @@ pub fn write_room_status<B: Walks, W: Write>(
     writer: &mut W,
     calls: &mut IoCalls,
 ) -> Result<(), ListFault>
-    ensures text { B.is_honest books.new → ListEnds [] (room_status_listing (B.rows books.old)) (W.contents writer.old)
-        (W.contents writer.new) result }
-    ensures no_room { result ≡ Err NoRoom → ⊥ }
-    ensures books { LooksAt B.Kept books.old books.new result }
+    ensures list { WritesList B.Kept (room_status_listing (B.rows books.old)) books.old books.new
+        (W.contents writer.old) (W.contents writer.new) result }
     ensures calls { CountsWrites calls.old calls.new (OnErrOf result Write) }
 {
     write_rows(alloc, books, &RoomStatus, STATUS, writer, calls)
@@ -250,10 +235,8 @@ pub fn write_inside<B: Walks, W: Write>(
     writer: &mut W,
     calls: &mut IoCalls,
 ) -> Result<(), ListFault>
-    ensures text { B.is_honest books.new → ListEnds [] (inside_listing (B.rows books.old)) (W.contents writer.old)
-        (W.contents writer.new) result }
-    ensures no_room { result ≡ Err NoRoom → ⊥ }
-    ensures books { LooksAt B.Kept books.old books.new result }
+    ensures list { WritesList B.Kept (inside_listing (B.rows books.old)) books.old books.new
+        (W.contents writer.old) (W.contents writer.new) result }
     ensures calls { CountsWrites calls.old calls.new (OnErrOf result Write) }
 {
     write_rows(alloc, books, &Inside, INSIDE, writer, calls)
@@ -266,10 +249,8 @@ pub fn write_bookings<B: Walks, W: Write>(
     writer: &mut W,
     calls: &mut IoCalls,
 ) -> Result<(), ListFault>
-    ensures text { B.is_honest books.new → ListEnds [] (bookings_listing (B.rows books.old)) (W.contents writer.old)
-        (W.contents writer.new) result }
-    ensures no_room { result ≡ Err NoRoom → ⊥ }
-    ensures books { LooksAt B.Kept books.old books.new result }
+    ensures list { WritesList B.Kept (bookings_listing (B.rows books.old)) books.old books.new
+        (W.contents writer.old) (W.contents writer.new) result }
     ensures calls { CountsWrites calls.old calls.new (OnErrOf result Write) }
 {
     write_rows(alloc, books, &Bookings, ARRIVALS, writer, calls)
@@ -285,10 +266,8 @@ pub fn write_availability<B: Walks, W: Write>(
     writer: &mut W,
     calls: &mut IoCalls,
 ) -> Result<(), ListFault>
-    ensures text { B.is_honest books.new → ListEnds [] (availability_listing (B.rows books.old) day nights)
+    ensures list { WritesList B.Kept (availability_listing (B.rows books.old) day nights) books.old books.new
         (W.contents writer.old) (W.contents writer.new) result }
-    ensures no_room { result ≡ Err NoRoom → ⊥ }
-    ensures books { LooksAt B.Kept books.old books.new result }
     ensures calls { CountsWrites calls.old calls.new (OnErrOf result Write) }
 {
     write_rows(
@@ -309,10 +288,8 @@ pub fn write_cards_given<B: Walks, W: Write>(
     writer: &mut W,
     calls: &mut IoCalls,
 ) -> Result<(), ListFault>
-    ensures text { B.is_honest books.new → ListEnds [] (given_listing (B.rows books.old) party) (W.contents writer.old)
-        (W.contents writer.new) result }
-    ensures no_room { result ≡ Err NoRoom → ⊥ }
-    ensures books { LooksAt B.Kept books.old books.new result }
+    ensures list { WritesList B.Kept (given_listing (B.rows books.old) party) books.old books.new
+        (W.contents writer.old) (W.contents writer.new) result }
     ensures calls { CountsWrites calls.old calls.new (OnErrOf result Write) }
 {
     write_rows(alloc, books, &CardsGiven(party), GIVEN, writer, calls)
@@ -326,10 +303,8 @@ pub fn write_card_of<B: Walks, W: Write>(
     writer: &mut W,
     calls: &mut IoCalls,
 ) -> Result<(), ListFault>
-    ensures text { B.is_honest books.new → ListEnds [] (card_listing (B.rows books.old) number) (W.contents writer.old)
-        (W.contents writer.new) result }
-    ensures no_room { result ≡ Err NoRoom → ⊥ }
-    ensures books { LooksAt B.Kept books.old books.new result }
+    ensures list { WritesList B.Kept (card_listing (B.rows books.old) number) books.old books.new
+        (W.contents writer.old) (W.contents writer.new) result }
     ensures calls { CountsWrites calls.old calls.new (OnErrOf result Write) }
 {
     let cards = find_card(alloc, books, number)?;
@@ -343,10 +318,8 @@ pub fn write_locks<B: Walks, W: Write>(
     writer: &mut W,
     calls: &mut IoCalls,
 ) -> Result<(), ListFault>
-    ensures text { B.is_honest books.new → ListEnds [] (locks_listing (B.rows books.old)) (W.contents writer.old)
-        (W.contents writer.new) result }
-    ensures no_room { result ≡ Err NoRoom → ⊥ }
-    ensures books { LooksAt B.Kept books.old books.new result }
+    ensures list { WritesList B.Kept (locks_listing (B.rows books.old)) books.old books.new
+        (W.contents writer.old) (W.contents writer.new) result }
     ensures calls { CountsWrites calls.old calls.new (OnErrOf result Write) }
 {
     let locks = find_locks(alloc, books)?;

@@ -25,8 +25,8 @@ listed h (e ∷ es) all =
     let card = there (at_number (cards h) e.1) _ row.2 in
     let found : inside_row h e ≡ Some (record { room = e.0; card = e.1; party = card.0.party }) =
     ap (option_map (λ c. let r : InsideRow = record { room = e.0; card = e.1; party = c.party } in r)) card.1 in
-    ap (λ (o : Option InsideRow). map (λ (r : InsideRow). (r.room, r.card)) (cons_option o (filter_map (inside_row h) es)))
-    found
+    ap (λ (o : Option InsideRow). map (λ (r : InsideRow). (r.room, r.card))
+    (cons_option o (filter_map (inside_row h) es))) found
     ∙ ap (λ (keys : List InsideKey). e ∷ keys) (listed h es p.1)
 
 pub insiders_are_listed : InsidersAreListed

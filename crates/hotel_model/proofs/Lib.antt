@@ -10,3 +10,4 @@ pub mod LeadsOn
 pub mod Reissued
 pub mod FreeNights
 pub mod InsidersListed
+pub mod CardsShown

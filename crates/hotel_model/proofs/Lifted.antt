@@ -13,4 +13,5 @@ pub mod Computed
 pub mod RunParts
 pub mod Whole
 pub mod WholeRows
+pub mod LocksListed
 pub mod ListRows

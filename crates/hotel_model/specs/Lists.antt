@@ -1,9 +1,10 @@
 -- The rows of the lists, read off a history.
-use Rattle.std.specs.Prelude.{ℕ, Bool, false, List, [], ◌∷◌, ◌++◌, Option, Some, None, ◌+◌, ◌-◌, ◌&&◌, ◌==◌, if◌then◌else◌}
-use Rattle.std.specs.Prelude.{nat_le, nat_lt, length, map, filter, filter_map, option_map}
+use Rattle.std.specs.Prelude.{ℕ, Bool, false, List, [], ◌∷◌, ◌++◌, Option, Some, None, ◌+◌, ◌-◌, ◌&&◌, ◌==◌}
+use Rattle.std.specs.Prelude.{if◌then◌else◌, nat_le, nat_lt, length, map, filter, filter_map, option_map}
+use Rattle.std.specs.List.{last_or}
 use Rattle.std.specs.Map.{keys_of, values_of}
-use Rattle.keycard_rules.specs.{declared.card.Card.Card, declared.note.TheConstants.LAST_DAY}
-use Rattle.hotel_nights.specs.declared.stay.Stay.{Stay}
+use Rattle.keycard_rules.specs.{declared.card.Card.Card, declared.note.TheConstants.LAST_DAY, Note.Note}
+use Rattle.hotel_nights.specs.{declared.stay.Stay.Stay, Moments.moment_of}
 use Rattle.hotel_model.specs.declared.list_rows.HouseRow.{HouseRow}
 use Rattle.hotel_model.specs.declared.list_rows.ChainRow.{ChainRow}
 use Rattle.hotel_model.specs.declared.list_rows.BehindRow.{BehindRow}
@@ -12,6 +13,8 @@ use Rattle.hotel_model.specs.declared.list_rows.CodeState.TheVariants.{Passed, H
 use Rattle.hotel_model.specs.declared.list_rows.StatusRow.{StatusRow}
 use Rattle.hotel_model.specs.declared.list_rows.InsideRow.{InsideRow}
 use Rattle.hotel_model.specs.declared.list_rows.FreeRow.{FreeRow}
+use Rattle.hotel_model.specs.declared.list_rows.CardRow.{CardRow}
+use Rattle.hotel_model.specs.declared.list_rows.LockRow.{LockRow}
 use Rattle.hotel_model.specs.Words.{said_of, greatest}
 use Rattle.hotel_model.specs.Rows.{InsideKey, at_number}
 use Rattle.hotel_model.specs.History.{History}
@@ -21,6 +24,7 @@ use Rattle.hotel_model.specs.Lock.{held}
 use Rattle.hotel_model.specs.Ledger.{passed, awaited}
 use Rattle.hotel_model.specs.Guests.{registered, insiders, secured}
 use Rattle.hotel_model.specs.Stays.{day, kinds, rooms, stays, is_booked_state, nights, rooms_of}
+use Rattle.hotel_model.specs.{Notes.notes_of, Refits.present_fit}
 
 -- a booked stay that takes the night of a day
 abbrev pub arrives_on : ℕ → Stay → Bool
@@ -126,3 +130,29 @@ availability h d n = map (free_row h d n) (kinds h)
 -- Cards that a party was given, by number.
 abbrev pub cards_given : History → ℕ → List Card
 cards_given h party = filter (λ card. card.party == party) (values_of (cards h))
+
+-- a card with the guest of its party's stay
+abbrev pub card_row : Card → Stay → CardRow
+card_row card stay = record { card = card; guest = stay.guest }
+
+-- The card of a number, with the guest of the party that it was given to; none where there is no such card.
+abbrev pub card_rows : History → ℕ → List CardRow
+card_rows h number = said_of (at_number (cards h) number) []
+    (λ card. said_of (at_number (stays h) card.party) [] (λ stay. card_row card stay ∷ []))
+
+-- the row of a room's present lock, which noted these
+abbrev pub lock_row_of : History → ℕ → List Note → LockRow
+lock_row_of h room its = record {
+  room = room;
+  fit = present_fit h room;
+  count = length its;
+  at = option_map moment_of (last_or None its);
+}
+
+-- the row of a room's present lock: how many of its notes were taken, and when it noted the last of them
+abbrev pub lock_row : History → ℕ → LockRow
+lock_row h room = lock_row_of h room (notes_of h room (present_fit h room))
+
+-- The present locks of all rooms, by room.
+abbrev pub locks : History → List LockRow
+locks h = map (lock_row h) (keys_of (rooms h))

@@ -2,7 +2,7 @@
 use Rattle.std.specs.Prelude.{ℕ, Bool, false, List, [], ◌∷◌, Option, Some, None, ◌-◌, ◌==◌, if◌then◌else◌, length}
 use Rattle.std.specs.Prelude.{bytes_eq}
 use Rattle.std.specs.Ordering.{nat_cmp}
-use Rattle.std.specs.List.{list_any, count_by}
+use Rattle.std.specs.List.{list_any, count_by, last_or}
 use Rattle.std.specs.BTreeMap.{is_at, insert_entry}
 use Rattle.std.specs.Map.{lookup, values_of}
 use Rattle.keycard_rules.specs.declared.card.Card.{Card}
@@ -131,9 +131,7 @@ fit_at rows room number = lookup (is_at (pair_cmp (room, number))) rows.fits
 
 -- the last of some fits
 abbrev pub last_fit : List FitRow → Option FitRow
-last_fit [] = None
-last_fit (f ∷ []) = Some f
-last_fit (f ∷ g ∷ fs) = last_fit (g ∷ fs)
+last_fit fs = last_or None fs
 
 -- a fit of the room begins with the code at this place
 abbrev pub begins_fit : Rows → ℕ → ℕ → Bool

@@ -2,7 +2,7 @@
 ghost use Rattle.hotel_model.specs.{Headline.Assured, History.History};
 ghost use Rattle.hotel_model.specs.FurtherLaws.{BookingsTakeOne, CodesAreListed, FreeIsKept, LimitsAre, ReissuesKeep};
 ghost use Rattle.hotel_model.specs.{Laws.RunsAgree, Laws.RunsCompute, Laws.RunsJoin, Laws.RunsReach, Laws.StartsStand};
-ghost use Rattle.hotel_model.specs.{FurtherLaws.InsidersAreListed, Run.Reached};
+ghost use Rattle.hotel_model.specs.{FurtherLaws.CardsAreShown, FurtherLaws.InsidersAreListed, Run.Reached};
 ghost use Rattle.hotel_model.specs.{Sound.RulesAreTested, Refinement.Lift.AnswersLift, Refinement.Lift.ChangesFit};
 ghost use Rattle.hotel_model.specs.{Refinement.ListsLift.ListsLift};
 
@@ -67,6 +67,11 @@ pub fn codes_are_listed()
 /// The list of the cards inside has each of them: no card that is inside lacks a row.
 pub fn insiders_are_listed()
     ensures { InsidersAreListed }
+{}
+
+/// Each card is shown, with the guest of its party: no card lacks its party's stay.
+pub fn cards_are_shown()
+    ensures { CardsAreShown }
 {}
 
 /// Rooms, numbers, kinds and guests have the limits that they should have.

@@ -22,9 +22,11 @@ mod scenes;
 pub use change::{Change, InsideMove};
 pub use command::Command;
 pub use laws::{
-    answers_lift, assured, changes_fit, free_is_kept, insiders_are_listed, rules_are_tested,
-    runs_compute, runs_join, starts_stand,
+    answers_lift, assured, cards_are_shown, changes_fit, free_is_kept, insiders_are_listed,
+    rules_are_tested, runs_compute, runs_join, starts_stand,
 };
-pub use list_rows::{BehindRow, ChainRow, CodeState, FreeRow, HouseRow, InsideRow, StatusRow};
+pub use list_rows::{
+    BehindRow, CardRow, ChainRow, CodeState, FreeRow, HouseRow, InsideRow, LockRow, StatusRow,
+};
 pub use reply::{Refusal, Reply};
 pub use rows::{CodeRow, FitRow, NextNumbers, RoomRow};

@@ -3,8 +3,8 @@ ghost use Rattle.std.specs.Prelude.{◌≡◌};
 ghost use Rattle.hotel_model.specs.Refinement.ListsOnRows.{state_at, status_row_on};
 
 use crate::rows::RoomRow;
-use hotel_nights::{Day, Guest, KindCode};
-use keycard_rules::{CardNo, Code, PartyNo, RoomNo};
+use hotel_nights::{Day, Guest, KindCode, Moment};
+use keycard_rules::{Card, CardNo, Code, FitNo, PartyNo, RoomNo};
 
 /// A room in which a party is registered, with the party's stay.
 #[derive(Debug, Drop)]
@@ -110,4 +110,23 @@ pub struct FreeRow {
     pub rooms: u32,
     /// How many bookings for these nights would be accepted, one after the other.
     pub free: u32,
+}
+
+/// A card, with the guest of the party that it was given to.
+#[derive(Debug, Drop)]
+pub struct CardRow {
+    pub card: Card,
+    pub guest: Guest,
+}
+
+/// The present lock of a room.
+#[derive(Clone, Copy, PartialEq, Eq, Debug)]
+pub struct LockRow {
+    pub room: RoomNo,
+    /// Its number among the room's locks, counted from 1.
+    pub fit: FitNo,
+    /// How many of its notes were taken. The last of them has this count.
+    pub count: u32,
+    /// When the lock noted the last of them.
+    pub at: Option<Moment>,
 }

@@ -66,8 +66,8 @@ fn has_no_control(text: &str) -> bool
     text.chars().all(|c| !c.is_control())
 }
 
-/// Whether the text is the name of a guest.
-fn is_guest(text: &str) -> bool
+/// Whether the text is the name of a guest. It takes no memory.
+pub fn is_guest(text: &str) -> bool
     ensures { result ≡ is_guest text.now }
 {
     let bytes = text.as_bytes();

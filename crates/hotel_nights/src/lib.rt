@@ -1,5 +1,5 @@
-//! Days, moments, kinds of rooms, guests, stays, and the first night on which a kind of rooms is full. The crate knows
-//! no lock.
+//! Days, moments, kinds of rooms, guests, stays, and the first night on which a kind of rooms is full. Of locks the
+//! crate knows the notes alone: a moment is that of a note, and makes one.
 //!
 //! Contracts see a day and a number of nights as numbers, a moment as a pair of numbers, and a kind and a guest as
 //! bytes. Each reader of bytes answers the value that one function of `specs/` gives for them, so it takes exactly that
@@ -20,7 +20,7 @@ mod stay;
 
 pub use day::Day;
 pub use full_night::first_full_night;
-pub use guest::{GUEST_BYTES, Guest, GuestFault};
+pub use guest::{GUEST_BYTES, Guest, GuestFault, is_guest};
 pub use kind::{KIND_BYTES, KindCode};
 pub use moment::Moment;
 pub use nights::{MOST_NIGHTS, Nights};

@@ -17,7 +17,7 @@ use Rattle.hotel_http.specs.declared.serve.ServeFault.{ServeFault}
 use Rattle.hotel_http.specs.declared.serve.ServeFault.TheVariants.{Closed, Read, Memory, Write}
 use Rattle.hotel_http.specs.{Body.interim_where, Serve.ServesOver, Serve.served_in}
 use Rattle.hotel_program.specs.Connections.{AllCame, AskedEnds, ConnectionCame, ConnectionEnd, ConnectionHappens}
-use Rattle.hotel_program.specs.Connections.{ConnectsAndTells, LimitedEnds, ReadsBehind, ServersFollow, Sockets}
+use Rattle.hotel_program.specs.Connections.{ConnectsAndTells, LimitedEnds, ThrowsAway, ServersFollow, Sockets}
 use Rattle.hotel_program.specs.declared.listener.Caller.{Ghosts as CallerOf}
 use Rattle.hotel_program.specs.Timed.{Reads}
 use Rattle.hotel_program.specs.declared.faults.Fault.{Fault}
@@ -147,12 +147,12 @@ module _ {S R : Type 0} (v : Sockets) (K : KeptOf S) (rows : S → Rows) (words 
 module _ {S L : Type 0} (calls : CallerOf L S) where
   -- what was read behind an answer
   pub lingered_behind : (stream its : S) (follows : Bool) (read : Reads L) (new : L) → its ≡ stream → follows ≡ true
-      → ReadsBehind calls its true read new → ReadsBehind calls stream follows read new
+      → ThrowsAway calls its true read new → ThrowsAway calls stream follows read new
   lingered_behind stream its follows read new same e lingers =
-      subst (λ (s : S). ReadsBehind calls s follows read new) same
-      (subst (λ (b : Bool). ReadsBehind calls its b read new) (sym e) lingers)
+      subst (λ (s : S). ThrowsAway calls s follows read new) same
+      (subst (λ (b : Bool). ThrowsAway calls its b read new) (sym e) lingers)
 
   pub none_behind : (stream : S) (follows : Bool) (read : Reads L) (new : L) → follows ≡ false → new ≡ read.caller
-      → ReadsBehind calls stream follows read new
+      → ThrowsAway calls stream follows read new
   none_behind stream follows read new e same =
-      subst (λ (b : Bool). ReadsBehind calls stream b read new) (sym e) same
+      subst (λ (b : Bool). ThrowsAway calls stream b read new) (sym e) same

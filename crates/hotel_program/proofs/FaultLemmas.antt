@@ -4,13 +4,13 @@ use Rattle.std.proofs.lemmas.Bool.{false≢true}
 use Rattle.std.proofs.lemmas.List.{take_all}
 use Rattle.std.specs.Prelude.{OnOk, OnErr}
 use Rattle.std.specs.Io.KnownBytes.{Appends}
-use Rattle.hotel_lists.specs.Bytes.{AppendsFront}
+use Rattle.hotel_streams.specs.Bytes.{AppendsPrefix}
 
-pub front_taken : {E : Type 0} (r : Result (Unit {0}) E) (old new : Option (List ℕ)) (text : List ℕ)
-    → OnOk r (Appends old new text) → OnErr r (AppendsFront old new text) → AppendsFront old new text
-front_taken (Ok done) old new text whole front =
+pub prefix_taken : {E : Type 0} (r : Result (Unit {0}) E) (old new : Option (List ℕ)) (text : List ℕ)
+    → OnOk r (Appends old new text) → OnErr r (AppendsPrefix old new text) → AppendsPrefix old new text
+prefix_taken (Ok done) old new text whole prefix =
     (length text, omega arith, subst (Appends old new) (sym (take_all (length text) text (omega arith))) whole)
-front_taken (Err why) old new text whole front = front
+prefix_taken (Err why) old new text whole prefix = prefix
 
 -- A text was taken whole where no write failed.
 pub taken_whole : {E : Type 0} (r : Result (Unit {0}) E) (old new : Option (List ℕ)) (text : List ℕ) (failed : Bool)

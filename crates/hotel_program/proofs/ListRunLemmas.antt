@@ -6,7 +6,7 @@ use Rattle.std.specs.Io.KnownBytes.{Appends}
 use Rattle.std.proofs.KnownBytes.{Appends-trans}
 use Rattle.hotel_model.specs.declared.reply.Refusal.TheVariants as refusal
 use Rattle.hotel_model.specs.Rows.{Rows}
-use Rattle.hotel_lists.specs.Bytes.{AppendsFront}
+use Rattle.hotel_streams.specs.Bytes.{AppendsPrefix}
 use Rattle.hotel_lists.specs.declared.fault.ListFault.{ListFault}
 use Rattle.hotel_lists.specs.declared.fault.ListFault.TheVariants as fault
 use Rattle.hotel_asks.specs.declared.asked.ListAsk.{ListAsk}
@@ -39,13 +39,13 @@ is_write (Err e) p = ap (λ (f : ListFault). Err f) p
 
 -- a prefix of it was written
 pub cut_no_room : (listing : Option Listing) (old mid new : Option (List ℕ))
-    → ListEnds [] listing old mid (Err fault.NoRoom) → AppendsFront mid new (refusal_text refusal.NoRoom)
+    → ListEnds [] listing old mid (Err fault.NoRoom) → AppendsPrefix mid new (refusal_text refusal.NoRoom)
     → AnswerEnds listing old new (Err fault.Write)
-cut_no_room None old mid new p front = (
+cut_no_room None old mid new p prefix = (
   (λ none. is_text (refusal_text refusal.NoRoom) refl),
-  (front.0, front.1, Appends-trans old mid new [] (take front.0 (refusal_text refusal.NoRoom)) p.1 front.2),
+  (prefix.0, prefix.1, Appends-trans old mid new [] (take prefix.0 (refusal_text refusal.NoRoom)) p.1 prefix.2),
 )
-cut_no_room (Some listing) old mid new p front = cc p.0
+cut_no_room (Some listing) old mid new p prefix = cc p.0
 
 pub answer_ends : (rows : Rows) (its_list : ListAsk) (old new : Option (List ℕ)) (end : Result (Unit {0}) ListFault)
     → AnswerEnds (listing_on rows its_list) old new end → AnswerEndsFor rows its_list old new end

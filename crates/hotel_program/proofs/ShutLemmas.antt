@@ -18,7 +18,7 @@ use Rattle.hotel_model.specs.declared.reply.Refusal.TheVariants as refusal
 use Rattle.hotel_model.proofs.SoundRows.NoRows.{none_sound}
 use Rattle.hotel_core.specs.Texts.{reply_text}
 use Rattle.hotel_lists.specs.Listings.{Listing}
-use Rattle.hotel_lists.proofs.CallsLemmas.{last_of}
+use Rattle.hotel_lists.proofs.ToldLemmas.{last_of}
 use Rattle.hotel_asks.specs.Listings.{listing_over}
 use Rattle.hotel_audit.specs.declared.answer.LineAnswer.{LineAnswer}
 use Rattle.hotel_audit.specs.declared.imports.ImportFault.{ImportFault}

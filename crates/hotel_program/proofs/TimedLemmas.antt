@@ -45,33 +45,23 @@ leaves_other waits got left is =
     subst (λ (b : Bool). (left ≡ (if b then PATIENCE else left)) × (waits ≡ (if b then false else waits))) (sym is)
     (refl, refl)
 
-module _ {S L : Type 0} (calls : CallerOf L S) {its_stream : Option S} {its_caller : Option L} where
+module _ {S L : Type 0} (calls : CallerOf L S) {its_caller : Option L} where
   -- one read more
   pub read_more : (stream : S) (old new : Reads L) (reading : Reading) → ReadsInTime calls stream old reading new
-      → ReadSince calls its_stream its_caller stream old → ReadSince calls its_stream its_caller stream new
-  read_more stream old new reading read (of, first, is, readings, were) =
-      (of, first, is, readings ++ reading ∷ [], passes_push (ReadsInTime calls stream) _ readings were read)
+      → ReadSince calls its_caller stream old → ReadSince calls its_caller stream new
+  read_more stream old new reading read (first, is, readings, were) =
+      (first, is, readings ++ reading ∷ [], passes_push (ReadsInTime calls stream) _ readings were read)
 
   -- one write more
   pub written_more : (stream : S) (old new : L × ℕ) (writing : Writing) → WritesInTime calls stream old writing new
-      → WrittenSince calls its_stream its_caller stream old → WrittenSince calls its_stream its_caller stream new
-  written_more stream old new writing written (of, first, is, writings, were) =
-      (of, first, is, writings ++ writing ∷ [], passes_push (WritesInTime calls stream) _ writings were written)
+      → WrittenSince calls its_caller stream old → WrittenSince calls its_caller stream new
+  written_more stream old new writing written (first, is, writings, were) =
+      (first, is, writings ++ writing ∷ [], passes_push (WritesInTime calls stream) _ writings were written)
 
-  -- it is the same connection
-  pub same_read : (stream its : S) (now : Reads L) → its_stream ≡ Some stream
-      → ReadSince calls its_stream its_caller its now → its ≡ stream
-  same_read stream its now e since = let of = since.0 in cc
-
-  pub same_written : (stream its : S) (now : L × ℕ) → its_stream ≡ Some stream
-      → WrittenSince calls its_stream its_caller its now → its ≡ stream
-  same_written stream its now e since = let of = since.0 in cc
-
-  -- all reads were made since this caller
+  -- all reads were made of this connection since this caller
   pub since_read : (stream its : S) (first : L) (now : Reads L) → its_caller ≡ Some first → its ≡ stream
-      → ReadSince calls its_stream its_caller its now
-      → (readings : List Reading) × AreRead calls stream first readings now
-  since_read stream its first now e same (of, caller, is, readings, were) =
+      → ReadSince calls its_caller its now → (readings : List Reading) × AreRead calls stream first readings now
+  since_read stream its first now e same (caller, is, readings, were) =
       let begun : caller ≡ first = cc in (
         readings,
         subst (λ (s : S). AreRead calls s first readings now) same
@@ -79,9 +69,8 @@ module _ {S L : Type 0} (calls : CallerOf L S) {its_stream : Option S} {its_call
       )
 
   pub since_written : (stream its : S) (first : L) (now : L × ℕ) → its_caller ≡ Some first → its ≡ stream
-      → WrittenSince calls its_stream its_caller its now
-      → (writings : List Writing) × AreWritten calls stream first writings now
-  since_written stream its first now e same (of, caller, is, writings, were) =
+      → WrittenSince calls its_caller its now → (writings : List Writing) × AreWritten calls stream first writings now
+  since_written stream its first now e same (caller, is, writings, were) =
       let begun : caller ≡ first = cc in (
         writings,
         subst (λ (s : S). AreWritten calls s first writings now) same

@@ -8,7 +8,7 @@ use Rattle.hotel_core.specs.Books.Stepped.{Stepped}
 use Rattle.hotel_model.specs.Rows.{Rows}
 use Rattle.hotel_model.specs.declared.command.Command.{Command}
 use Rattle.hotel_model.specs.declared.reply.Reply.{Reply}
-use Rattle.hotel_lists.specs.Bytes.{AppendsFront}
+use Rattle.hotel_streams.specs.Bytes.{AppendsPrefix}
 use Rattle.hotel_lists.specs.RowLines.{LooksAt}
 use Rattle.hotel_lists.specs.declared.fault.ListFault.{ListFault}
 use Rattle.hotel_asks.specs.declared.asked.ListAsk.{ListAsk}
@@ -54,7 +54,7 @@ module _ {S R W F E : Type 0} (K : KeptOf S) (rows : S → Rows) (words : R → 
       × Appends (contents out.0) (contents out'.0) (listening_text number)
       × ServesEach port K rows words told count listener old out.1 new out'.1
   ListensTo number count listener true status old out new out' = EndsBy told (Err fault.Write) status out.1 out'.1
-      × AppendsFront (contents out.0) (contents out'.0) (listening_text number)
+      × AppendsPrefix (contents out.0) (contents out'.0) (listening_text number)
       × (new.0 ≡ old.0) × (new.1 ≡ old.1)
 
   -- What comes of a port that was asked for: a listener, or why there is none.

@@ -13,7 +13,7 @@ use Rattle.hotel_http.specs.declared.serve.ServeFault.TheVariants as serve
 use Rattle.hotel_http.specs.Request.{Wanted}
 use Rattle.keycard_rules.specs.Calls.{Told}
 use Rattle.hotel_core.specs.Books.Happens.{HappensBy}
-use Rattle.hotel_lists.specs.Reads.{ReadsWhile}
+use Rattle.hotel_streams.specs.Reads.{ReadsWhile}
 use Rattle.hotel_http.specs.Request.{MayFollow, WantsMore}
 use Rattle.hotel_http.specs.Serve.{Comes, FullAnswer, ServesOver, served_in}
 use Rattle.hotel_http.specs.declared.serve.Exchange.{Exchange}
@@ -86,17 +86,17 @@ follows_in (Ok done) = done.follows
 follows_in (Err why) = false
 
 -- What is read behind an answer: where more may follow, the writing side is shut, and what comes is thrown away.
-abbrev pub ReadsBehind : {S L : Type 0} → CallerOf L S → S → Bool → Reads L → L → Type 0
-ReadsBehind {L = L} calls stream true old new = (shut : Result (Unit {0}) Error) × (mid : L) × (left : ℕ)
+abbrev pub ThrowsAway : {S L : Type 0} → CallerOf L S → S → Bool → Reads L → L → Type 0
+ThrowsAway {L = L} calls stream true old new = (shut : Result (Unit {0}) Error) × (mid : L) × (left : ℕ)
     × calls.writes_shut stream old.caller shut mid
     × LingersOn (ReadsRest (calls.reads_limited stream) calls.clock_read (calls.was_read stream)) shut (mid, old.left)
     (new, left)
-ReadsBehind calls stream false old new = new ≡ old.caller
+ThrowsAway calls stream false old new = new ≡ old.caller
 
 -- The request of a connection was served, by a caller that read it and one that wrote to it: the bytes of the request
 -- are those that the connection had, and those of the answer it was given; each read and write was made in the time
 -- that was left for it, and no more was read than is wanted.
-pub record Serves {S L B R : Type 0} (calls : CallerOf L S) (K : KeptOf B) (rows : B → Rows) (words : R → Stream)
+pub record ServesInTime {S L B R : Type 0} (calls : CallerOf L S) (K : KeptOf B) (rows : B → Rows) (words : R → Stream)
     (stream : S) (reads writes : L) (old : B × R) (end : Result Exchange ServeFault) (reads' writes' : L)
     (new : B × R) : Type 0 where
   pub read : Reads L
@@ -107,7 +107,7 @@ pub record Serves {S L B R : Type 0} (calls : CallerOf L S) (K : KeptOf B) (rows
       (calls.contents stream writes) (calls.contents stream writes') old new (served_in end)
   pub wanted : ReadsWhile (WantsMore Local) (calls.remaining stream reads) (calls.remaining stream read.caller)
   pub follows : IfOk end (λ done. IfSome (calls.remaining stream reads) (λ input. MayFollow Local input done.follows))
-  pub behind : ReadsBehind calls stream (follows_in end) read reads'
+  pub behind : ThrowsAway calls stream (follows_in end) read reads'
 
 -- The limits of a connection were asked for, of both callers, and this is whether both were set.
 abbrev pub Limits : {S L : Type 0} → CallerOf L S → S → L × L → Bool → L × L → Type 0
@@ -123,7 +123,7 @@ abbrev pub LimitedEnds : {S L B R : Type 0} → CallerOf L S → KeptOf B → (B
     → B × R → ConnectionEnd → L × L → B × R → Type 0
 LimitedEnds calls K rows words stream true callers old end callers' new = (exchange : Result Exchange ServeFault)
     × (end ≡ Some (served_in exchange))
-    × Serves calls K rows words stream callers.0 callers.1 old exchange callers'.0 callers'.1 new
+    × ServesInTime calls K rows words stream callers.0 callers.1 old exchange callers'.0 callers'.1 new
 LimitedEnds calls K rows words stream false callers old end callers' new =
     (end ≡ None) × (callers'.0 ≡ callers.0) × (callers'.1 ≡ callers.1) × (new.0 ≡ old.0) × (new.1 ≡ old.1)
 

@@ -3,7 +3,7 @@ use Rattle.std.specs.Prelude.{ℕ, ◌≡◌, List, [], ◌∷◌, ◌++◌, cod
 use Rattle.hotel_asks.specs.Names.{name_text}
 use Rattle.hotel_asks.specs.declared.values.ValueName.{ValueName}
 use Rattle.hotel_audit.specs.Answers.{stopped_text}
-use Rattle.hotel_lists.specs.Calls.{Calls}
+use Rattle.hotel_streams.specs.Calls.{Calls}
 use Rattle.hotel_rows.specs.declared.open_fault.FileFault.TheVariants as books
 use Rattle.hotel_rows.specs.declared.open_fault.OpenFault.TheVariants as desk
 use Rattle.hotel_rows.specs.declared.stored.TableName.{TableName}

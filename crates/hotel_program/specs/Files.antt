@@ -1,6 +1,6 @@
 -- What is read of files.
-use Rattle.hotel_lists.specs.declared.bytes.ReadFault.{ReadFault}
-use Rattle.hotel_lists.specs.declared.bytes.ReadFault.TheVariants as more
+use Rattle.hotel_streams.specs.declared.bytes.ReadFault.{ReadFault}
+use Rattle.hotel_streams.specs.declared.bytes.ReadFault.TheVariants as more
 use Rattle.hotel_program.specs.declared.faults.Fault.{Fault}
 use Rattle.hotel_program.specs.declared.faults.Fault.TheVariants as fault
 

@@ -7,7 +7,7 @@ use Rattle.rand_chacha.specs.ChaCha.{ChaCha, of_seed}
 use Rattle.keycard_rules.specs.declared.kept.Kept.{Ghosts as KeptOf}
 use Rattle.hotel_core.specs.Memory.{Listed}
 use Rattle.hotel_model.specs.Rows.{Rows, no_rows}
-use Rattle.hotel_lists.specs.Bytes.{AppendsFront}
+use Rattle.hotel_streams.specs.Bytes.{AppendsPrefix}
 use Rattle.hotel_rows.specs.declared.open_fault.FileFault.{FileFault}
 use Rattle.hotel_program.specs.Acts.{ActEnds, Outer}
 use Rattle.hotel_program.specs.CommandLine.{desk}
@@ -43,7 +43,7 @@ abbrev pub HelpEnds : {W F : Type 0} → (W → Option (List ℕ)) → (F → Fa
 HelpEnds contents told text false status old new f f' =
     (status ≡ 0) × Appends (contents old) (contents new) text × (f' ≡ f)
 HelpEnds contents told text true status old new f f' =
-    (status ≡ 5) × AppendsFront (contents old) (contents new) text × told f fault.Write f'
+    (status ≡ 5) × AppendsPrefix (contents old) (contents new) text × told f fault.Write f'
 
 -- Words that give no plan: what was said of them.
 abbrev pub UsageSaid : {W F : Type 0} → (W → Option (List ℕ)) → (F → Fault → F → Type 0) → (F → List ℕ → F → Type 0)

@@ -99,15 +99,15 @@ WritesInTime calls stream old writing new =
 abbrev pub AreWritten : {S L : Type 0} → CallerOf L S → S → L → List Writing → L × ℕ → Type 0
 AreWritten calls stream first writings now = Passes (WritesInTime calls stream) (first, PATIENCE) writings now
 
--- So all reads were made of this connection since the caller that reads it began.
-abbrev pub ReadSince : {S L : Type 0} → CallerOf L S → Option S → Option L → S → Reads L → Type 0
-ReadSince {L = L} calls its_stream its_caller stream now = (its_stream ≡ Some stream) × (first : L)
-    × (its_caller ≡ Some first) × (readings : List Reading) × AreRead calls stream first readings now
+-- So all reads were made since the caller that reads began.
+abbrev pub ReadSince : {S L : Type 0} → CallerOf L S → Option L → S → Reads L → Type 0
+ReadSince {L = L} calls its_caller stream now =
+    (first : L) × (its_caller ≡ Some first) × (readings : List Reading) × AreRead calls stream first readings now
 
 -- So all writes were made.
-abbrev pub WrittenSince : {S L : Type 0} → CallerOf L S → Option S → Option L → S → L × ℕ → Type 0
-WrittenSince {L = L} calls its_stream its_caller stream now = (its_stream ≡ Some stream) × (first : L)
-    × (its_caller ≡ Some first) × (writings : List Writing) × AreWritten calls stream first writings now
+abbrev pub WrittenSince : {S L : Type 0} → CallerOf L S → Option L → S → L × ℕ → Type 0
+WrittenSince {L = L} calls its_caller stream now =
+    (first : L) × (its_caller ≡ Some first) × (writings : List Writing) × AreWritten calls stream first writings now
 
 -- The shorter of two times.
 abbrev pub shorter : ℕ → ℕ → ℕ

@@ -13,7 +13,7 @@ use crate::server::run_serve;
 use crate::statuses::DONE;
 use crate::surroundings::Surroundings;
 use hotel_core::Walks;
-use hotel_lists::IoCalls;
+use hotel_streams::IoCalls;
 use rand_core::Rng;
 use std::alloc::Global;
 use std::io::{Read, Write};

@@ -3,14 +3,14 @@
 ghost use Rattle.std.specs.Prelude.{◌≡◌, ◌∷◌, [], Some, IfOk, IfSome};
 ghost use Rattle.std.specs.Duration.{as_nanos};
 ghost use Rattle.keycard_rules.specs.Calls.{Passes};
-ghost use Rattle.hotel_lists.specs.Calls.{CountsCalls, NoneForgotten, OnErrOf};
-ghost use Rattle.hotel_lists.specs.Reads.{ReadsWhile};
+ghost use Rattle.hotel_streams.specs.Calls.{CountsCalls, NoneForgotten, OnErrOf};
+ghost use Rattle.hotel_streams.specs.Reads.{ReadsWhile};
 ghost use Rattle.hotel_http.specs.{Request.MayFollow, Request.WantsMore};
 ghost use Rattle.hotel_http.specs.Serve.{IfUnwritten, ServesOver, served_in};
 ghost use Rattle.hotel_http.specs.declared.origins.Origins.TheVariants.{Local};
 ghost use Rattle.hotel_http.specs.declared.serve.ServeFault.TheVariants as serve;
 ghost use Rattle.hotel_program.specs.declared.faults.Fault.TheVariants.{Read, Write};
-ghost use Rattle.hotel_program.specs.Connections.{ConnectionEnd, Connects, ConnectsAndTells, Serves, ServesEach};
+ghost use Rattle.hotel_program.specs.Connections.{ConnectionEnd, Connects, ConnectsAndTells, ServesInTime, ServesEach};
 ghost use Rattle.hotel_program.specs.Connections.{TakenEnds, connection_end, connection_fault, follows_in, sockets};
 
 use crate::faults::{Fault, FaultSink};
@@ -19,7 +19,7 @@ use crate::statuses::DONE;
 use crate::timed::{Begun, TimedReader, TimedWriter, set_limits};
 use hotel_core::Walks;
 use hotel_http::{Exchange, Origins, Routes, ServeFault, Service, make_routes, serve_by};
-use hotel_lists::IoCalls;
+use hotel_streams::IoCalls;
 use rand_core::Rng;
 use std::alloc::Global;
 use std::io::{Read, Write};
@@ -28,7 +28,7 @@ use std::time::Duration;
 
 /// How many nanoseconds pass before the next connection is asked for where one couldn't be taken: a tenth of a second.
 /// What it lacks, descriptors or memory, is others' to give back.
-pub const PAUSE: u64 = 100_000_000;
+pub(crate) const PAUSE: u64 = 100_000_000;
 
 /// The fault of a request that wasn't served.
 fn fault_of(why: ServeFault) -> Fault
@@ -52,11 +52,17 @@ fn local(routes: &Routes) -> Service<'_>
     }
 }
 
+/// What all connections share: where their memory comes from, and the table of routes, if it was made.
+#[derive(Clone, Copy)]
+struct Server<'r> {
+    alloc: Global,
+    routes: Option<&'r Routes>,
+}
+
 /// Answers the request of a connection, if no web page sent it, by the table of routes that was made for all
 /// connections. Where it wasn't made, the request makes its own. The reads and writes are added to the connection's.
 fn serve_stream<I: Read, W: Write, B: Walks, R: Rng>(
-    alloc: Global,
-    routes: Option<&Routes>,
+    server: &Server<'_>,
     reader: &mut I,
     writer: &mut W,
     books: &mut B,
@@ -71,7 +77,8 @@ fn serve_stream<I: Read, W: Write, B: Walks, R: Rng>(
     ensures wanted { ReadsWhile (WantsMore Local) (I.remaining reader.old) (I.remaining reader.new) }
     ensures calls { CountsCalls calls.old calls.new (OnErrOf result serve.Read) (IfUnwritten (served_in result)) }
 {
-    match routes {
+    let alloc = server.alloc;
+    match server.routes {
         Some(routes) => {
             let service = local(routes);
             serve_by(alloc, service, reader, writer, books, source, calls)
@@ -97,8 +104,7 @@ struct Finished<L> {
 /// Answers the request of a connection whose limits are set. Where more of the request may follow its answer, what
 /// comes is thrown away for a while, so that the answer isn't lost.
 fn serve_limited<S, L: Caller<S>, K: Begun<S, L>, B: Walks, R: Rng>(
-    alloc: Global,
-    routes: Option<&Routes>,
+    server: &Server<'_>,
     stream: &S,
     reads: L,
     writes: L,
@@ -109,22 +115,14 @@ fn serve_limited<S, L: Caller<S>, K: Begun<S, L>, B: Walks, R: Rng>(
     requires stream { K.stream ≡ Some stream.now }
     requires reads { K.reads ≡ Some reads }
     requires writes { K.writes ≡ Some writes }
-    ensures served { Serves L.Caller B.Kept B.rows R.stream stream.now reads writes (books.old, source.old) result.end
-        result.reads result.writes (books.new, source.new) }
+    ensures served { ServesInTime L.Caller B.Kept B.rows R.stream stream.now reads writes (books.old, source.old)
+        result.end result.reads result.writes (books.new, source.new) }
     ensures calls { CountsCalls calls.old calls.new (OnErrOf result.end serve.Read)
         (IfUnwritten (served_in result.end)) }
 {
     let mut reader: TimedReader<'_, S, L, K> = TimedReader::new(stream, reads);
     let mut writer: TimedWriter<'_, S, L, K> = TimedWriter::new(stream, writes);
-    let end = serve_stream(
-        alloc,
-        routes,
-        &mut reader,
-        &mut writer,
-        books,
-        source,
-        calls,
-    );
+    let end = serve_stream(server, &mut reader, &mut writer, books, source, calls);
     let reads = if follows_in(&end) {
         reader.linger()
     } else {
@@ -145,8 +143,7 @@ fn follows_in(end: &Result<Exchange, ServeFault>) -> bool
 
 /// Answers the request of a connection that was taken, where its limits could be set, and closes it.
 fn serve_taken<L: Listener, B: Walks, R: Rng>(
-    alloc: Global,
-    routes: Option<&Routes>,
+    server: &Server<'_>,
     listener: &mut L,
     stream: L::Stream,
     books: &mut B,
@@ -165,7 +162,7 @@ fn serve_taken<L: Listener, B: Walks, R: Rng>(
         return Err(Fault::Closed);
     }
     let Finished { end, reads, writes } = serve_limited::<L::Stream, L::Caller, Brand, B, R>(
-        alloc, routes, &stream, reads, writes, books, source, calls,
+        server, &stream, reads, writes, books, source, calls,
     );
     listener.close(stream, reads, writes);
     match end {
@@ -177,8 +174,7 @@ fn serve_taken<L: Listener, B: Walks, R: Rng>(
 /// Takes a connection and answers its request. Its reads and writes are added to the calls. Where it couldn't be taken,
 /// it waits.
 fn serve_connection<L: Listener, B: Walks, R: Rng>(
-    alloc: Global,
-    routes: Option<&Routes>,
+    server: &Server<'_>,
     listener: &mut L,
     books: &mut B,
     source: &mut R,
@@ -190,7 +186,7 @@ fn serve_connection<L: Listener, B: Walks, R: Rng>(
     ensures calls { CountsCalls calls.old calls.new (OnErrOf result Read) (OnErrOf result Write) }
 {
     match listener.accept() {
-        Ok(stream) => serve_taken(alloc, routes, listener, stream, books, source, calls),
+        Ok(stream) => serve_taken(server, listener, stream, books, source, calls),
         Err(_) => {
             listener.wait(Duration::from_nanos(PAUSE));
             Err(Fault::Closed)
@@ -200,8 +196,7 @@ fn serve_connection<L: Listener, B: Walks, R: Rng>(
 
 /// Takes a connection, answers its request, and reports the fault that came instead.
 fn serve_and_tell<L: Listener, B: Walks, R: Rng, F: FaultSink>(
-    alloc: Global,
-    routes: Option<&Routes>,
+    server: &Server<'_>,
     listener: &mut L,
     books: &mut B,
     source: &mut R,
@@ -214,7 +209,7 @@ fn serve_and_tell<L: Listener, B: Walks, R: Rng, F: FaultSink>(
     ensures calls { NoneForgotten calls.old calls.new }
 {
     let mut its_calls = IoCalls::none();
-    let served = serve_connection(alloc, routes, listener, books, source, &mut its_calls);
+    let served = serve_connection(server, listener, books, source, &mut its_calls);
     if let Err(fault) = served {
         faults.tell(&fault, calls);
     }
@@ -240,18 +235,13 @@ pub fn serve_connections<L: Listener + Drop, B: Walks, R: Rng, F: FaultSink>(
 {
     let mut listener = listener;
     let made = make_routes(alloc).ok();
-    let routes = made.as_ref();
+    let server = Server {
+        alloc,
+        routes: made.as_ref(),
+    };
     let mut calls = IoCalls::none();
     for _ in 0..count {
-        serve_and_tell(
-            alloc,
-            routes,
-            &mut listener,
-            books,
-            source,
-            faults,
-            &mut calls,
-        );
+        serve_and_tell(&server, &mut listener, books, source, faults, &mut calls);
     }
     DONE
 }

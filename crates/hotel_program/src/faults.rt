@@ -1,16 +1,16 @@
 //! Faults of the program and of its calls: what is said of each, where it is said, and its exit status.
 
 ghost use Rattle.std.specs.Prelude.{◌≡◌, ◌≤◌, length};
-ghost use Rattle.hotel_lists.specs.Calls.{NoneForgotten};
-ghost use Rattle.hotel_lists.specs.Bytes.{Writes};
+ghost use Rattle.hotel_streams.specs.Calls.{NoneForgotten};
+ghost use Rattle.hotel_streams.specs.Bytes.{Writes};
 ghost use Rattle.hotel_program.specs.Faults.{table_text, fault_text, fault_status, refused_text};
 ghost use Rattle.hotel_program.specs.Faults.{end_status, IsHeard, Reports};
 
 use crate::statuses::{BROKEN, FAILED};
 use hotel_asks::ValueName;
 use hotel_audit::stopped_text;
-use hotel_lists::{IoCalls, WriteFailed, write_bytes};
 use hotel_rows::{FileFault, OpenFault, TableName};
+use hotel_streams::{IoCalls, WriteFailed, write_bytes};
 use keycard_rules::{LookFault, ShortText};
 use std::io::Write;
 
@@ -77,7 +77,7 @@ fn table_text(table: TableName) -> &'static [u8]
 }
 
 /// The line of a fault, or of a refused value: at most 43 bytes, the line feed included.
-pub type FaultText = ShortText<43>;
+pub(crate) type FaultText = ShortText<43>;
 
 /// The line of a fault.
 fn fault_text(fault: &Fault) -> FaultText
@@ -132,7 +132,7 @@ fn write_fault<W: Write>(
 /// Takes the faults that calls tell, and what is said of words that ask for nothing. Each writer is one.
 pub trait FaultSink {
     ghost use Rattle.std.specs.Prelude.{ℕ, List};
-    ghost use Rattle.hotel_lists.specs.Calls.{Calls, NoneForgotten};
+    ghost use Rattle.hotel_streams.specs.Calls.{Calls, NoneForgotten};
     ghost use Rattle.hotel_program.specs.declared.faults.Fault.{Fault};
     ghost use Rattle.hotel_program.specs.Faults.{fault_text};
 
@@ -161,12 +161,12 @@ pub trait FaultSink {
 impl<W: Write> FaultSink for W {
     ghost use Rattle.std.specs.Prelude.{◌≡◌, false};
     ghost use Rattle.std.specs.Io.KnownBytes.{Appends};
-    ghost use Rattle.hotel_lists.specs.Bytes.{AppendsFront};
+    ghost use Rattle.hotel_streams.specs.Bytes.{AppendsPrefix};
     ghost use Rattle.hotel_program.specs.Faults.{fault_text};
 
-    ghost told = { λ old fault new. AppendsFront (W.contents old) (W.contents new) (fault_text fault) };
+    ghost told = { λ old fault new. AppendsPrefix (W.contents old) (W.contents new) (fault_text fault) };
 
-    ghost shown = { λ old text new. AppendsFront (W.contents old) (W.contents new) text };
+    ghost shown = { λ old text new. AppendsPrefix (W.contents old) (W.contents new) text };
 
     ghost heard = { λ old text calls new. calls.write_failed ≡ false → Appends (W.contents old) (W.contents new) text };
 

@@ -1,16 +1,16 @@
 //! What the program reads of files itself: a seed, and an audit file.
 
 ghost use Rattle.std.specs.Prelude.{◌≡◌, ◌<◌, ◌≤◌, ◌+◌, ◌-◌, length, take, Err, IfOk, IfErr, IfSome};
-ghost use Rattle.hotel_lists.specs.declared.bytes.TheConstants.{READ_BYTES};
-ghost use Rattle.hotel_lists.specs.Calls.{CountsReads, OnErrOf};
-ghost use Rattle.hotel_lists.specs.Reads.{IsFrontUpTo, ReadsWhile};
+ghost use Rattle.hotel_streams.specs.declared.bytes.TheConstants.{READ_BYTES};
+ghost use Rattle.hotel_streams.specs.Calls.{CountsReads, OnErrOf};
+ghost use Rattle.hotel_streams.specs.Reads.{IsPrefixUpTo, ReadsWhile};
 ghost use Rattle.hotel_program.specs.Faults.{IsOfReading, IsOfSeed};
 ghost use Rattle.hotel_program.specs.Files.{read_fault};
 ghost use Rattle.hotel_program.specs.declared.faults.Fault.TheVariants.{File, Seed};
 
 use crate::faults::Fault;
 use hotel_audit::AUDIT_BYTES;
-use hotel_lists::{IoCalls, ReadFault, read_front};
+use hotel_streams::{IoCalls, ReadFault, read_prefix};
 use std::alloc::Global;
 use std::io::Read;
 
@@ -40,7 +40,7 @@ pub fn seed_in<R: Read>(
     ensures which { IfErr result IsOfSeed }
     ensures counted { CountsReads calls.old calls.new (OnErrOf result File) }
 {
-    match read_front(alloc, reader, SEED_BYTES - 1, calls) {
+    match read_prefix(alloc, reader, SEED_BYTES - 1, calls) {
         Ok(bytes) => match bytes.as_slice().first_chunk::<SEED_BYTES>() {
             Some(seed) => Ok(*seed),
             None => Err(Fault::Seed),
@@ -56,13 +56,13 @@ pub fn audit_file_in<R: Read>(
     reader: &mut R,
     calls: &mut IoCalls,
 ) -> Result<Vec<u8>, Fault>
-    ensures bytes { IfOk result (λ bytes. IfSome (R.remaining reader.old) (IsFrontUpTo AUDIT_BYTES bytes.items)) }
+    ensures bytes { IfOk result (λ bytes. IfSome (R.remaining reader.old) (IsPrefixUpTo AUDIT_BYTES bytes.items)) }
     ensures few { IfOk result (λ bytes. length bytes.items ≤ AUDIT_BYTES + READ_BYTES) }
     ensures wanted { ReadsWhile (λ came. length came ≤ AUDIT_BYTES) (R.remaining reader.old) (R.remaining reader.new) }
     ensures which { IfErr result IsOfReading }
     ensures counted { CountsReads calls.old calls.new (OnErrOf result File) }
 {
-    match read_front(alloc, reader, AUDIT_BYTES, calls) {
+    match read_prefix(alloc, reader, AUDIT_BYTES, calls) {
         Ok(bytes) => Ok(bytes),
         Err(why) => Err(read_fault(why)),
     }

@@ -33,8 +33,8 @@ pub use connections::serve_connections;
 pub use faults::{Fault, FaultSink};
 pub use files::{SEED_BYTES, audit_file_in, seed_in};
 pub use hotel_asks::{ListAsk, ValueName};
-pub use hotel_lists::IoCalls;
 pub use hotel_rows::{FileFault, OpenFault, TableName};
+pub use hotel_streams::IoCalls;
 pub use laws::{
     scripts_happen, servers_follow, shut_script_answers_nothing, shut_server_answers_nothing,
 };

@@ -3,7 +3,7 @@
 ghost use Rattle.std.specs.Prelude.{◌≡◌, ◌≢◌, Result, codes, map, string_bytes};
 ghost use Rattle.std.specs.IoError.{error_kind};
 ghost use Rattle.std.specs.Result.{result_map_both};
-ghost use Rattle.hotel_lists.specs.Calls.{CountsCalls, OnErrOf};
+ghost use Rattle.hotel_streams.specs.Calls.{CountsCalls, OnErrOf};
 ghost use Rattle.hotel_program.specs.declared.faults.Fault.TheVariants.{Memory, Read, Write};
 ghost use Rattle.hotel_program.specs.declared.script.ScriptEnd.{ScriptEnd};
 ghost use Rattle.hotel_program.specs.declared.script.ScriptFault.{ScriptFault};
@@ -20,7 +20,7 @@ use crate::script::run_script_by;
 use crate::statuses::{DONE, USAGE};
 use crate::surroundings::{Databases, Surroundings};
 use hotel_core::{Books, ListBooks, Walks};
-use hotel_lists::{IoCalls, WriteFailed, write_bytes};
+use hotel_streams::{IoCalls, WriteFailed, write_bytes};
 use keycard_rules::Kept;
 use rand_chacha::ChaCha20Rng;
 use rand_core::SeedableRng;

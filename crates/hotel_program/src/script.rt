@@ -1,7 +1,7 @@
 //! Scripts: lines of commands and lists, each answered before the next.
 
 ghost use Rattle.std.specs.Prelude.{◌≡◌, ◌≤◌, length, take, Some, IfOk, OnOk, OnErr};
-ghost use Rattle.hotel_lists.specs.{Calls.CountsCalls, Calls.CountsWrites, Calls.OnErrOf, Reads.ReadsWhile};
+ghost use Rattle.hotel_streams.specs.{Calls.CountsCalls, Calls.CountsWrites, Calls.OnErrOf, Reads.ReadsWhile};
 ghost use Rattle.hotel_program.specs.declared.script.ScriptFault.TheVariants.{Read};
 ghost use Rattle.hotel_program.specs.Script.Lines.{answered_lines};
 ghost use Rattle.hotel_program.specs.Script.WholeScript.{IfCut, IfUnbegun, LinesAnswered, LinesCut, ScriptRan};
@@ -17,7 +17,7 @@ mod words;
 use crate::script::line_answers::answer_line;
 use crate::script::lines::{first_line, is_silent, without_return};
 use hotel_core::Walks;
-use hotel_lists::{IoCalls, WholeFault, read_whole};
+use hotel_streams::{IoCalls, WholeFault, read_whole};
 use rand_core::Rng;
 use std::alloc::Global;
 use std::error::Error;
@@ -25,7 +25,7 @@ use std::fmt;
 use std::io::{Read, Write};
 
 /// The most bytes of a script.
-pub const SCRIPT_LIMIT: usize = 1_048_576;
+pub(crate) const SCRIPT_LIMIT: usize = 1_048_576;
 
 /// A script whose lines were all answered.
 #[derive(Clone, Copy, Debug, PartialEq, Eq)]
@@ -46,7 +46,7 @@ pub enum ScriptFault {
     /// A write failed.
     Write {
         /// How many lines were carried out, at least one. The answers of those before the last one were
-        /// written whole; of the last one's answer a front was.
+        /// written whole; of the last one's answer a prefix was.
         done: u32,
     },
 }

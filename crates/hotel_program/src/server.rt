@@ -1,7 +1,7 @@
 //! Connections on a port of the loopback address.
 
 ghost use Rattle.std.specs.Prelude.{◌++◌, codes};
-ghost use Rattle.hotel_lists.specs.Bytes.{Writes};
+ghost use Rattle.hotel_streams.specs.Bytes.{Writes};
 ghost use Rattle.hotel_program.specs.Acts.{ServeEnds, listening_text};
 ghost use Rattle.hotel_program.specs.Connections.{sockets};
 
@@ -9,7 +9,7 @@ use crate::connections::serve_connections;
 use crate::faults::{Fault, FaultSink, finish};
 use crate::surroundings::Surroundings;
 use hotel_core::Walks;
-use hotel_lists::{IoCalls, WriteFailed, write_parts};
+use hotel_streams::{IoCalls, WriteFailed, write_parts};
 use rand_core::Rng;
 use std::alloc::Global;
 use std::io::Write;

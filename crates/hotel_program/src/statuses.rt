@@ -6,19 +6,19 @@ ghost use Rattle.hotel_program.specs.Statuses.{exit_of_reply};
 use hotel_core::{Refusal, Reply};
 
 /// What was asked is done.
-pub const DONE: u8 = 0;
+pub(crate) const DONE: u8 = 0;
 
 /// The program was given words that it doesn't take.
-pub const USAGE: u8 = 2;
+pub(crate) const USAGE: u8 = 2;
 
 /// The answer is a refusal, or an audit file has a line that is unread or refused.
-pub const REFUSED: u8 = 3;
+pub(crate) const REFUSED: u8 = 3;
 
 /// Memory was refused, or a call of the store failed.
-pub const FAILED: u8 = 4;
+pub(crate) const FAILED: u8 = 4;
 
 /// Input or output went wrong.
-pub const BROKEN: u8 = 5;
+pub(crate) const BROKEN: u8 = 5;
 
 /// The exit status of a reply.
 pub fn status_of(reply: &Reply) -> u8

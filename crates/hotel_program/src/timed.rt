@@ -15,17 +15,17 @@ use std::time::{Duration, Instant};
 
 /// How many nanoseconds the first byte of a connection may take to come: one second. Browsers open connections ahead,
 /// and send nothing over them.
-pub const FIRST_PATIENCE: u64 = 1_000_000_000;
+pub(crate) const FIRST_PATIENCE: u64 = 1_000_000_000;
 
 /// How many nanoseconds all the reads of a connection behind its first byte may take together, and as many all its
 /// writes: ten seconds.
-pub const PATIENCE: u64 = 10_000_000_000;
+pub(crate) const PATIENCE: u64 = 10_000_000_000;
 
 /// How many nanoseconds one read may take of what comes behind an answer: one second.
-pub const SILENCE: u64 = 1_000_000_000;
+pub(crate) const SILENCE: u64 = 1_000_000_000;
 
 /// How many bytes are thrown away of what comes behind an answer, until no more are read.
-pub const REST_BYTES: usize = 1_000_000;
+pub(crate) const REST_BYTES: usize = 1_000_000;
 
 /// How many of them are read at once.
 const ROOM_BYTES: usize = 4096;
@@ -140,7 +140,7 @@ fn read_rest<S, L: Caller<S>>(
 
 /// A connection and its callers as they began, for proofs alone: who serves one picks it. It ties what generic code
 /// leaves of a reader or writer to what that began with.
-pub trait Begun<S, L> {
+pub(crate) trait Begun<S, L> {
     ghost stream: { Option S };
 
     /// The caller that reads the connection.
@@ -161,14 +161,15 @@ impl<S, L> Begun<S, L> for Brand {
 /// A connection that is read: its first byte has one second, and all reads behind it together have ten, whatever pieces
 /// come in.
 #[derive(Drop)]
-pub struct TimedReader<'s, S, L: Caller<S>, K: Begun<S, L>> {
+pub(crate) struct TimedReader<'s, S, L: Caller<S>, K: Begun<S, L>> {
     stream: &'s S,
     caller: L,
     left: Duration,
     /// No byte has come.
     waits: bool,
     begun: PhantomData<K>,
-    ghost timed: { ∥ ReadSince L.Caller K.stream K.reads stream.now
+    ghost of: { K.stream ≡ Some stream.now },
+    ghost timed: { ∥ ReadSince L.Caller K.reads stream.now
         (record { caller = caller; left = as_nanos left; waits = waits }) ∥₁ },
 }
 
@@ -258,12 +259,13 @@ impl<'s, S, L: Caller<S>, K: Begun<S, L>> Read for TimedReader<'s, S, L, K> {
 
 /// A connection that is written to: all its writes together have ten seconds, whatever the peer takes at once.
 #[derive(Drop)]
-pub struct TimedWriter<'s, S, L: Caller<S>, K: Begun<S, L>> {
+pub(crate) struct TimedWriter<'s, S, L: Caller<S>, K: Begun<S, L>> {
     stream: &'s S,
     caller: L,
     left: Duration,
     begun: PhantomData<K>,
-    ghost timed: { ∥ WrittenSince L.Caller K.stream K.writes stream.now (caller, as_nanos left) ∥₁ },
+    ghost of: { K.stream ≡ Some stream.now },
+    ghost timed: { ∥ WrittenSince L.Caller K.writes stream.now (caller, as_nanos left) ∥₁ },
 }
 
 impl<'s, S, L: Caller<S>, K: Begun<S, L>> TimedWriter<'s, S, L, K> {

@@ -26,6 +26,7 @@ use Rattle.hotel_rows.specs.Stored.{number_of, room_row, stay_row, kind_text, ro
 use Rattle.hotel_rows.specs.RowTests.{is_room_of_kind, has_night}
 use Rattle.hotel_rows.specs.Counts.{IsCountedOf, KnowsKinds, names_kind}
 pub mod Countable
+pub mod Untold
 
 pub counted_rooms : (kind : List ℕ) (ls : List PlainRoom) → count_by (is_room_of_kind kind) ls
     ≡ count_by (λ (row : RoomRow). bytes_eq row.kind kind) (values_of (map room_entry ls))

@@ -1,4 +1,5 @@
 pub mod Rising
+pub mod NumberedRise
 pub mod InTurn
 pub mod FoundKeys
 pub mod KindTexts

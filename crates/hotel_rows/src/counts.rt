@@ -1,22 +1,22 @@
 //! The rooms of each kind and the nights of the stays, counted from the rows of the tables.
-ghost use Rattle.std.specs.Prelude.{◌≡◌, ◌+◌, ◌-◌, ◌^◌, ◌≤◌, List, ℕ, None, true, false, map, string_bytes, IfOk, OnOk};
+ghost use Rattle.std.specs.Prelude.{◌≡◌, ◌+◌, ◌-◌, ◌^◌, ◌<◌, ◌≤◌, List, ℕ, None, true, false, map, string_bytes};
+ghost use Rattle.std.specs.Prelude.{IfOk, OnOk};
 ghost use Rattle.std.specs.Result.{IfErr};
 ghost use Rattle.std.specs.List.{list_all, count_by};
 ghost use Rattle.std.specs.Map.{keys_of, values_of};
 ghost use Rattle.keycard_rules.specs.declared.issued.LookFault.TheVariants.{Store};
-ghost use Rattle.hotel_nights.specs.Block.{one_if};
+ghost use Rattle.hotel_nights.specs.{Block.one_if, FullNight.takes};
 ghost use Rattle.hotel_nights.specs.Kinds.{is_kind};
 ghost use Rattle.hotel_core.specs.KindRooms.{is_there, rooms_in};
-ghost use Rattle.hotel_core.specs.NightIndex.{CountsNights};
+ghost use Rattle.hotel_core.specs.NightIndex.{CountsNights, counted};
 ghost use Rattle.hotel_rows.specs.Stored.{kind_text, stay_row, stay_entry};
 ghost use Rattle.hotel_rows.specs.RowTests.{is_room_of_kind};
 ghost use Rattle.hotel_rows.specs.Counts.{IsCountedOf, KnowsKinds, are_rooms_of, tells_stay};
 
 use crate::damage::numbers::{number, number_if};
 use crate::stored::{PlainKind, PlainRoom, PlainStay, Stored};
-use crate::values::{counted, day, guest, kind_code, stay_state};
+use crate::values::{day, kind_code, stay_state};
 use hotel_core::{KindRooms, NightIndex};
-use hotel_nights::Stay;
 use keycard_rules::{LookFault, Memory};
 use std::alloc::Global;
 
@@ -27,19 +27,23 @@ pub struct Counts {
     pub nights: NightIndex,
 }
 
-/// A row of the table of stays, as a stay.
-fn stay_of(alloc: Global, plain: &PlainStay) -> Result<Stay, LookFault>
-    ensures ok { IfOk result (λ stay. stay ≡ stay_row plain.now) }
+/// One more row of the table of stays is counted at the nights that it takes.
+fn count_stay(nights: &mut NightIndex, plain: &PlainStay) -> Result<(), LookFault>
+    ensures ok { OnOk result ((kind : List ℕ) (d : ℕ) → counted nights.old kind d < 2 ^ 63
+        → counted nights.new kind d ≡ counted nights.old kind d + one_if (takes kind d (stay_row plain.now))) }
     ensures err { IfErr result (λ why. why ≡ Store → tells_stay plain.now ≡ false) }
 {
-    Ok(Stay {
-        party: counted(number(plain.party))?,
-        guest: guest(alloc, plain.guest.as_str())?,
-        kind: kind_code(plain.kind.as_str())?,
-        arrive: day(number(plain.arrive))?,
-        depart: day(number(plain.depart))?,
-        state: stay_state(number(plain.state), number_if(plain.room))?,
-    })
+    let state = stay_state(number(plain.state), number_if(plain.room))?;
+    if !state.is_standing() {
+        return Ok(());
+    }
+    let kind = kind_code(plain.kind.as_str())?;
+    let arrive = day(number(plain.arrive))?;
+    let depart = day(number(plain.depart))?;
+    match nights.add_span(&kind, arrive, depart) {
+        Ok(()) => Ok(()),
+        Err(_) => Err(LookFault::Memory),
+    }
 }
 
 /// The kinds, with no rooms.
@@ -103,10 +107,7 @@ fn count_nights(alloc: Global, stored: &Stored) -> Result<NightIndex, LookFault>
 {
     let mut nights = NightIndex::empty(alloc);
     for i in 0..stored.stay.len() {
-        let stay = stay_of(alloc, &stored.stay[i])?;
-        let Ok(()) = nights.add(&stay) else {
-            return Err(LookFault::Memory);
-        };
+        count_stay(&mut nights, &stored.stay[i])?;
     }
     Ok(nights)
 }

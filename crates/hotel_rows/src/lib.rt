@@ -6,9 +6,10 @@
 //!   the fits of their rooms.
 //! - src/damage, specs/Damage: the rules of sound rows as tests, table by table. RowTests: tests of a row alone. Keys,
 //!   Places, Known: where rows stand. NoteRuns, FitRuns, CodePlaces: each room's notes, fits and codes. LastCards: each
-//!   party's last card. LinkOwners: whose cards are.
+//!   party's last card. LinkOwners: the party that was given the cards of a link.
 //! - src/counts and rooms, specs/Counts: what books keep in memory of the rows. src/values: columns as values.
-//! - src/open_fault: why a store, or a file, gives no books.
+//! - src/open_fault: why a database, or a file, gives no books. It stands here, since a damaged table is such a reason,
+//!   and `hotel_program`, which knows no database, reports it.
 #![tactic(auto)]
 
 mod counts;

@@ -132,7 +132,7 @@ impl RoomNow {
 }
 
 /// The texts of answers, numbered from 1.
-fn texts_of(alloc: Global, answers: &[LineAnswer]) -> Result<Vec<u8>, Fail> {
+fn answer_texts(alloc: Global, answers: &[LineAnswer]) -> Result<Vec<u8>, Fail> {
     let mut texts = Vec::new(alloc);
     let mut number = 0usize;
     for answer in answers {
@@ -147,5 +147,5 @@ pub fn answers_to<B: Walks>(alloc: Global, books: &mut B, bytes: &[u8]) -> Resul
     let Ok(answers) = import(alloc, books, bytes) else {
         return Err(Fail::from("stopped"));
     };
-    texts_of(alloc, answers.as_slice())
+    answer_texts(alloc, answers.as_slice())
 }

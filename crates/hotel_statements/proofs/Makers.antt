@@ -28,7 +28,7 @@ use Rattle.hotel_statements.specs.Schema.{meta_table, kind_table, room_table, st
 use Rattle.hotel_statements.specs.Schema.{inside_table, note_table, fit_table, at_tree, stay_by_room, card_by_party}
 use Rattle.hotel_statements.specs.Schema.{stay_by_arrival}
 use Rattle.hotel_statements.specs.NewDesk.{IsMaker, IsIndexer, HasTable, HasIndex, HasIndexes, HasNew, IsBare}
-use Rattle.hotel_statements.specs.NewDesk.{IfOpenBare, Makes, AddsTable, AddsIndex, AddsIndexes, MakesNew}
+use Rattle.hotel_statements.specs.NewDesk.{IfOpenBare, MakesTable, AddsTable, AddsIndex, AddsIndexes, MakesNew}
 use Rattle.hotel_statements.specs.NewDesk.{with_meta, with_kind, with_room, with_stay, with_code}
 use Rattle.hotel_statements.specs.NewDesk.{with_card, with_inside, with_note}
 use Rattle.hotel_statements.specs.Statements.{Statement, MakesBy, index_text, makes_index, makes_indexes}
@@ -310,14 +310,14 @@ module _ {S : Type 0} {g : Ghosts S} {text : List ℕ} {schema : Schema} {t : Ta
     (maker : IsMaker schema text t) where
   -- a first table
   pub bare_first : {one : List Statement} {a : Held S} {r : Result (Unit {0}) Error}
-      → MakesBy g one (λ old new. Makes text old new × AddsTable text old new) a b r
+      → MakesBy g one (λ old new. MakesTable text old new × AddsTable text old new) a b r
       → MakesBy g one (IfOpenBare schema (created schema t)) a b r
   bare_first it = made_as (λ made. made.0 schema t maker) it
 
   -- and another one
   pub bare_then : {before : Schema} {one two : List Statement} {a c : Held S} {u : Unit {0}}
       {r : Result (Unit {0}) Error} → MakesBy g one (IfOpenBare before schema) a b (Ok u)
-      → MakesBy g two (λ old new. Makes text old new × AddsTable text old new) b c r
+      → MakesBy g two (λ old new. MakesTable text old new × AddsTable text old new) b c r
       → MakesBy g (one ++ two) (IfOpenBare before (created schema t)) a c r
   bare_then it more = made_then (λ bare made had. made.0 schema t maker (λ _. bare had)) it more
 

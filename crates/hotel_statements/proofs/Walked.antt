@@ -27,7 +27,7 @@ use Rattle.keycard_rules.specs.declared.issued.LookFault.TheVariants as look
 use Rattle.hotel_core.specs.declared.books.walks.WalkFault.{WalkFault}
 use Rattle.hotel_core.specs.declared.books.walks.WalkFault.TheVariants as why
 use Rattle.keycard_rules.specs.Calls.{Passes}
-use Rattle.hotel_core.specs.Books.Walks.{TakesFront, Hands, failure_of}
+use Rattle.hotel_core.specs.Books.Walks.{TakesPrefix, Hands, failure_of}
 use Rattle.hotel_core.proofs.OfCode.Walking.{one_more, all_taken}
 use Rattle.hotel_statements.specs.declared.walk.TheConstants.{MOST_ROWS}
 use Rattle.hotel_statements.specs.Schema.{desk_schema}
@@ -52,18 +52,18 @@ clean_or_not s = go s.is_clean
 pub chosen : {A : Type 0} (s : State) (taken rows : List A)
     → (HasCleanDisk s → (rest : List A) × (rows ≡ taken ++ rest))
     → (rest : List A) × (HasCleanDisk s → taken ++ rest ≡ rows)
-chosen s taken rows front = elim (clean_or_not s) [
-  | inl clean ↦ let it = front clean in (it.0, λ _. sym it.1)
+chosen s taken rows prefix = elim (clean_or_not s) [
+  | inl clean ↦ let it = prefix clean in (it.0, λ _. sym it.1)
   | inr other ↦ ([], λ clean. absurd (other clean))
 ]
 
 -- what a failed walk handed over
 pub failed_walk : {S A : Type 0} (after after_stop : S → A → S → Type 0) (rows : List A) (sink end : S)
     (fault : WalkFault) (cause : LookFault) → failure_of (Err fault) ≡ Some cause
-    → TakesFront after rows sink end → Hands after after_stop rows sink end (Err fault)
-failed_walk after after_stop rows sink end why.Memory cause is front = front
-failed_walk after after_stop rows sink end why.Store cause is front = front
-failed_walk after after_stop rows sink end why.Stopped cause is front = absurd cc
+    → TakesPrefix after rows sink end → Hands after after_stop rows sink end (Err fault)
+failed_walk after after_stop rows sink end why.Memory cause is prefix = prefix
+failed_walk after after_stop rows sink end why.Store cause is prefix = prefix
+failed_walk after after_stop rows sink end why.Stopped cause is prefix = absurd cc
 
 store_fault : (fault : WalkFault) → failure_of (Err fault) ≡ Some look.Store → fault ≡ why.Store
 store_fault why.Memory is = absurd (let k = is in cc)
@@ -179,10 +179,10 @@ module _ {S A K : Type 0} (g : Ghosts S) (of : Row → A) (IsReadable : Row → 
     }
 
   -- the rows that were taken are a front
-  front : (rows : List A) → SaysRows of text params (state g old) rows
+  prefix : (rows : List A) → SaysRows of text params (state g old) rows
       → (mid : Held S) (now : K) (count : ℕ) (so_far : Walking mid now count)
       → HasCleanDisk (state g mid) → (rest : List A) × (rows ≡ so_far.taken ++ rest)
-  front rows says mid now count so_far clean =
+  prefix rows says mid now count so_far clean =
       let kept : IsKept (state g mid) = (clean, (so_far.unchanged clean).0.is_open) in
       let it = so_far.given kept in
       let more = so_far.keeps kept in
@@ -300,8 +300,8 @@ module _ {S A K : Type 0} (g : Ghosts S) (of : Row → A) (IsReadable : Row → 
           value : A
           value = of row.now
 
-          front : HasCleanDisk (state g new.conn.now) → (rest : List A) × (rows ≡ (so_far.taken ++ value ∷ []) ++ rest)
-          front clean =
+          prefix : HasCleanDisk (state g new.conn.now) → (rest : List A) × (rows ≡ (so_far.taken ++ value ∷ []) ++ rest)
+          prefix clean =
               let kept : IsKept (state g new.conn.now) = (clean, answered_open (Some row) is clean) in
               let it = given_more kept in
               let more = still_keeps kept in
@@ -314,7 +314,7 @@ module _ {S A K : Type 0} (g : Ghosts S) (of : Row → A) (IsReadable : Row → 
               )
 
           rest : (rest : List A) × (HasCleanDisk (state g new.conn.now) → (so_far.taken ++ value ∷ []) ++ rest ≡ rows)
-          rest = chosen (state g new.conn.now) (so_far.taken ++ value ∷ []) rows front
+          rest = chosen (state g new.conn.now) (so_far.taken ++ value ∷ []) rows prefix
 
           are : HasCleanDisk (state g new.conn.now) → so_far.taken ++ value ∷ rest.0 ≡ rows
           are clean = sym (append_assoc so_far.taken (value ∷ []) rest.0) ∙ rest.1 clean
@@ -364,7 +364,7 @@ module _ {S A K : Type 0} (g : Ghosts S) (of : Row → A) (IsReadable : Row → 
         → (fault : WalkFault) → failure_of (Err fault) ≡ Some (fault_of e) → Ends rows new.conn.now now (Err fault)
     broken_off rows says e failed fault is =
         let rest = chosen (state g new.conn.now) so_far.taken rows
-        (λ clean. front rows says mid.conn.now now count so_far (was_clean clean)) in
+        (λ clean. prefix rows says mid.conn.now now count so_far (was_clean clean)) in
         record {
           books = still_books;
           keeps = still_keeps;
@@ -392,7 +392,7 @@ module _ {S A K : Type 0} (g : Ghosts S) (of : Row → A) (IsReadable : Row → 
   pub cut : (mid : Held S) (now : K) (count : ℕ) → MOST_ROWS ≤ count → Walking mid now count → (rows : List A)
       → SaysRows of text params (state g old) rows → Ends rows mid now (Err why.Store)
   cut mid now count many so_far rows says =
-      let rest = chosen (state g mid) so_far.taken rows (front rows says mid now count so_far) in
+      let rest = chosen (state g mid) so_far.taken rows (prefix rows says mid now count so_far) in
       record {
         books = so_far.books;
         keeps = so_far.keeps;

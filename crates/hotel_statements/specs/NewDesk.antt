@@ -73,8 +73,8 @@ abbrev pub IfOpenBare : Schema → Schema → State → State → Type 0
 IfOpenBare before after = IfOpen (IsBare before) (IsBare after)
 
 -- whatever tables are there, the text's table is made
-abbrev pub Makes : List ℕ → State → State → Type 0
-Makes text old new =
+abbrev pub MakesTable : List ℕ → State → State → Type 0
+MakesTable text old new =
     (schema : Schema) (t : Table) → IsMaker schema text t → IfOpen (IsBare schema) (IsBare (created schema t)) old new
 
 -- Within a transaction, a table was made, and no other table's rows changed.

@@ -102,8 +102,8 @@ AreFitRows Second None db = ⊥
 AreFitRows Second (Some fits) db = ArePlainRows fit_columns fit_shown fits.items (db fit_tree)
 
 -- the rows of all tables of a version
-abbrev pub AreRead : Version → WholeTables → Trees → Type 0
-AreRead version t db =
+abbrev pub AreTablesRead : Version → WholeTables → Trees → Type 0
+AreTablesRead version t db =
     AreFirst ((t.meta, t.kinds), (t.rooms, t.stays)) db
     × (AreLast ((t.codes, t.cards), (t.inside, t.notes)) db × AreFitRows version t.fits db)
 

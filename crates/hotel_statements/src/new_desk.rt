@@ -3,7 +3,7 @@ ghost use Rattle.std.specs.Prelude.{◌≡◌, [], ◌∷◌};
 ghost use Rattle.hotel_statements.specs.Schema.{no_schema, desk_schema};
 ghost use Rattle.hotel_statements.specs.Statements.{MakesBy, adds_meta, makes_table, makes_first, makes_new};
 ghost use Rattle.hotel_statements.specs.Statements.{makes_of_locks, makes_last};
-ghost use Rattle.hotel_statements.specs.NewDesk.{IfOpen, IfOpenBare, Makes, AddsTable, MakesNew, IsBare};
+ghost use Rattle.hotel_statements.specs.NewDesk.{IfOpen, IfOpenBare, MakesTable, AddsTable, MakesNew, IsBare};
 ghost use Rattle.hotel_statements.specs.NewDesk.{IsMade, with_stay, with_card, with_note};
 
 use crate::indexes::add_indexes;
@@ -18,7 +18,7 @@ use sqlite::{Alter, Error, Transaction};
 fn make<S: Alter>(tx: &mut Transaction<'_, S>, text: &str) -> Result<(), Error>
     ensures same_reference { tx.new.conn.ghost_name ≡ tx.old.conn.ghost_name }
     ensures makes { MakesBy S.Store (makes_table text.now ∷ [])
-        (λ old new. Makes text.now old new × AddsTable text.now old new) tx.old.conn.now tx.new.conn.now result }
+        (λ old new. MakesTable text.now old new × AddsTable text.now old new) tx.old.conn.now tx.new.conn.now result }
 {
     run(tx, text, &[])
 }

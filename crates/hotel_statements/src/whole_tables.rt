@@ -5,7 +5,7 @@ ghost use Rattle.std.specs.Ordering.{is_lt};
 ghost use Rattle.sqlite.specs.Held.{state};
 ghost use Rattle.hotel_model.specs.SoundRooms.{are_in_order};
 ghost use Rattle.hotel_statements.specs.WholeTables.{IsOurs, IsWhole, ReadsPart, ReadsTo, MayRead};
-ghost use Rattle.hotel_statements.specs.WholeTables.{AreFirst, AreLast, AreFitRows, AreRead};
+ghost use Rattle.hotel_statements.specs.WholeTables.{AreFirst, AreLast, AreFitRows, AreTablesRead};
 ghost use Rattle.hotel_statements.specs.WholeTables.{BeginsAs, TableFails};
 ghost use Rattle.hotel_statements.specs.WholeTables.{FirstFail, LastFail, FitRowsFail};
 ghost use Rattle.hotel_statements.specs.PlainRows.{ArePlainRows};
@@ -196,7 +196,7 @@ pub fn read_tables<S: Alter>(
     version: Version,
 ) -> Result<WholeTables, LookFault>
     requires { IsOurs version (state S.Store conn.old) }
-    ensures { ReadsTo version (AreRead version) (state S.Store conn.old) (state S.Store conn.new) result }
+    ensures { ReadsTo version (AreTablesRead version) (state S.Store conn.old) (state S.Store conn.new) result }
 {
     let first = read_first(alloc, conn, version)?;
     let last = read_last(alloc, conn, version)?;

@@ -22,7 +22,7 @@ use Rattle.hotel_statements.specs.declared.look_ups.RoomCounts.{RoomCounts}
 use Rattle.hotel_statements.specs.Statements.{Statement, RunsStatements}
 use Rattle.hotel_statements.proofs.Since.{unchanged_then}
 use Rattle.hotel_tables.specs.Applied.{known_after, told_for, known_for}
-use Rattle.hotel_tables.specs.Causes.{ToldFails, IsAsked, AsksEnded, AsksTold, FailsToWrite}
+use Rattle.hotel_tables.specs.Causes.{ToldFails, HasLooked, AsksEnded, AsksTold, FailsToWrite}
 use Rattle.hotel_tables.specs.Causes.{MakingFails}
 
 -- ---- look-ups
@@ -126,7 +126,7 @@ module _ {S : Type 0} (g : Ghosts S) where
       told_is (change.Refit room code fit) asks found = found (clean, asks.0.0.is_open)
       told_is (change.Noted note lock_place secured insides) asks found = found (clean, asks.0.0.is_open)
 
-    pub told_asked : (c : Change) → AsksTold g c known old new → (new ≡ old) ⊎ IsAsked g old new
+    pub told_asked : (c : Change) → AsksTold g c known old new → (new ≡ old) ⊎ HasLooked g old new
     told_asked (change.Begin day) asks = inl asks.1
     told_asked (change.DayTo day) asks = inl asks.1
     told_asked (change.Kind kind) asks = inl asks.1
@@ -140,7 +140,7 @@ module _ {S : Type 0} (g : Ghosts S) where
     told_asked (change.Noted note lock_place secured insides) asks = inr asks
 
   module _ (old mid : Held S) where
-    ended_asked : (c : Change) → AsksEnded g c old mid → (mid ≡ old) ⊎ IsAsked g old mid
+    ended_asked : (c : Change) → AsksEnded g c old mid → (mid ≡ old) ⊎ HasLooked g old mid
     ended_asked (change.Begin day) asks = inl asks
     ended_asked (change.DayTo day) asks = inl asks
     ended_asked (change.Kind kind) asks = inl asks
@@ -171,12 +171,12 @@ module _ {S : Type 0} (g : Ghosts S) where
     told_from new (change.Noted note lock_place secured insides) asks fails =
         subst (λ (h : Held S). FitFails note.room note.fit (state g h) (state g new)) asks fails
 
-  pub asked_then : {old mid new : Held S} → (mid ≡ old) ⊎ IsAsked g old mid → (new ≡ mid) ⊎ IsAsked g mid new
-      → (new ≡ old) ⊎ IsAsked g old new
+  pub asked_then : {old mid new : Held S} → (mid ≡ old) ⊎ HasLooked g old mid → (new ≡ mid) ⊎ HasLooked g mid new
+      → (new ≡ old) ⊎ HasLooked g old new
   asked_then (inl same) (inl more) = inl (more ∙ same)
-  asked_then {old = old} {mid = mid} {new = new} (inl same) (inr more) = inr (subst (λ (h : Held S). IsAsked g h new)
+  asked_then {old = old} {mid = mid} {new = new} (inl same) (inr more) = inr (subst (λ (h : Held S). HasLooked g h new)
       same more)
-  asked_then {old = old} {mid = mid} {new = new} (inr asked) (inl more) = inr (subst (λ (h : Held S). IsAsked g old
+  asked_then {old = old} {mid = mid} {new = new} (inr asked) (inl more) = inr (subst (λ (h : Held S). HasLooked g old
       h) (sym more) asked)
   asked_then {old = old} {mid = mid} {new = new} (inr asked) (inr more) =
       let a = state g old in
@@ -189,7 +189,7 @@ module _ {S : Type 0} (g : Ghosts S) where
       none (before, asked.0.0.is_open)) asked.1 more.1 in
       inr (unchanged_then a b c asked.0 asked.1 more.0, crash)
 
-  rows_asked : {old mid : Held S} → (mid ≡ old) ⊎ IsAsked g old mid → (state g mid).now ≡ (state g old).now
+  rows_asked : {old mid : Held S} → (mid ≡ old) ⊎ HasLooked g old mid → (state g mid).now ≡ (state g old).now
   rows_asked (inl same) = ap (λ (h : Held S). (state g h).now) same
   rows_asked (inr asked) = asked.0.0.now_is
 

@@ -35,9 +35,9 @@ use Rattle.hotel_statements.specs.Ready.{IsReady}
 use Rattle.hotel_statements.specs.Walks.{WalksList}
 use Rattle.hotel_statements.specs.Books.{IsKept, IsBooks, KeepsRows}
 use Rattle.hotel_statements.specs.Tables.{rows_in}
-use Rattle.hotel_tables.specs.TableBooks.{Tabled, IsCounted, IsTabled, failed}
+use Rattle.hotel_tables.specs.TableBooks.{Tabled, IsCounted, IsTabled, failed, AsksFirst, HandsOn}
 use Rattle.hotel_tables.specs.{Applied.Applies, Applied.LeavesNothing}
-use Rattle.hotel_tables.specs.Causes.{IsAsked, LookFails, LookUpFails, OnceReady, TablesFail, of_day}
+use Rattle.hotel_tables.specs.Causes.{HasLooked, LookFails, LookUpFails, OnceReady, ChangingFails, of_day}
 use Rattle.hotel_tables.proofs.Causes.{asked_then, looked}
 
 -- what an answer says where the state was honest, by what it says where that was clean
@@ -146,110 +146,110 @@ module _ {S : Type 0} (g : Ghosts S) (inside self : Tabled S) (same : inside ≡
       by_cause why.Store = refl
 
   -- and its answer is counted, which leaves new ones
-  module _ (new : Tabled S) (at : new.conn ≡ conn) (no_fewer : NoFewer (failed called) (failed new)) where
+  module _ {A : Type 0} {told : Option LookFault} {answer result : A} (new : Tabled S)
+      (end : HandsOn told answer result called new) where
     -- what is known of the connection as the books have it, before and after
     pub at_books : (P : Held S → Held S → Type 0) → P inside.conn conn → P self.conn new.conn
     at_books P p =
-        subst (λ (b : Tabled S). P b.conn new.conn) same (subst (λ (c : Held S). P inside.conn c) (sym at) p)
+        subst (λ (b : Tabled S). P b.conn new.conn) same (subst (λ (c : Held S). P inside.conn c) (sym end.conn) p)
 
     pub none_fewer : NoFewer (failed self) (failed new)
-    none_fewer cause = subst (λ n. n ≤ failed new cause) (same_counts cause) (no_fewer cause)
+    none_fewer cause = subst (λ n. n ≤ failed new cause) (same_counts cause) (end.no_fewer cause)
 
-    pub counts_of : (told : Option LookFault) → Counts (λ cause. one_of cause told) (failed called) (failed new)
-        → Counts (λ cause. one_of cause told) (failed self) (failed new)
-    counts_of told counted cause =
-        subst (λ n. failed new cause ≡ counted_on (one_of cause told) n) (same_counts cause) (counted cause)
+    pub counts_of : Counts (λ cause. one_of cause told) (failed self) (failed new)
+    counts_of cause =
+        subst (λ n. failed new cause ≡ counted_on (one_of cause told) n) (same_counts cause) (end.counted cause)
 
-    -- a look-up
-    pub look_up_counted : {A R : Type 0} {takes_memory : Bool} {said : R → A} {wanted : Rows → A}
-        {Fails : State → State → Type 0} {answer result : Result R LookFault}
-        → (HasCleanDisk (state g self.conn) → IsTrue (state g self.conn).is_open)
-        → ((old later : State) → Fails old later → LookUpFails old later)
-        → LooksUpTables Fails said wanted (state g inside.conn) (state g conn) answer → result ≡ answer
-        → Counts (λ cause. one_of cause (told_by result)) (failed called) (failed new)
-        → LooksUpBooks (over_tables g) takes_memory said (wanted (rows_in (state g self.conn).now.trees)) self new
-        result
-    look_up_counted {A = A} {R = R} {said = said} {wanted = wanted} {Fails = Fails} {answer = answer} {result = result}
-        ready more looks is counted =
-        let old = state g self.conn in
-        let later = state g new.conn in
-        let looked_up : LooksUpTables Fails said wanted old later result =
-        subst (λ (r : Result R LookFault). LooksUpTables Fails said wanted old later r) (sym is)
-        (at_books (λ a b. LooksUpTables Fails said wanted (state g a) (state g b) answer) looks) in
-        record {
-          answer = λ honest. answered _ result honest (looked_up.open_on tt honest) looked_up.found;
-          looks = record {
-            leaves = leaves_over g self new (told_by result) (λ kept. (looked_up.keeps kept).0)
-                (λ honest. vouches result (looked_up.open_on tt honest)) looked_up.crash none_fewer
-                (λ _. counts_of (told_by result) counted);
-            rose = counts_rise (told_by result) (failed self) (failed new) (counts_of (told_by result) counted);
-            kept = λ kept. ap (λ (d : Database). rows_in d.trees) (looked_up.keeps kept).1;
-            cause = λ honest store. inr (
-              self.conn,
-              inl refl,
-              of_told result
-                  (looked Fails LookUpFails old later result result refl (more old later) looked_up.cause honest) store,
-            );
-            stop = none_left old later ready looked_up.crash;
-            sure = λ never. absurd never;
-          };
-        }
+  -- a look-up
+  pub look_up_counted : {A R : Type 0} {takes_memory : Bool} {said : R → A} {wanted : Rows → A}
+      {Fails : State → State → Type 0} {answer result : Result R LookFault} (new : Tabled S)
+      → (HasCleanDisk (state g self.conn) → IsTrue (state g self.conn).is_open)
+      → ((old later : State) → Fails old later → LookUpFails old later)
+      → HandsOn (told_by result) answer result called new
+      → LooksUpTables Fails said wanted (state g inside.conn) (state g conn) answer
+      → LooksUpBooks (over_tables g) takes_memory said (wanted (rows_in (state g self.conn).now.trees)) self new
+      result
+  look_up_counted {R = R} {said = said} {wanted = wanted} {Fails = Fails} {answer = answer} {result = result} new ready
+      more end looks =
+      let old = state g self.conn in
+      let later = state g new.conn in
+      let looked_up : LooksUpTables Fails said wanted old later result =
+      subst (λ (r : Result R LookFault). LooksUpTables Fails said wanted old later r) (sym end.same)
+      (at_books new end (λ a b. LooksUpTables Fails said wanted (state g a) (state g b) answer) looks) in
+      record {
+        answer = λ honest. answered _ result honest (looked_up.open_on tt honest) looked_up.found;
+        looks = record {
+          leaves = leaves_over g self new (told_by result) (λ kept. (looked_up.keeps kept).0)
+              (λ honest. vouches result (looked_up.open_on tt honest)) looked_up.crash (none_fewer new end)
+              (λ _. counts_of new end);
+          rose = counts_rise (told_by result) (failed self) (failed new) (counts_of new end);
+          kept = λ kept. ap (λ (d : Database). rows_in d.trees) (looked_up.keeps kept).1;
+          cause = λ honest store. inr (
+            self.conn,
+            inl refl,
+            of_told result
+                (looked Fails LookUpFails old later result result refl (more old later) looked_up.cause honest) store,
+          );
+          stop = none_left old later ready looked_up.crash;
+          sure = λ never. absurd never;
+        };
+      }
 
-    -- a walk
-    pub walk_counted : {K R : Type 0} {takes_memory : Bool} {after after_stop : K → R → K → Type 0}
-        {Fails : State → State → Type 0} {sink end : K} {walked result : Result (Unit {0}) WalkFault}
-        (list : Rows → List R)
-        → (HasCleanDisk (state g self.conn) → IsTrue (state g self.conn).is_open)
-        → ((old later : State) → Fails old later → LookUpFails old later)
-        → WalksList Fails after after_stop list (state g inside.conn) (state g conn) sink end walked → result ≡ walked
-        → Counts (λ cause. one_of cause (failure_of result)) (failed called) (failed new)
-        → WalksOver (over_tables g) takes_memory after after_stop (list (rows_in (state g self.conn).now.trees)) self
-        new sink end result
-    walk_counted {after = after} {after_stop = after_stop} {Fails = Fails} {sink = sink} {end = end} {walked = walked}
-        {result = result} list ready more walks is counted =
-        let old = state g self.conn in
-        let later = state g new.conn in
-        let walked_over : WalksList Fails after after_stop list old later sink end result =
-        subst (λ (r : Result (Unit {0}) WalkFault). WalksList Fails after after_stop list old later sink end r) (sym is)
-        (at_books (λ a b. WalksList Fails after after_stop list (state g a) (state g b) sink end walked) walks) in
-        record {
-          hands = walked_over.hands;
-          looks = record {
-            leaves = leaves_over g self new (failure_of result) (λ kept. (walked_over.keeps kept).0)
-                walked_over.open_on walked_over.crash none_fewer (λ _. counts_of (failure_of result) counted);
-            rose = counts_rise (failure_of result) (failed self) (failed new) (counts_of (failure_of result) counted);
-            kept = λ kept. ap (λ (d : Database). rows_in d.trees) (walked_over.keeps kept).1;
-            cause = λ honest store. inr (self.conn, inl refl, more old later (walked_over.cause honest store));
-            stop = none_left old later ready walked_over.crash;
-            sure = λ never. absurd never;
-          };
-        }
+  -- a walk
+  pub walk_counted : {K R : Type 0} {takes_memory : Bool} {after after_stop : K → R → K → Type 0}
+      {Fails : State → State → Type 0} {sink last : K} {answer result : Result (Unit {0}) WalkFault} (new : Tabled S)
+      (list : Rows → List R) → (HasCleanDisk (state g self.conn) → IsTrue (state g self.conn).is_open)
+      → ((old later : State) → Fails old later → LookUpFails old later)
+      → HandsOn (failure_of result) answer result called new
+      → WalksList Fails after after_stop list (state g inside.conn) (state g conn) sink last answer
+      → WalksOver (over_tables g) takes_memory after after_stop (list (rows_in (state g self.conn).now.trees)) self
+      new sink last result
+  walk_counted {after = after} {after_stop = after_stop} {Fails = Fails} {sink = sink} {last = last} {answer = answer}
+      {result = result} new list ready more end walks =
+      let old = state g self.conn in
+      let later = state g new.conn in
+      let walked_over : WalksList Fails after after_stop list old later sink last result =
+      subst (λ (r : Result (Unit {0}) WalkFault). WalksList Fails after after_stop list old later sink last r)
+      (sym end.same)
+      (at_books new end (λ a b. WalksList Fails after after_stop list (state g a) (state g b) sink last answer)
+      walks) in
+      record {
+        hands = walked_over.hands;
+        looks = record {
+          leaves = leaves_over g self new (failure_of result) (λ kept. (walked_over.keeps kept).0)
+              walked_over.open_on walked_over.crash (none_fewer new end) (λ _. counts_of new end);
+          rose = counts_rise (failure_of result) (failed self) (failed new) (counts_of new end);
+          kept = λ kept. ap (λ (d : Database). rows_in d.trees) (walked_over.keeps kept).1;
+          cause = λ honest store. inr (self.conn, inl refl, more old later (walked_over.cause honest store));
+          stop = none_left old later ready walked_over.crash;
+          sure = λ never. absurd never;
+        };
+      }
 
 -- Books that were asked in vain whether their connection answers: a call hands the failure over.
-module _ {S : Type 0} (g : Ghosts S) (old new : Tabled S) (cause : LookFault)
-    (ready : IsReady (state g old.conn) (state g new.conn) (Err cause)) (no_fewer : NoFewer (failed old) (failed new))
-    (counted : Counts (λ other. one_of other (Some cause)) (failed old) (failed new)) where
+module _ {S : Type 0} (g : Ghosts S) {old new : Tabled S} {cause : LookFault}
+    (asked : AsksFirst g old new (Err cause)) where
   pub vain_leaves : Leaves (over_tables g) old (Some cause) new
   vain_leaves =
-      leaves_over g old new (Some cause) (λ kept. (ready.keeps kept).0) (λ honest none. cc) ready.crash no_fewer
-      (λ _. counted)
+      leaves_over g old new (Some cause) (λ kept. (asked.ready.keeps kept).0) (λ honest none. cc) asked.ready.crash
+      asked.no_fewer (λ _. asked.counted)
 
   pub vain_fails : (Fails : Held S → Held S → Type 0) → HasCleanDisk (state g new.conn)
       → Some cause ≡ Some why.Store → OnceReady g Fails old.conn new.conn
   vain_fails Fails honest store =
-      inl (ready.cause honest (λ memory. let no : why.Memory ≡ why.Store = sym memory ∙ only store in cc))
+      inl (asked.ready.cause honest (λ memory. let no : why.Memory ≡ why.Store = sym memory ∙ only store in cc))
 
   pub vain_change : (change : Change) → Survives (state g old.conn) (state g new.conn)
       (λ db. IsKept (state g old.conn) × IsMadeOf (made change) (state g old.conn).now.trees db)
-  vain_change change = survives_weaker _ _ _ _ (λ _ db no. absurd no) ready.crash
+  vain_change change = survives_weaker _ _ _ _ (λ _ db no. absurd no) asked.ready.crash
 
   pub vain_looks : {takes_memory : Bool} → Looks (over_tables g) takes_memory old (Some cause) new
   vain_looks = record {
     leaves = vain_leaves;
-    rose = counts_rise (Some cause) (failed old) (failed new) counted;
-    kept = λ kept. ap (λ (d : Database). rows_in d.trees) (ready.keeps kept).1;
+    rose = counts_rise (Some cause) (failed old) (failed new) asked.counted;
+    kept = λ kept. ap (λ (d : Database). rows_in d.trees) (asked.ready.keeps kept).1;
     cause = vain_fails (λ a b. LookUpFails (state g a) (state g b));
-    stop = ready.crash;
+    stop = asked.ready.crash;
     sure = λ never. absurd never;
   }
 
@@ -281,38 +281,37 @@ module _ {S : Type 0} (g : Ghosts S) (old new : Tabled S) (cause : LookFault)
       none_taken walk.Store told = ([], rows, refl, refl)
 
 -- Books whose connection answered when they were asked, and a call after that.
-module _ {S : Type 0} (g : Ghosts S) (old mid new : Tabled S) (u : Unit {0})
-    (ready : IsReady (state g old.conn) (state g mid.conn) (Ok u)) (no_fewer : NoFewer (failed old) (failed mid))
-    (none : Counts (λ other. one_of other None) (failed old) (failed mid)) where
+module _ {S : Type 0} (g : Ghosts S) {old mid : Tabled S} (new : Tabled S) {u : Unit {0}}
+    (asked : AsksFirst g old mid (Ok u)) where
   -- the rows are those of before
   pub ready_rows : HasCleanDisk (state g mid.conn)
       → rows_in (state g mid.conn).now.trees ≡ rows_in (state g old.conn).now.trees
-  ready_rows clean = ap (λ (d : Database). rows_in d.trees) (ready.unchanged clean).0.now_is
+  ready_rows clean = ap (λ (d : Database). rows_in d.trees) (asked.ready.unchanged clean).0.now_is
 
-  pub is_asked : HasCleanDisk (state g mid.conn) → IsAsked g old.conn mid.conn
-  is_asked clean = (ready.unchanged clean, survives_weaker _ _ _ _ (λ _ db no. absurd no) ready.crash)
+  pub is_asked : HasCleanDisk (state g mid.conn) → HasLooked g old.conn mid.conn
+  is_asked clean = (asked.ready.unchanged clean, survives_weaker _ _ _ _ (λ _ db no. absurd no) asked.ready.crash)
 
   pub ready_leaves : {told : Option LookFault} {Commits : Trees → Type 0}
       → Survives (state g mid.conn) (state g new.conn) Commits → Leaves (over_tables g) mid told new
       → Leaves (over_tables g) old told new
   ready_leaves {told = told} {Commits = Commits} crash leaves =
-      leaves_over g old new told (λ kept. (ready.keeps (leaves.since.was_clean kept)).0)
+      leaves_over g old new told (λ kept. (asked.ready.keeps (leaves.since.was_clean kept)).0)
       (λ honest is_none. (leaves.vouched honest is_none).1)
       (survives_then (state g old.conn) (state g mid.conn) (state g new.conn) (λ _. ⊥) Commits Commits
-      (λ _ db no. absurd no) (λ _ db made. made) ready.crash crash)
+      (λ _ db no. absurd no) (λ _ db made. made) asked.ready.crash crash)
       (λ cause.
-      let one = no_fewer cause in
+      let one = asked.no_fewer cause in
       let two = leaves.since.counted cause in
       omega (arith, one, two))
-      (λ honest cause. counted_told told cause _ _ _ (none cause) (leaves.counted honest cause))
+      (λ honest cause. counted_told told cause _ _ _ (asked.counted cause) (leaves.counted honest cause))
 
   pub ready_fails : (Fails : Held S → Held S → Type 0) → HasCleanDisk (state g mid.conn)
-      → (begins : Held S) × ((begins ≡ mid.conn) ⊎ IsAsked g mid.conn begins) × Fails begins new.conn
+      → (begins : Held S) × ((begins ≡ mid.conn) ⊎ HasLooked g mid.conn begins) × Fails begins new.conn
       → OnceReady g Fails old.conn new.conn
   ready_fails Fails clean fails = inr (fails.0, asked_then g (inr (is_asked clean)) fails.1, fails.2)
 
   pub ready_rose : (told : Option LookFault) → Rose (over_tables g) mid told new → Rose (over_tables g) old told new
-  ready_rose told rose = rises_later told (failed old) (failed mid) (failed new) no_fewer rose
+  ready_rose told rose = rises_later told (failed old) (failed mid) (failed new) asked.no_fewer rose
 
   pub ready_looks : {takes_memory : Bool} {told : Option LookFault} → Looks (over_tables g) takes_memory mid told new
       → Looks (over_tables g) takes_memory old told new
@@ -320,9 +319,9 @@ module _ {S : Type 0} (g : Ghosts S) (old mid new : Tabled S) (u : Unit {0})
     leaves = ready_leaves looks.stop looks.leaves;
     rose = ready_rose told looks.rose;
     kept = λ kept. looks.kept kept ∙ ap (λ (d : Database). rows_in d.trees)
-        (ready.keeps (looks.leaves.since.was_clean kept)).1;
+        (asked.ready.keeps (looks.leaves.since.was_clean kept)).1;
     cause = λ honest store. later (looks.leaves.since.was_honest honest) (looks.cause honest store);
-    stop = survives_then _ _ _ _ _ _ (λ _ db no. no) (λ _ db no. no) ready.crash looks.stop;
+    stop = survives_then _ _ _ _ _ _ (λ _ db no. no) (λ _ db no. no) asked.ready.crash looks.stop;
     sure = λ never. absurd never;
   }
     where
@@ -330,8 +329,7 @@ module _ {S : Type 0} (g : Ghosts S) (old mid new : Tabled S) (u : Unit {0})
       later clean (inl fails) = inr (mid.conn, inr (is_asked clean), of_day fails)
       later clean (inr fails) = ready_fails (λ a b. LookUpFails (state g a) (state g b)) clean fails
 
-  -- a look-up
-  pub asked_then_looked : {A R : Type 0} {takes_memory : Bool} {said : R → A} (wanted : Rows → A)
+  asked_then_looked : {A R : Type 0} {takes_memory : Bool} {said : R → A} (wanted : Rows → A)
       {result : Result R LookFault}
       → LooksUpBooks (over_tables g) takes_memory said (wanted (rows_in (state g mid.conn).now.trees)) mid new result
       → LooksUpBooks (over_tables g) takes_memory said (wanted (rows_in (state g old.conn).now.trees)) old new result
@@ -341,8 +339,18 @@ module _ {S : Type 0} (g : Ghosts S) (old mid new : Tabled S) (u : Unit {0})
     looks = ready_looks looked.looks;
   }
 
-  -- a walk
-  pub asked_then_walked : {K R : Type 0} {takes_memory : Bool} {after after_stop : K → R → K → Type 0}
+  -- a look-up
+  pub looked_up : {A R : Type 0} {takes_memory : Bool} {said : R → A} {Fails : State → State → Type 0}
+      {inside : Tabled S} {conn : Held S} {answer result : Result R LookFault} (wanted : Rows → A)
+      → ((begun ended : State) → Fails begun ended → LookUpFails begun ended) → inside ≡ mid
+      → HandsOn (told_by result) answer result (record inside { conn = conn }) new
+      → LooksUpTables Fails said wanted (state g inside.conn) (state g conn) answer
+      → LooksUpBooks (over_tables g) takes_memory said (wanted (rows_in (state g old.conn).now.trees)) old new result
+  looked_up {inside = inside} {conn = conn} wanted more same end looks =
+      asked_then_looked wanted (look_up_counted g inside mid same conn new
+      (λ clean. (asked.ready.unchanged clean).0.is_open) more end looks)
+
+  asked_then_walked : {K R : Type 0} {takes_memory : Bool} {after after_stop : K → R → K → Type 0}
       {sink end : K} {result : Result (Unit {0}) WalkFault} (list : Rows → List R)
       → WalksOver (over_tables g) takes_memory after after_stop (list (rows_in (state g mid.conn).now.trees)) mid new
       sink end result
@@ -358,6 +366,19 @@ module _ {S : Type 0} (g : Ghosts S) (old mid new : Tabled S) (u : Unit {0})
     looks = ready_looks walked.looks;
   }
 
+  -- a walk
+  pub walked : {K R : Type 0} {takes_memory : Bool} {after after_stop : K → R → K → Type 0}
+      {Fails : State → State → Type 0} {inside : Tabled S} {conn : Held S} {sink last : K}
+      {answer result : Result (Unit {0}) WalkFault} (list : Rows → List R)
+      → ((begun ended : State) → Fails begun ended → LookUpFails begun ended) → inside ≡ mid
+      → HandsOn (failure_of result) answer result (record inside { conn = conn }) new
+      → WalksList Fails after after_stop list (state g inside.conn) (state g conn) sink last answer
+      → WalksOver (over_tables g) takes_memory after after_stop (list (rows_in (state g old.conn).now.trees)) old new
+      sink last result
+  walked {inside = inside} {conn = conn} list more same end walks =
+      asked_then_walked list (walk_counted g inside mid same conn new list
+      (λ clean. (asked.ready.unchanged clean).0.is_open) more end walks)
+
   -- a change
   pub ready_change : {result : Result (Unit {0}) LookFault} (change : Change)
       → Applies change (state g mid.conn) (state g new.conn) result
@@ -369,35 +390,33 @@ module _ {S : Type 0} (g : Ghosts S) (old mid new : Tabled S) (u : Unit {0})
       (λ _ db no. absurd no)
       (λ clean db made_so.
       let before : HasCleanDisk (state g mid.conn) = omega (arith, applies.crash.clean, clean) in
-      let same = ready.unchanged before in
-      let first : HasCleanDisk (state g old.conn) = omega (arith, ready.crash.clean, before) in (
+      let same = asked.ready.unchanged before in
+      let first : HasCleanDisk (state g old.conn) = omega (arith, asked.ready.crash.clean, before) in (
         (first, same.0.was_open),
         subst (λ (d : Database). IsMadeOf (made change) d.trees db) same.0.now_is
             (made_so (before, same.0.is_open)),
-      )) ready.crash applies.crash
+      )) asked.ready.crash applies.crash
 
 -- one of books that were asked before it, and that is answered from memory, or lacks memory
 pub asked_first : {S A R : Type 0} {takes_memory : Bool} {said : R → A} {wanted : A} (g : Ghosts S)
-    (old mid new : Tabled S) (result : Result R LookFault) (u : Unit {0})
-    → IsReady (state g old.conn) (state g mid.conn) (Ok u)
-    → NoFewer (failed old) (failed mid) → Counts (λ other. one_of other None) (failed old) (failed mid)
+    {old mid : Tabled S} (new : Tabled S) (result : Result R LookFault) {u : Unit {0}} → AsksFirst g old mid (Ok u)
     → new.conn ≡ mid.conn
     → NoFewer (failed mid) (failed new) → Counts (λ other. one_of other (told_by result)) (failed mid) (failed new)
     → (told_by result ≡ Some why.Store → ⊥) → (IsKept (state g new.conn) → IfOk result (λ a. said a ≡ wanted))
     → LooksUpBooks (over_tables g) takes_memory said wanted old new result
-asked_first g old mid new result u asked no_fewer none at later counted no_store found =
+asked_first g {old = old} new result {u = u} asked at later counted no_store found =
     let ready : IsReady (state g old.conn) (state g new.conn) (Ok u) =
-    subst (λ (c : Held _). IsReady (state g old.conn) (state g c) (Ok u)) (sym at) asked
+    subst (λ (c : Held _). IsReady (state g old.conn) (state g c) (Ok u)) (sym at) asked.ready
     in
+    let all_counted : Counts (λ other. one_of other (told_by result)) (failed old) (failed new) =
+    λ cause. counted_told (told_by result) cause _ _ _ (asked.counted cause) (counted cause) in
     record {
       answer = λ honest. found (honest, (ready.unchanged honest).0.is_open);
       looks = record {
         leaves = leaves_over g old new (told_by result) (λ kept. (ready.keeps kept).0)
             (λ honest _. (ready.unchanged honest).0.is_open) ready.crash
-            (λ cause. omega (arith, no_fewer cause, later cause))
-            (λ _ cause. counted_told (told_by result) cause _ _ _ (none cause) (counted cause));
-        rose = counts_rise (told_by result) (failed old) (failed new)
-            (λ cause. counted_told (told_by result) cause _ _ _ (none cause) (counted cause));
+            (λ cause. omega (arith, asked.no_fewer cause, later cause)) (λ _. all_counted);
+        rose = counts_rise (told_by result) (failed old) (failed new) all_counted;
         kept = λ kept. ap (λ (d : Database). rows_in d.trees) (ready.keeps kept).1;
         cause = λ honest store. absurd (no_store store);
         stop = ready.crash;
@@ -447,12 +466,12 @@ module _ {S : Type 0} (g : Ghosts S) (change : Change) (old mid new : Tabled S)
       so = change_applies applies
 
   pub change_cause : (HasCleanDisk (state g mid.conn)
-      → IfErr given (λ fault. fault ≡ why.Store → TablesFail g change old.conn mid.conn))
-      → HasCleanDisk (state g new.conn) → told_by result ≡ Some why.Store → TablesFail g change old.conn new.conn
+      → IfErr given (λ fault. fault ≡ why.Store → ChangingFails g change old.conn mid.conn))
+      → HasCleanDisk (state g new.conn) → told_by result ≡ Some why.Store → ChangingFails g change old.conn new.conn
   change_cause fails honest =
       let fails_so : HasCleanDisk (state g new.conn)
-      → IfErr given (λ fault. fault ≡ why.Store → TablesFail g change old.conn new.conn) =
+      → IfErr given (λ fault. fault ≡ why.Store → ChangingFails g change old.conn new.conn) =
       subst (λ (c : Held S). HasCleanDisk (state g c)
-      → IfErr given (λ fault. fault ≡ why.Store → TablesFail g change old.conn c)) (sym at) fails in
+      → IfErr given (λ fault. fault ≡ why.Store → ChangingFails g change old.conn c)) (sym at) fails in
       of_told result (subst (λ (r : Result (Unit {0}) LookFault). IfErr r
-      (λ fault. fault ≡ why.Store → TablesFail g change old.conn new.conn)) (sym is) (fails_so honest))
+      (λ fault. fault ≡ why.Store → ChangingFails g change old.conn new.conn)) (sym is) (fails_so honest))

@@ -19,7 +19,7 @@ use Rattle.hotel_statements.specs.Schema.{first_schema, with_indexes, schema_of,
 use Rattle.hotel_statements.specs.Tables.{bare_rooms_in, rows_in, rows_of_version}
 use Rattle.hotel_statements.specs.Books.{IsKept, IsBooks, IsBooksOf, KeepsRows}
 use Rattle.hotel_statements.specs.Statements.{completes}
-use Rattle.hotel_statements.specs.WholeTables.{IsOurs, AreRead, ReadsTo}
+use Rattle.hotel_statements.specs.WholeTables.{IsOurs, AreTablesRead, ReadsTo}
 use Rattle.hotel_statements.specs.declared.whole_tables.WholeTables.{WholeTables}
 use Rattle.hotel_statements.specs.Upgrade.{AreRoomsIn, AreRoomsFor, IsWholeOf}
 use Rattle.hotel_statements.proofs.SameSchema.{tables_there, one_version, whole_is, not_whole}
@@ -52,7 +52,7 @@ fits_in failed layout db why has fits other is =
 -- what is said of Memory over the tables of a version
 abbrev MemoryFits : (Version → Type 0) → State → State → Version → Type 0
 MemoryFits failed old new version =
-    failed version ⊎ ((t : WholeTables) × ReadsTo version (AreRead version) old new (Ok t))
+    failed version ⊎ ((t : WholeTables) × ReadsTo version (AreTablesRead version) old new (Ok t))
 
 memory_in : (failed : Version → Type 0) (layout : Layout) (old new : State) (why : OpenFault)
     → old.now.schema ≡ schema_of layout → (why ≡ fault.Memory → MemoryFits failed old new (version_of layout))
@@ -63,10 +63,10 @@ memory_in failed layout old new why has told memory other is =
 -- a reading that failed is reported by its cause
 memory_read : (failed : Type 0) (version : Version) (old new : State) (why : OpenFault)
     (r : Result WholeTables LookFault)
-    → ReadsTo version (AreRead version) old new r
+    → ReadsTo version (AreTablesRead version) old new r
     → IfErr r (λ cause. ◌≡◌ {A = Result Found OpenFault} (Err why) (Err (fault_for cause)))
     → (FailsToRead version old new look.Memory → failed) → why ≡ fault.Memory
-    → failed ⊎ ((t : WholeTables) × ReadsTo version (AreRead version) old new (Ok t))
+    → failed ⊎ ((t : WholeTables) × ReadsTo version (AreTablesRead version) old new (Ok t))
 memory_read failed version old new why (Ok t) reads told fails memory = inr (t, reads)
 memory_read failed version old new why (Err look.Memory) reads told fails memory = inl (fails reads)
 memory_read failed version old new why (Err look.Store) reads told fails memory =

@@ -248,7 +248,7 @@ module _ (note : Note) (lock_place : ℕ) (secured : Bool) (insides : InsideMove
       let many = said.many in
       let at : (length fs - 1) + 1 ≡ row.fit = omega arith in
       ap (fit_at after note.room) (sym at)
-      ∙ fit_found (start after) fits.1 note.room (length fs - 1) said.numbers ∙ last_is_at fs said.last.0 said.last.1
+      ∙ fit_found (start after) fits.1 note.room (length fs - 1) said.numbers ∙ last_is_at fs ∙ said.last.1
 
   -- the notes of the present fit, with this one
   abbrev of_last : List Note

@@ -9,24 +9,26 @@ use Rattle.sqlite_store.specs.FileStore.{view}
 use Rattle.sqlite_trees.specs.View.{IsClean}
 use Rattle.sqlite.specs.declared.error.Error.{Error}
 use Rattle.sqlite.specs.Schema.{Schema}
-use Rattle.sqlite.specs.State.{State, HasCleanDisk, IsLive, Survives}
+use Rattle.sqlite.specs.State.{State, IsLive}
 use Rattle.sqlite.specs.Held.{Held, state}
 use Rattle.sqlite.specs.Opening.{is_open_error}
 use Rattle.sqlite.specs.Files.{file_state, IsClosed, FailsToClose}
 use Rattle.sqlite.specs.Closing.{IsCopied}
-use Rattle.hotel_model.specs.Rows.{no_rows}
 use Rattle.hotel_model.proofs.OfTables.RowTests.{both}
+use Rattle.keycard_rules.specs.declared.issued.LookFault.{LookFault}
+use Rattle.keycard_rules.specs.declared.issued.LookFault.TheVariants as look
 use Rattle.hotel_rows.specs.declared.open_fault.OpenFault.{OpenFault}
+use Rattle.hotel_rows.specs.declared.open_fault.OpenFault.TheVariants as fault
+use Rattle.hotel_statements.specs.LookUps.{fault_of}
 use Rattle.hotel_tables.specs.TableBooks.{Tabled}
 use Rattle.hotel_statements.specs.declared.version.Version.{Version}
 use Rattle.hotel_statements.specs.declared.version.Version.TheVariants.{First, Second}
 use Rattle.hotel_statements.specs.declared.version.Layout.{Layout}
 use Rattle.hotel_statements.specs.Schema.{no_schema, schema_of, version_of, tables_of}
 use Rattle.hotel_statements.proofs.SameSchema.{count_tables_of}
-use Rattle.hotel_statements.specs.Books.{IsKept, IsBooks}
+use Rattle.hotel_statements.specs.Books.{IsBooks}
 use Rattle.hotel_statements.specs.Tables.{rows_in}
-use Rattle.hotel_statements.specs.NewDesk.{IsEmptyDesk}
-use Rattle.hotel_tables.specs.Opening.{IsOpened}
+use Rattle.hotel_tables.specs.Opening.{IsCreated, IsOpened, fault_for}
 use Rattle.hotel_tables.specs.Exits.{LeavesBare, LeavesDatabase}
 use Rattle.hotel_tables.specs.Paths.{IsPathError}
 use Rattle.hotel_tables.specs.Files.{AreBooksOf, IsWhyNone, HoldBooks}
@@ -44,14 +46,13 @@ not_bare layout s has none =
     some First count = absurd (omega (arith, count))
     some Second count = absurd (omega (arith, count))
 
-made_books : (old new : State) → old.now.schema ≡ no_schema → (IsKept new → rows_in new.now.trees ≡ no_rows)
-    → Survives old new IsEmptyDesk → (HasCleanDisk new → IsKept new) → AreBooksOf old new
-made_books old new bare empty crash vouched = record {
-  made = λ _. (empty, crash);
-  found = λ other. absurd (other bare);
-  whole = λ layout lacks. absurd (not_bare layout old.now.schema lacks.1 bare);
-  sound = λ kept. (empty_counted (rows_in new.now.trees) (empty kept)).sound;
-  vouched = vouched;
+made_books : (old new : State) → ¬ ¬ (old.now.schema ≡ no_schema) → IsCreated old new → AreBooksOf old new
+made_books old new bare created = record {
+  made = λ _. (created.empty, created.crash);
+  found = λ other. absurd (bare other);
+  whole = λ layout lacks. absurd (bare (not_bare layout old.now.schema lacks.1));
+  sound = λ kept. (empty_counted (rows_in new.now.trees) (created.empty kept)).sound;
+  vouched = created.vouched;
 }
 
 found_books : (old new : State) → ¬ (old.now.schema ≡ no_schema) → IsOpened old new → AreBooksOf old new
@@ -71,26 +72,45 @@ module _ {S : Type 0} (g : Ghosts S) (old : Held S) where
   OfBooks r P = IfOk r (λ b. P (state g b.conn))
 
   -- the books that were made of a database that has nothing
-  pub all_made : (r : Answer) → (state g old).now.schema ≡ no_schema
-      → OfBooks r (λ new. IsKept new → rows_in new.now.trees ≡ no_rows)
-      → OfBooks r (λ new. Survives (state g old) new IsEmptyDesk) → OfBooks r (λ new. HasCleanDisk new → IsKept new)
+  pub all_made : (r : Answer) → OfBooks r (IsCreated (state g old))
+      → (¬ ((state g old).now.schema ≡ no_schema) → r ≡ Err (fault.NotADesk, old))
       → OfBooks r (AreBooksOf (state g old))
-  all_made (Ok b) bare empty crash vouched = made_books (state g old) (state g b.conn) bare empty crash vouched
-  all_made (Err e) bare empty crash vouched = tt
+  all_made (Ok b) created taken =
+      made_books (state g old) (state g b.conn) (λ other. let is = taken other in cc) created
+  all_made (Err e) created taken = tt
 
-  -- those that were found in one that has tables
-  pub all_found : (r : Answer) → ¬ ((state g old).now.schema ≡ no_schema) → OfBooks r (IsOpened (state g old))
-      → OfBooks r (AreBooksOf (state g old))
-  all_found (Ok b) other opened = found_books (state g old) (state g b.conn) other opened
-  all_found (Err e) other opened = tt
+  abbrev last_of : Answer → Held S
+  last_of (Ok b) = b.conn
+  last_of (Err e) = e.1
 
-  pub none_made : (new : Held S) (why : OpenFault) → (state g old).now.schema ≡ no_schema → LeavesBare g old new why
-      → IsWhyNone g old new why
-  none_made new why bare left = record { bare = λ _. left; found = λ other. absurd (other bare) }
+  -- A database that isn't empty was given back, and an opening of it answered this.
+  module _ (new : Held S) (why : OpenFault) (is : why ≡ fault.NotADesk)
+      (left : (state g old).now.schema ≡ no_schema → LeavesBare g old new why)
+      (taken : ¬ ((state g old).now.schema ≡ no_schema)
+      → ◌≡◌ {A = Answer} (Err (why, new)) (Err (fault.NotADesk, old))) where
+    other : ¬ ((state g old).now.schema ≡ no_schema)
+    other bare = let it = left bare in never (fault_of it.error) (sym it.told ∙ is)
+      where
+        never : (cause : LookFault) → ¬ (fault_for cause ≡ fault.NotADesk)
+        never look.Memory e = cc
+        never look.Store e = cc
 
-  pub none_found : (new : Held S) (why : OpenFault) → ¬ ((state g old).now.schema ≡ no_schema)
-      → LeavesDatabase g old new why → IsWhyNone g old new why
-  none_found new why other left = record { bare = λ bare. absurd (other bare); found = λ _. left }
+    same : new ≡ old
+    same = ap last_of (taken other)
+
+    pub all_found : (r : Answer) → OfBooks r (IsOpened (state g new)) → OfBooks r (AreBooksOf (state g old))
+    all_found (Ok b) opened =
+        found_books (state g old) (state g b.conn) other
+        (subst (λ (c : Held S). IsOpened (state g c) (state g b.conn)) same opened)
+    all_found (Err e) opened = tt
+
+    pub none_found : (r : Answer) → IfErr r (λ e. LeavesDatabase g new e.1 e.0)
+        → IfErr r (λ e. IsWhyNone g old e.1 e.0)
+    none_found (Ok b) leaves = tt
+    none_found (Err e) leaves = record {
+      bare = λ bare. absurd (other bare);
+      found = λ _. subst (λ (c : Held S). LeavesDatabase g c e.1 e.0) same leaves;
+    }
 
 -- an error of a path is one that openings have
 pub path_error_opens : (e : Error) → IsPathError e → IsTrue (is_open_error e)

@@ -69,7 +69,7 @@ use Rattle.hotel_statements.specs.PlainRows.{card_shown, inside_shown, numbered_
 use Rattle.hotel_statements.specs.PlainRows.{fit_shown, ArePlainRows}
 use Rattle.hotel_statements.specs.PlainRows.{may_be_natural, room_natural, stay_natural, code_natural, card_natural}
 use Rattle.hotel_statements.specs.PlainRows.{inside_natural, note_natural, fit_natural}
-use Rattle.hotel_statements.specs.WholeTables.{ReadsTo, AreFitRows, AreRead}
+use Rattle.hotel_statements.specs.WholeTables.{ReadsTo, AreFitRows, AreTablesRead}
 use Rattle.hotel_statements.specs.Upgrade.{AreRoomsFor}
 use Rattle.hotel_tables.specs.Opening.{AreStoredAs, AreStored, AreApartInside, IsMetaRow, IsFound, LacksRow, HasMetaRow}
 use Rattle.hotel_tables.specs.Opening.{FaultFits, FailsToRead, Opens, all_rise, fits_natural, all_natural, id_inside}
@@ -132,7 +132,7 @@ stored_meta {in_order} {version} s db stored =
     one_row (number_of_version version) (maybe s.day) (db meta_tree) stored.meta
 
 -- and so have those that were read
-meta_only : (of : Version) (t : WholeTables) (db : Trees) (plain : PlainMeta) → AreRead of t db
+meta_only : (of : Version) (t : WholeTables) (db : Trees) (plain : PlainMeta) → AreTablesRead of t db
     → IsMetaRow of t.meta.items plain
     → map meta_columns (db meta_tree) ≡ (Int (pos 1) ∷ Int (pos (number_of_version of)) ∷ maybe plain.day ∷ []) ∷ []
 meta_only of t db plain read meta =
@@ -143,7 +143,7 @@ meta_only of t db plain read meta =
     only ∙ ap (λ n. (Int n ∷ Int plain.version ∷ maybe plain.day ∷ []) ∷ []) meta.1
     ∙ ap (λ n. (Int (pos 1) ∷ Int n ∷ maybe plain.day ∷ []) ∷ []) meta.2
 
-pub read_meta : (of : Version) (t : WholeTables) (db : Trees) (plain : PlainMeta) → AreRead of t db
+pub read_meta : (of : Version) (t : WholeTables) (db : Trees) (plain : PlainMeta) → AreTablesRead of t db
     → IsMetaRow of t.meta.items plain → HasMetaRow of db
 read_meta of t db plain read meta =
     one_row (number_of_version of) (maybe plain.day) (db meta_tree) (meta_only of t db plain read meta)
@@ -232,7 +232,7 @@ inside_plain_rows plain_rows rows same =
     (fused last_two numbered_columns rows) (IsPermutation-map last_two _ _ same))
 
 pub stored_are : {in_order : Bool} {of : Version} (t : WholeTables) (db : Trees) (plain : PlainMeta)
-    (inside : Vec PlainInside Global) → AreRead of t db → IsMetaRow of t.meta.items plain
+    (inside : Vec PlainInside Global) → AreTablesRead of t db → IsMetaRow of t.meta.items plain
     → inside.items ≡ map plain_inside t.inside.items
     → let s : Stored = record {
       day = plain.day;
@@ -510,9 +510,9 @@ always (Ok a) p = p
 always (Err e) p = tt
 
 pub opens_to : {version : Version} (old new : State) (t : WholeTables) (result : Result Found OpenFault)
-    → ReadsTo version (AreRead version) old new (Ok t)
-    → ((db : Trees) → AreRead version t db → IfOk result (λ found. IsFound version found db))
-    → ((db : Trees) → AreRead version t db → IfErr result (FaultFits ⊥ version db)) → Opens version old new result
+    → ReadsTo version (AreTablesRead version) old new (Ok t)
+    → ((db : Trees) → AreTablesRead version t db → IfOk result (λ found. IsFound version found db))
+    → ((db : Trees) → AreTablesRead version t db → IfErr result (FaultFits ⊥ version db)) → Opens version old new result
 opens_to {version} old new t result reads ok err = record {
   ours = reads.ours;
   keeps = reads.keeps;
@@ -526,7 +526,7 @@ opens_to {version} old new t result reads ok err = record {
 }
 
 pub opens_not : (version : Version) (old new : State) (why : LookFault)
-    → ReadsTo version (AreRead version) old new (Err why) → Opens version old new (Err (fault_for why))
+    → ReadsTo version (AreTablesRead version) old new (Err why) → Opens version old new (Err (fault_for why))
 opens_not version old new why reads = record {
   ours = reads.ours;
   keeps = reads.keeps;

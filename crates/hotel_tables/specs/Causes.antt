@@ -65,15 +65,15 @@ ToldFails _ old new = ⊥
 
 module _ {S : Type 0} (g : Ghosts S) where
   -- a look-up was answered, and left the connection unchanged
-  abbrev pub IsAsked : Held S → Held S → Type 0
-  IsAsked old new = IsUnchanged (state g old) (state g new) × LeavesNoMore (state g old) (state g new)
+  abbrev pub HasLooked : Held S → Held S → Type 0
+  HasLooked old new = IsUnchanged (state g old) (state g new) × LeavesNoMore (state g old) (state g new)
 
   -- What fails of a call, of a connection from old to new, that begins where it was asked in vain whether it answers,
   -- or once it answered. It is asked where it did not answer when it was last asked.
   abbrev pub OnceReady : (Held S → Held S → Type 0) → Held S → Held S → Type 0
   OnceReady Fails old new =
       DayFails (state g old) (state g new)
-      ⊎ ((begins : Held S) × ((begins ≡ old) ⊎ IsAsked old begins) × Fails begins new)
+      ⊎ ((begins : Held S) × ((begins ≡ old) ⊎ HasLooked old begins) × Fails begins new)
 
   -- why a look-up or a walk fails, but for lack of memory
   abbrev pub LookFails : Held S → Held S → Type 0
@@ -81,15 +81,15 @@ module _ {S : Type 0} (g : Ghosts S) where
 
   -- the stay that a change ends was looked up; nothing was, where it ends none
   abbrev pub AsksEnded : Change → Held S → Held S → Type 0
-  AsksEnded (Cancelled party) old new = IsAsked old new
-  AsksEnded (CheckedOut party room) old new = IsAsked old new
+  AsksEnded (Cancelled party) old new = HasLooked old new
+  AsksEnded (CheckedOut party room) old new = HasLooked old new
   AsksEnded _ old new = new ≡ old
 
   -- what a change is told was looked up; nothing was, where it adds no code and no note
   abbrev pub AsksTold : Change → Option RoomCounts → Held S → Held S → Type 0
-  AsksTold (Issue card room leaves) known old new = IsAsked old new
-  AsksTold (Refit room code fit) known old new = IsAsked old new
-  AsksTold (Noted note lock_place secured insides) known old new = IsAsked old new
+  AsksTold (Issue card room leaves) known old new = HasLooked old new
+  AsksTold (Refit room code fit) known old new = HasLooked old new
+  AsksTold (Noted note lock_place secured insides) known old new = HasLooked old new
   AsksTold _ known old new = (known ≡ Some (record { codes = 0; notes = 0; before = 0 })) × (new ≡ old)
 
   -- The transaction of these statements fails, of a connection from old to new: one of them answers this error, and a
@@ -106,7 +106,7 @@ module _ {S : Type 0} (g : Ghosts S) where
   -- The transaction of a change fails, after the look-up that it makes first, if it makes one.
   pub record WriteFails (change : Change) (old new : Held S) : Type 0 where
     pub begins : Held S
-    pub asked : (begins ≡ old) ⊎ IsAsked old begins
+    pub asked : (begins ≡ old) ⊎ HasLooked old begins
     -- what its statements are told
     pub known : RoomCounts
     pub is_known : known_for change (rows_in (state g old).now.trees) ≡ Some known
@@ -119,9 +119,9 @@ module _ {S : Type 0} (g : Ghosts S) where
   MakingFails change old new = ToldFails change (state g old) (state g new) ⊎ WriteFails change old new
 
   -- why the connection, that answers, doesn't make a change
-  abbrev pub TablesFail : Change → Held S → Held S → Type 0
-  TablesFail change old new = EndedFails change (state g old) (state g new) ⊎ MakingFails change old new
+  abbrev pub ChangingFails : Change → Held S → Held S → Type 0
+  ChangingFails change old new = EndedFails change (state g old) (state g new) ⊎ MakingFails change old new
 
   -- Why a change isn't made, of the books' connection from old to new, but for lack of memory.
   abbrev pub ChangeFails : Change → Held S → Held S → Type 0
-  ChangeFails change = OnceReady (TablesFail change)
+  ChangeFails change = OnceReady (ChangingFails change)

@@ -33,14 +33,14 @@ use Rattle.hotel_tables.specs.Exits.{LeavesBare, LeavesDatabase}
 use Rattle.hotel_tables.specs.Paths.{IsPathError, AreParts}
 
 -- the fault of a file whose opening failed
-abbrev pub file_fault : Error → FileFault
-file_fault (SqliteFailure NotADatabase) = Desk fault.NotADesk
-file_fault (SqliteFailure DatabaseCorrupt) = Desk fault.NotADesk
-file_fault (SqliteFailure OutOfMemory) = Desk fault.Memory
-file_fault (SqliteFailure SystemIoFailure) = Desk fault.Store
-file_fault (SqliteFailure DiskFull) = Desk fault.Store
-file_fault (SqliteFailure Closed) = Desk fault.Store
-file_fault _ = File
+abbrev pub connect_fault : Error → FileFault
+connect_fault (SqliteFailure NotADatabase) = Desk fault.NotADesk
+connect_fault (SqliteFailure DatabaseCorrupt) = Desk fault.NotADesk
+connect_fault (SqliteFailure OutOfMemory) = Desk fault.Memory
+connect_fault (SqliteFailure SystemIoFailure) = Desk fault.Store
+connect_fault (SqliteFailure DiskFull) = Desk fault.Store
+connect_fault (SqliteFailure Closed) = Desk fault.Store
+connect_fault _ = File
 
 -- Books over a database that was opened, from its state then to that of the books.
 pub record AreBooksOf (old new : State) : Type 0 where
@@ -109,6 +109,6 @@ module _ {D : Type 0} {g : disk.Ghosts D} where
 -- gave has no books, with the connection as it is then dropped.
 abbrev pub IsOfOpening : {D : Type 0} → disk.Ghosts D → (Bool → D → Type 0) → FileFault → Type 0
 IsOfOpening {D} g is_part f =
-    ((e : Error × Option (Leftover D g)) × IsAnswer is_part (Err e) × (f ≡ file_fault e.0))
+    ((e : Error × Option (Leftover D g)) × IsAnswer is_part (Err e) × (f ≡ connect_fault e.0))
     ⊎ ((opened last : Held (FileStore D g)) × (why : OpenFault) × IsAnswer is_part (Ok opened) × (f ≡ Desk why)
     × IsWhyNone over_files opened last why)

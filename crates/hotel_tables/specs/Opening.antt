@@ -13,6 +13,7 @@ use Rattle.sqlite.specs.Held.{Held}
 use Rattle.sqlite.specs.State.{State, HasCleanDisk, Survives}
 use Rattle.keycard_rules.specs.declared.issued.LookFault.{LookFault}
 use Rattle.keycard_rules.specs.declared.issued.LookFault.TheVariants as look
+use Rattle.hotel_model.specs.Rows.{no_rows}
 use Rattle.hotel_model.specs.Sound.{IsSound}
 use Rattle.hotel_model.specs.SoundRooms.{are_in_order}
 use Rattle.hotel_rows.specs.declared.stored.Stored.{Stored}
@@ -45,7 +46,8 @@ use Rattle.hotel_statements.specs.Tables.{HasId, AreApart, AreApartIds, AreTable
 use Rattle.hotel_statements.specs.Tables.{rows_of_version}
 use Rattle.hotel_statements.specs.Books.{IsKept, IsBooks, IsDeskOf, KeepsRows}
 use Rattle.hotel_statements.specs.LookUps.{LeavesNoMore}
-use Rattle.hotel_statements.specs.WholeTables.{IsOurs, AreFitRows, AreRead, ReadsTo}
+use Rattle.hotel_statements.specs.NewDesk.{IsEmptyDesk}
+use Rattle.hotel_statements.specs.WholeTables.{IsOurs, AreFitRows, AreTablesRead, ReadsTo}
 use Rattle.hotel_statements.specs.declared.whole_tables.WholeTables.{WholeTables}
 use Rattle.hotel_statements.specs.Upgrade.{AreRoomsFor, IsWholeOf}
 use Rattle.hotel_tables.specs.Applied.{LeavesAll}
@@ -125,7 +127,7 @@ HasMetaRow version db =
 -- one number, a table isn't in the order of its key, or a number is below 0 though no table is damaged.
 abbrev pub IsUnshown : Version → Trees → Type 0
 IsUnshown version db =
-    ((t : WholeTables) × AreRead version t db × (¬ AreApart int_cmp (map id_inside t.inside.items)))
+    ((t : WholeTables) × AreTablesRead version t db × (¬ AreApart int_cmp (map id_inside t.inside.items)))
     ⊎ (((s : Stored) × AreStoredAs false version s db)
     ⊎ ((s : Stored) × AreStored version s db × (first_damaged_of s ≡ None) × (all_natural s ≡ false)))
 
@@ -145,7 +147,7 @@ FaultFitsIn failed db why =
 
 -- the reading of the tables of a version failed for this cause
 abbrev pub FailsToRead : Version → State → State → LookFault → Type 0
-FailsToRead version old new why = ReadsTo version (AreRead version) old new (Err why)
+FailsToRead version old new why = ReadsTo version (AreTablesRead version) old new (Err why)
 
 -- Memory is reported of the tables of a version where a call failed for want of it, as this says, or once they were all
 -- read.
@@ -153,7 +155,7 @@ abbrev pub MemoryFitsIn : (Version → Type 0) → State → State → OpenFault
 MemoryFitsIn failed old new why =
     why ≡ fault.Memory → (layout : Layout) → old.now.schema ≡ schema_of layout
     → failed (version_of layout)
-    ⊎ ((t : WholeTables) × ReadsTo (version_of layout) (AreRead (version_of layout)) old new (Ok t))
+    ⊎ ((t : WholeTables) × ReadsTo (version_of layout) (AreTablesRead (version_of layout)) old new (Ok t))
 
 -- the database is laid out as a desk's: it has the tables of one of the versions, and the first ones of our indexes
 abbrev pub IsLaidOut : Schema → Type 0
@@ -195,6 +197,15 @@ pub record IsOpened (old new : State) : Type 0 where
   pub whole : IfLacking old.now (IsKept new → LeavesAll new)
   pub vouched : HasCleanDisk new → IsKept new
 
+-- What the making of a desk in a database that has nothing says of the connection of its books, from old to new: they
+-- are empty. A crash leaves what it could leave before, or the whole of a new desk. The connection is open where the
+-- disk returned what was written.
+pub record IsCreated (old new : State) : Type 0 where
+  pub empty : IsKept new → rows_in new.now.trees ≡ no_rows
+  pub was : IsKept new → IsKept old
+  pub vouched : HasCleanDisk new → IsKept new
+  pub crash : Survives old new IsEmptyDesk
+
 -- memory ran out, or a call of the store failed
 abbrev pub IsOfCall : OpenFault → Type 0
 IsOfCall fault.Memory = Unit {0}
@@ -234,7 +245,7 @@ pub record Opens (version : Version) (old new : State) (result : Result Found Op
   pub found : IsKept new → IfOk result (λ found. IsFound version found old.now.trees)
   pub fault : HasCleanDisk new → IfErr result (FaultFits (FailsToRead version old new look.Store) version old.now.trees)
   -- a reading that failed is reported by its cause
-  pub reading : (r : Result WholeTables LookFault) × ReadsTo version (AreRead version) old new r
+  pub reading : (r : Result WholeTables LookFault) × ReadsTo version (AreTablesRead version) old new r
       × IfErr r (λ why. result ≡ Err (fault_for why))
   pub open_on : HasCleanDisk new → OnOk result (IsTrue new.is_open)
   pub crash : LeavesNoMore old new

@@ -1,16 +1,19 @@
 -- What books over tables are for their contracts, and what they keep true.
-use Rattle.std.specs.Prelude.{◌≡◌, ℕ, Bool, true, List, IsTrue, refl}
+use Rattle.std.specs.Prelude.{◌≡◌, ℕ, Bool, true, List, Option, Result, IsTrue, refl}
 use Rattle.std.specs.Coded.{Coded, code_by, coded×, coded_ℕ, coded_list}
 use Rattle.std.specs.Map.{values_of}
-use Rattle.sqlite.specs.Held.{Held, held_code}
+use Rattle.sqlite_trees.specs.declared.store.Store.{Ghosts}
+use Rattle.sqlite.specs.Held.{Held, held_code, state}
 use Rattle.sqlite.specs.State.{State, HasCleanDisk}
 use Rattle.keycard_rules.specs.declared.issued.LookFault.{LookFault}
 use Rattle.keycard_rules.specs.declared.issued.LookFault.TheVariants.{Memory, Store}
+use Rattle.keycard_rules.specs.{Leaves.told_by, Rise.Counts, Rise.NoFewer, Rise.one_of}
 use Rattle.hotel_model.specs.Rows.{Rows, has_kind}
 use Rattle.hotel_model.specs.Sound.{IsSound}
 use Rattle.hotel_model.specs.Rows.{rooms_of_kind}
 use Rattle.hotel_core.specs.NightIndex.{CountsNights}
 use Rattle.hotel_core.specs.KindRooms.{is_there, rooms_in}
+use Rattle.hotel_statements.specs.Ready.{IsReady}
 use Rattle.hotel_statements.specs.Tables.{rows_in}
 use Rattle.hotel_statements.specs.Books.{IsKept, IsBooks}
 
@@ -35,6 +38,20 @@ tabled_code {S} store =
 abbrev pub failed : {S : Type 0} → Tabled S → LookFault → ℕ
 failed b Memory = b.memory
 failed b Store = b.store
+
+-- What the connection answered is handed on by books over it, from old to new, and counted where it reports a failure.
+pub record HandsOn {S A : Type 0} (told : Option LookFault) (answer result : A) (old new : Tabled S) : Type 0 where
+  pub same : result ≡ answer
+  pub conn : new.conn ≡ old.conn
+  pub no_fewer : NoFewer (failed old) (failed new)
+  pub counted : Counts (λ cause. one_of cause told) (failed old) (failed new)
+
+-- Books, from old to new, asked their connection whether it answers, and counted a failure.
+pub record AsksFirst {S : Type 0} (g : Ghosts S) (old new : Tabled S) (result : Result (Unit {0}) LookFault)
+    : Type 0 where
+  pub ready : IsReady (state g old.conn) (state g new.conn) result
+  pub no_fewer : NoFewer (failed old) (failed new)
+  pub counted : Counts (λ cause. one_of cause (told_by result)) (failed old) (failed new)
 
 -- The counts are those of the rows, and the rows are sound. A kind that could not be added may be known with no rooms.
 pub record IsCounted (kinds : List (List ℕ × ℕ)) (nights : List ((List ℕ × ℕ) × List ℕ)) (rows : Rows) : Type 0 where

@@ -14,7 +14,7 @@ ghost use Rattle.hotel_statements.specs.LookUps.{Selects, MayLook, HasCause};
 ghost use Rattle.hotel_statements.specs.Failures.{FitFails};
 ghost use Rattle.hotel_tables.specs.Applied.{MayMake, Applies, known_by_fit, told_for, known_for};
 ghost use Rattle.hotel_tables.specs.Applied.{can_count};
-ghost use Rattle.hotel_tables.specs.Causes.{ToldFails, AsksTold, IsAsked, FailsToWrite, MakingFails};
+ghost use Rattle.hotel_tables.specs.Causes.{ToldFails, AsksTold, HasLooked, FailsToWrite, MakingFails};
 
 use hotel_core::Change;
 use hotel_nights::StayState;
@@ -169,7 +169,7 @@ fn known_for<S: Alter>(
     ensures known { HasCleanDisk (state S.Store conn.new) → IfOk result (λ known.
         known ≡ known_for change.now (rows_in (state S.Store conn.old).now.trees)) }
     ensures asked { HasCleanDisk (state S.Store conn.new)
-        → OnOk result ((conn.new ≡ conn.old) ⊎ IsAsked S.Store conn.old conn.new) }
+        → OnOk result ((conn.new ≡ conn.old) ⊎ HasLooked S.Store conn.old conn.new) }
 {
     let Some(known) = told_for(alloc, conn, change)? else {
         return Ok(None);

@@ -2,15 +2,14 @@
 ghost use Rattle.std.specs.Prelude.{◌≡◌, ◌↔◌, IsTrue, OnOk, OnErr, IfOk, IfErr, Err, false};
 ghost use Rattle.sqlite.specs.Held.{state};
 ghost use Rattle.sqlite.specs.State.{HasCleanDisk, Survives};
-ghost use Rattle.hotel_model.specs.Rows.{no_rows};
 ghost use Rattle.hotel_statements.specs.Schema.{no_schema};
 ghost use Rattle.hotel_statements.specs.Books.{IsKept, IsBooks};
 ghost use Rattle.hotel_statements.specs.NewDesk.{IfOpen, IsBare, IsMade, IsEmptyDesk};
 ghost use Rattle.hotel_statements.specs.Statements.{MakesBy};
-ghost use Rattle.hotel_statements.specs.Tables.{rows_in};
 ghost use Rattle.hotel_rows.specs.declared.open_fault.OpenFault.TheVariants.{NotADesk};
 ghost use Rattle.hotel_tables.specs.Causes.{FailsToWrite};
 ghost use Rattle.hotel_tables.specs.Exits.{makes_desk, LeavesBare};
+ghost use Rattle.hotel_tables.specs.Opening.{IsCreated};
 
 use crate::opening::open_fault;
 use crate::table_books::TableBooks;
@@ -55,7 +54,7 @@ pub(crate) fn make_desk<S: Alter>(conn: &mut Connection<S>) -> Result<(), Error>
 
 /// Whether the database has no tables, indexes or views: its file is missing or empty, or the making of a desk was cut
 /// short.
-pub(crate) fn is_bare<S: Alter>(conn: &Connection<S>) -> bool
+fn is_bare<S: Alter>(conn: &Connection<S>) -> bool
     ensures { IsTrue result ↔ ((state S.Store conn.now).now.schema ≡ no_schema) }
 {
     let schema = conn.schema();
@@ -71,12 +70,8 @@ impl<S: Alter + Drop> TableBooks<S> {
         mut conn: Connection<S>,
     ) -> Result<TableBooks<S>, (OpenFault, Connection<S>)>
         requires { (state S.Store conn).in_transaction ≡ false }
-        ensures empty { IfOk result (λ b. IsKept (state S.Store b.conn)
-            → rows_in (state S.Store b.conn).now.trees ≡ no_rows) }
+        ensures created { IfOk result (λ b. IsCreated (state S.Store conn) (state S.Store b.conn)) }
         ensures unfailed { IfOk result (λ b. (b.memory ≡ 0) × (b.store ≡ 0)) }
-        ensures was { IfOk result (λ b. IsKept (state S.Store b.conn) → IsKept (state S.Store conn)) }
-        ensures vouched { IfOk result (λ b. HasCleanDisk (state S.Store b.conn) → IsKept (state S.Store b.conn)) }
-        ensures crash { IfOk result (λ b. Survives (state S.Store conn) (state S.Store b.conn) IsEmptyDesk) }
         ensures left { (state S.Store conn).now.schema ≡ no_schema
             → IfErr result (λ e. LeavesBare S.Store conn e.1 e.0) }
         ensures taken { ¬ ((state S.Store conn).now.schema ≡ no_schema) → result ≡ Err (NotADesk, conn) }
@@ -101,12 +96,8 @@ impl<S: Alter + Drop> TableBooks<S> {
     /// As `create_or_return`; on a fault the connection is dropped.
     pub fn create(alloc: Global, conn: Connection<S>) -> Result<TableBooks<S>, OpenFault>
         requires { (state S.Store conn).in_transaction ≡ false }
-        ensures empty { IfOk result (λ b. IsKept (state S.Store b.conn)
-            → rows_in (state S.Store b.conn).now.trees ≡ no_rows) }
+        ensures created { IfOk result (λ b. IsCreated (state S.Store conn) (state S.Store b.conn)) }
         ensures unfailed { IfOk result (λ b. (b.memory ≡ 0) × (b.store ≡ 0)) }
-        ensures was { IfOk result (λ b. IsKept (state S.Store b.conn) → IsKept (state S.Store conn)) }
-        ensures vouched { IfOk result (λ b. HasCleanDisk (state S.Store b.conn) → IsKept (state S.Store b.conn)) }
-        ensures crash { IfOk result (λ b. Survives (state S.Store conn) (state S.Store b.conn) IsEmptyDesk) }
         ensures left { (state S.Store conn).now.schema ≡ no_schema
             → IfErr result (λ why. (last : _) × LeavesBare S.Store conn last why) }
         ensures taken { ¬ ((state S.Store conn).now.schema ≡ no_schema) → result ≡ Err NotADesk }

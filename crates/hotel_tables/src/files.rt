@@ -2,10 +2,9 @@
 ghost use Rattle.std.specs.Prelude.{◌≡◌, false, Err, None, IsTrue, IfOk, IfErr};
 ghost use Rattle.sqlite.specs.Held.{state};
 ghost use Rattle.hotel_tables.specs.Paths.{is_no_path, IsPathError, AreParts};
-ghost use Rattle.hotel_tables.specs.Files.{file_fault, AreBooksOf, IsWhyNone, IsAnswer, AreOfOpening, IsOfOpening};
+ghost use Rattle.hotel_tables.specs.Files.{connect_fault, AreBooksOf, IsWhyNone, IsAnswer, AreOfOpening, IsOfOpening};
 ghost use Rattle.hotel_tables.specs.Files.{HoldBooks, LeavesLog, FailsToCopy};
 
-use crate::create::is_bare;
 use crate::path_disk::PathDisk;
 use crate::table_books::TableBooks;
 use hotel_rows::{FileFault, OpenFault};
@@ -19,8 +18,8 @@ use std::hash::{BuildHasher, RandomState};
 const CHECKPOINT_FRAMES: usize = 4_000;
 
 /// The fault of a file that couldn't be opened as a database.
-fn file_fault(error: Error) -> FileFault
-    ensures { result ≡ file_fault error }
+fn connect_fault(error: Error) -> FileFault
+    ensures { result ≡ connect_fault error }
 {
     match error {
         Error::SqliteFailure(ErrorCode::OutOfMemory) => FileFault::Desk(OpenFault::Memory),
@@ -33,7 +32,7 @@ fn file_fault(error: Error) -> FileFault
     }
 }
 
-/// The books over a database that was opened. Where it has nothing, they are made.
+/// The books over a database that was opened: they are made where it has nothing, and else found.
 fn books_of<S: Alter + Drop>(
     alloc: Global,
     conn: Connection<S>,
@@ -43,10 +42,9 @@ fn books_of<S: Alter + Drop>(
     ensures unfailed { IfOk result (λ b. (b.memory ≡ 0) × (b.store ≡ 0)) }
     ensures fault { IfErr result (λ e. IsWhyNone S.Store conn e.1 e.0) }
 {
-    if is_bare(&conn) {
-        TableBooks::create_or_return(alloc, conn)
-    } else {
-        TableBooks::open_or_return(alloc, conn)
+    match TableBooks::create_or_return(alloc, conn) {
+        Err((OpenFault::NotADesk, conn)) => TableBooks::open_or_return(alloc, conn),
+        made => made,
     }
 }
 
@@ -113,7 +111,7 @@ pub fn open_file<D: PathDisk>(
 {
     let conn = match connect(rt, path) {
         Ok(conn) => conn,
-        Err((error, _left)) => return Err(file_fault(error)),
+        Err((error, _left)) => return Err(connect_fault(error)),
     };
     match books_of(rt.alloc(), conn) {
         Ok(books) => Ok(books),

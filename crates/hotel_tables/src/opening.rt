@@ -11,7 +11,7 @@ ghost use Rattle.hotel_rows.specs.Damage.{first_damaged_of};
 ghost use Rattle.hotel_rows.specs.RowTests.{is_room_number};
 ghost use Rattle.hotel_statements.specs.declared.version.Version.{Version};
 ghost use Rattle.hotel_statements.specs.Tables.{AreApart, number_of_version};
-ghost use Rattle.hotel_statements.specs.WholeTables.{IsOurs, AreRead};
+ghost use Rattle.hotel_statements.specs.WholeTables.{IsOurs, AreTablesRead};
 ghost use Rattle.hotel_rows.specs.declared.open_fault.OpenFault.TheVariants.{NotADesk};
 ghost use Rattle.hotel_tables.specs.Opening.{AreStored, AreApartInside, IsMetaRow, IsFound, FaultFits, Opens, LacksRow};
 ghost use Rattle.hotel_tables.specs.Opening.{fits_rise, fits_natural, all_rise, all_natural, plain_inside, id_inside};
@@ -54,7 +54,7 @@ fn meta_row(meta: &[PlainMeta], version: Version) -> Result<PlainMeta, OpenFault
 /// The one row of meta; without it the tables are no desk's.
 fn meta_of(tables: &WholeTables, version: Version) -> Result<PlainMeta, OpenFault>
     ensures ok { IfOk result (IsMetaRow version tables.now.meta.items) }
-    ensures err { (db : Trees) → AreRead version tables.now db → IfErr result (FaultFits ⊥ version db) }
+    ensures err { (db : Trees) → AreTablesRead version tables.now db → IfErr result (FaultFits ⊥ version db) }
 {
     meta_row(&tables.meta, version)
 }
@@ -158,9 +158,9 @@ fn all_natural(stored: &Stored) -> bool
 ///
 /// Rows that aren't in order, which no query shows, are a failure of the store.
 fn stored_of(alloc: Global, tables: WholeTables, version: Version) -> Result<Stored, OpenFault>
-    ensures ok { (db : Trees) → AreRead version tables db
+    ensures ok { (db : Trees) → AreTablesRead version tables db
         → IfOk result (λ s. AreStored version s db × AreApartInside db) }
-    ensures err { (db : Trees) → AreRead version tables db → IfErr result (FaultFits ⊥ version db) }
+    ensures err { (db : Trees) → AreTablesRead version tables db → IfErr result (FaultFits ⊥ version db) }
 {
     let meta = meta_of(&tables, version)?;
     match are_apart(alloc, &tables.inside) {
@@ -239,8 +239,8 @@ pub(crate) struct Found {
 
 /// What is found in tables that a desk of a version may have, where none is damaged.
 fn found_in(alloc: Global, tables: WholeTables, version: Version) -> Result<Found, OpenFault>
-    ensures ok { (db : Trees) → AreRead version tables db → IfOk result (λ found. IsFound version found db) }
-    ensures err { (db : Trees) → AreRead version tables db → IfErr result (FaultFits ⊥ version db) }
+    ensures ok { (db : Trees) → AreTablesRead version tables db → IfOk result (λ found. IsFound version found db) }
+    ensures err { (db : Trees) → AreTablesRead version tables db → IfErr result (FaultFits ⊥ version db) }
 {
     let stored = stored_of(alloc, tables, version)?;
     let counts = sound_counts(alloc, &stored)?;

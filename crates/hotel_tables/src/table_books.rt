@@ -6,10 +6,9 @@ ghost use Rattle.hotel_model.specs.Refinement.Lookups.{codes_in};
 ghost use Rattle.sqlite.specs.Held.{state};
 ghost use Rattle.sqlite.specs.State.{HasCleanDisk};
 ghost use Rattle.hotel_statements.specs.Books.{IsKept};
-ghost use Rattle.hotel_statements.specs.Ready.{IsReady};
 ghost use Rattle.hotel_statements.specs.Tables.{rows_in};
 ghost use Rattle.hotel_tables.specs.Applied.{LeavesNothing};
-ghost use Rattle.hotel_tables.specs.TableBooks.{failed};
+ghost use Rattle.hotel_tables.specs.TableBooks.{failed, AsksFirst, HandsOn};
 ghost use Rattle.hotel_tables.specs.Causes.{LookFails};
 
 mod books;
@@ -75,10 +74,7 @@ impl<S: Alter> TableBooks<S> {
     pub(crate) fn counting<T>(&mut self, found: Result<T, LookFault>) -> Result<T, LookFault>
         requires answered { HasCleanDisk (state S.Store self.old.conn)
             → OnOk found (IsTrue (state S.Store self.old.conn).is_open) }
-        ensures same { result ≡ found }
-        ensures conn { self.new.conn ≡ self.old.conn }
-        ensures no_fewer { NoFewer (failed self.old) (failed self.new) }
-        ensures counted { Counts (λ why. one_of why (told_by result)) (failed self.old) (failed self.new) }
+        ensures { HandsOn (told_by result) found result self.old self.new }
     {
         match &found {
             Ok(_) => self.answers = true,
@@ -91,9 +87,7 @@ impl<S: Alter> TableBooks<S> {
     ///
     /// It comes before each call: a connection that a failure shut answers nothing, and no statement is run on it.
     pub(crate) fn ask(&mut self) -> Result<(), LookFault>
-        ensures ready { IsReady (state S.Store self.old.conn) (state S.Store self.new.conn) result }
-        ensures no_fewer { NoFewer (failed self.old) (failed self.new) }
-        ensures counted { Counts (λ why. one_of why (told_by result)) (failed self.old) (failed self.new) }
+        ensures { AsksFirst S.Store self.old self.new result }
     {
         if self.answers {
             return Ok(());

@@ -27,7 +27,7 @@ fn push_part(
 }
 
 /// The texts of replies, one after the other.
-fn texts_of(alloc: Global, replies: &[Reply]) -> Result<Vec<u8>, Fail> {
+fn reply_texts(alloc: Global, replies: &[Reply]) -> Result<Vec<u8>, Fail> {
     let mut texts = Vec::new(alloc);
     for reply in replies {
         texts.extend_from_slice(reply_text(reply).as_bytes())?;
@@ -45,7 +45,7 @@ fn run_is_answered(
 ) -> Result<(), Fail> {
     let replies = run(rt.alloc(), &mut desk.books, &mut desk.source, commands)?;
     assert!(rt; replies.len() == count);
-    let texts = texts_of(rt.alloc(), replies.as_slice())?;
+    let texts = reply_texts(rt.alloc(), replies.as_slice())?;
     assert!(rt; texts.as_slice() == answers);
     Ok(())
 }

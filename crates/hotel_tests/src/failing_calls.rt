@@ -4,10 +4,12 @@
 use crate::one_byte::{OneByteReader, OneByteWriter};
 use hotel_core::Walks;
 use hotel_http::{ServeFault, serve_one};
-use hotel_lists::{FailingReader, FailingWriter, FullWriter, InterruptedReader, InterruptedWriter};
 use hotel_program::{ScriptFault, run_script};
 use hotel_scenarios::desks::Desk;
 use hotel_scenarios::scenarios::{OPENED, Step};
+use hotel_streams::{
+    FailingReader, FailingWriter, FullWriter, InterruptedReader, InterruptedWriter,
+};
 use std::alloc::Global;
 use std::io::{Read, Write};
 use std::process::Abort;
@@ -156,8 +158,8 @@ impl Asked {
     }
 
     /// So many bytes of the answer.
-    fn front(&self, bytes: usize) -> Result<&'static [u8], Fail> {
-        Ok(self.answer.get(..bytes).ok_or("a front")?)
+    fn prefix(&self, bytes: usize) -> Result<&'static [u8], Fail> {
+        Ok(self.answer.get(..bytes).ok_or("a prefix")?)
     }
 }
 
@@ -184,7 +186,7 @@ fn fails_behind(
     let writer = OneByteWriter::new(rt.alloc());
     let mut writer = FailingWriter { writer, good };
     stops_behind(rt, asked, bytes, &mut writer)?;
-    assert!(rt; writer.writer.written() == asked.front(bytes)?);
+    assert!(rt; writer.writer.written() == asked.prefix(bytes)?);
     Ok(())
 }
 
@@ -198,7 +200,7 @@ fn is_full_behind(
     let writer = OneByteWriter::new(rt.alloc());
     let mut writer = FullWriter { writer, good };
     stops_behind(rt, asked, bytes, &mut writer)?;
-    assert!(rt; writer.writer.written() == asked.front(bytes)?);
+    assert!(rt; writer.writer.written() == asked.prefix(bytes)?);
     Ok(())
 }
 
@@ -241,7 +243,7 @@ fn is_unread_behind(rt: &(impl Abort + AllocGlobal), asked: &Asked, good: u32) -
     assert!(rt; asked.end_over(&mut desk, &mut reader, &mut writer) == End::Unread);
     let (reads, bytes) = asked.early;
     let bytes = if good < reads { 0 } else { bytes };
-    assert!(rt; writer.as_slice() == asked.front(bytes)?);
+    assert!(rt; writer.as_slice() == asked.prefix(bytes)?);
     is_still_answered(rt, asked, &mut desk)
 }
 

@@ -5,9 +5,10 @@ use crate::lists::{list_of, write_alone};
 use crate::one_byte::OneByteWriter;
 use hotel_core::Walks;
 use hotel_http::{ServeFault, Served, serve_one};
-use hotel_lists::{FailingWriter, FullWriter, InterruptedWriter, ListFault};
+use hotel_lists::ListFault;
 use hotel_program::{ScriptEnd, run_script};
 use hotel_scenarios::desks::Desk;
+use hotel_streams::{FailingWriter, FullWriter, InterruptedWriter};
 use keycard_rules::LookFault;
 use std::alloc::Global;
 use std::io::Write;
@@ -337,7 +338,7 @@ fn each_write_of(
 ) -> Result<(), Fail> {
     let mut good = 0u32;
     for bytes in 0..asked.text.len() {
-        let written = asked.text.get(..bytes).ok_or("a front")?;
+        let written = asked.text.get(..bytes).ok_or("a prefix")?;
         is_cut_behind(rt, asked, books, good, written)?;
         good = good.saturating_add(1);
     }
@@ -427,8 +428,8 @@ fn fails_in_script(
     let rest = joined(rt.alloc(), &[refusal_of(cause), asked.text])?;
     let mut desk = stopping(listed_desk(rt.alloc())?, call, cause);
     let output = output_of(rt, &mut desk, script.as_slice())?;
-    let front = output.as_slice().strip_suffix(rest.as_slice());
-    assert!(rt; asked.may_be_cut_to(front.ok_or("the refusal and the list")?, call));
+    let prefix = output.as_slice().strip_suffix(rest.as_slice());
+    assert!(rt; asked.may_be_cut_to(prefix.ok_or("the refusal and the list")?, call));
     assert!(rt; desk.books.calls() == call.saturating_add(asked.calls));
     assert!(rt; counts(&desk.books) == counts_of(Some(cause)));
     Ok(())

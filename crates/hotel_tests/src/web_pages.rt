@@ -2,8 +2,8 @@
 //! from `Origins::Any`, as `serve_one` has it. `.ci/bytes` sends more of both to the built program.
 use hotel_core::Walks;
 use hotel_http::{Origins, Service, make_routes, serve_by, serve_one};
-use hotel_lists::IoCalls;
 use hotel_scenarios::desks::Desk;
+use hotel_streams::IoCalls;
 use std::alloc::Global;
 use std::process::Abort;
 use std::test::Fail;

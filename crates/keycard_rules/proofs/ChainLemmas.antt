@@ -72,14 +72,14 @@ same_place items i j d hi hj e = elim (cases_Bool (nat_lt i j)) [
 ]
 
 -- all but the last of a list that begins with a code
-front : ℕ → List ℕ → List ℕ
-front x [] = []
-front x (y ∷ ys) = x ∷ front y ys
+prefix : ℕ → List ℕ → List ℕ
+prefix x [] = []
+prefix x (y ∷ ys) = x ∷ prefix y ys
 
-front-last : (x code : ℕ) (xs : List ℕ) → x ∷ (xs ++ (code ∷ [])) ≡ front x xs ++ (last_from x xs ∷ code ∷ [])
-unfolding front
-front-last x code [] = refl
-front-last x code (y ∷ ys) = ap (λ r. x ∷ r) (front-last y code ys)
+prefix-last : (x code : ℕ) (xs : List ℕ) → x ∷ (xs ++ (code ∷ [])) ≡ prefix x xs ++ (last_from x xs ∷ code ∷ [])
+unfolding prefix
+prefix-last x code [] = refl
+prefix-last x code (y ∷ ys) = ap (λ r. x ∷ r) (prefix-last y code ys)
 
 -- the link of a new code
 pub is_link-pushed : (items new : List ℕ) (p old code : ℕ)
@@ -90,11 +90,11 @@ is_link-pushed items new p old code h e k o =
     let awaited = drop (p + 1) items in
     let all : issued (ledger_of new p) ≡ issued (ledger_of items p) ++ (code ∷ []) =
     issued-is new p k ∙ e ∙ ap (λ r. r ++ (code ∷ [])) (sym (issued-is items p h)) in (
-      take p items ++ front held awaited,
+      take p items ++ prefix held awaited,
       [],
       rw o (all ∙ append_assoc (take p items) (held ∷ awaited) (code ∷ [])
-          ∙ ap (λ r. take p items ++ r) (front-last held code awaited)
-          ∙ sym (append_assoc (take p items) (front held awaited) (current (ledger_of items p) ∷ code ∷ []))),
+          ∙ ap (λ r. take p items ++ r) (prefix-last held code awaited)
+          ∙ sym (append_assoc (take p items) (prefix held awaited) (current (ledger_of items p) ∷ code ∷ []))),
     )
 
 neighbours : (items : List ℕ) (link : Link) → IsLinkOf items link
@@ -162,10 +162,10 @@ pub recoded-is : (items : List ℕ) (p to a : ℕ)
 unfolding place_in
 recoded-is items p to a h e lt =
     let stop : get_or (drop (p + 1) items) a 0 ≡ to = stopped (drop (p + 1) items) to a e lt in
-    let front : take (p + 1 + a) items ≡ take p items ++ (get_or items p 0 ∷ take a (drop (p + 1) items)) =
+    let prefix : take (p + 1 + a) items ≡ take p items ++ (get_or items p 0 ∷ take a (drop (p + 1) items)) =
     let q : p + 1 + a ≡ p + suc a = omega arith in
     rw (q, take-add p (suc a) items, drop-cons items p 0 h, add-one) refl in
     let held : get_or items (p + 1 + a) 0 ≡ to = sym (get_or-drop (p + 1) items a 0) ∙ stop in
     let back : drop (p + 1 + a + 1) items ≡ drop (a + 1) (drop (p + 1) items) =
     grind (arith, common_steps, drop-drop) in
-    rw (← e, front, held, back) refl
+    rw (← e, prefix, held, back) refl

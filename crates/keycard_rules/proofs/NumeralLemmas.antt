@@ -97,7 +97,7 @@ fixed_text-step base place n rest =
 pub drop-set : (l : List ℕ) (i a : ℕ) → i < length l → drop i (set l i a) ≡ a ∷ drop (i + 1) l
 drop-set l i a h = grind (arith, common_steps)
 
--- a front of digits below the limit stays in range with one more digit
+-- a prefix of digits below the limit stays in range with one more digit
 pub number_of-fits : (base most i : ℕ) (text : List ℕ) (d : ℕ)
     → 2 ≤ base → base ^ most < 2 ^ 63 → i < most → i ≤ length text
     → All (λ b. digit_value b < base) (take i text) → d < base → number_of base (take i text) * base + d < 2 ^ 63

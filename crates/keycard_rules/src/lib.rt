@@ -1,5 +1,6 @@
 //! Codes, cards and locks: the two-code rule of a lock without a network, one room's chain of codes, and the drawing of
-//! codes. The crate knows no guest and no stay; the day of a note is a plain number.
+//! codes; and what all crates above share: how a call fails and what it leaves, numerals, short texts. The crate knows
+//! no guest and no stay; the day of a note is a plain number.
 //!
 //! - src: lock, chain, draw, note, card, code, numbers: the rules, each with its file of specs or its contract. kept:
 //!   what is known of issued codes, with its laws (`Kept`). issued: the one call that asks for them (`Issued`).

@@ -1,13 +1,12 @@
 -- What a sink is handed on by another one that stands before it, up to a call that fails; and what such a walk leaves.
 use Rattle.std.proofs.Common.{◌≡◌, Bool, true, false, List, [], ◌∷◌, ◌++◌, Result, Ok, Err, ap, sym, ◌∙◌, subst, inl}
-use Rattle.std.proofs.Common.{inr, is_some, Some, refl, rules, IfSome}
+use Rattle.std.proofs.Common.{inr, is_some, Some, refl, rules}
 use Rattle.std.proofs.lemmas.Bool.{false≢true}
-use Rattle.keycard_rules.specs.{declared.kept.Kept.Ghosts as KeptOf, Calls.Passes, Rise.Counts, Rise.HasRisen}
-use Rattle.keycard_rules.specs.{Rise.NoFewer, Rise.one_of}
-use Rattle.hotel_core.specs.{Books.Walks.TakesFront, Books.Walks.Hands, Books.Walks.WalksOver, Books.Walks.failure_of}
-use Rattle.hotel_core.specs.Refinement.Lookups.{codes_in}
+use Rattle.keycard_rules.specs.{declared.kept.Kept.Ghosts as KeptOf, Calls.Passes}
+use Rattle.hotel_core.specs.{Books.Walks.TakesPrefix, Books.Walks.Hands, Books.Walks.WalksOver, Books.Walks.failure_of}
+use Rattle.hotel_core.specs.{Rows.Rows, Refinement.Lookups.codes_in}
 use Rattle.keycard_rules.specs.declared.issued.LookFault.{LookFault}
-use Rattle.stopping_books.specs.Stops.{counts, EndsAs, MakesCall, Stopping, StopsEither}
+use Rattle.stopping_books.specs.Stops.{counts, CountsFailure, EndsAs, MakesCall, Stopping, StopsEither}
 use Rattle.std.proofs.lemmas.List.{append-nil}
 use Rattle.hotel_core.specs.declared.books.walks.WalkFault.{WalkFault}
 use Rattle.stopping_books.specs.declared.stopping_walks.Passing.{Passing}
@@ -52,29 +51,29 @@ module _ {S R : Type 0} (after after_stop : S → R → S → Type 0) where
       (later.0 ∙ t.1.0, (t.0.sink.now, t.1.1, later.1))
 
   -- the sink behind is the same one at the end of the walk
-  pub same_sink : (rows : List R) (a b : Passing S) (end : Result (Unit {0}) WalkFault)
+  same_sink : (rows : List R) (a b : Passing S) (end : Result (Unit {0}) WalkFault)
       → Hands Passed PassedNot rows a b end → b.sink.ghost_name ≡ a.sink.ghost_name
   same_sink rows a b (Ok done) h = (took rows a b h).0
   same_sink rows a b (Err why.Stopped) h = h.6.0 ∙ (took h.0 a h.4 h.5).0
   same_sink rows a b (Err why.Memory) h = (took h.0 a b h.3).0
   same_sink rows a b (Err why.Store) h = (took h.0 a b h.3).0
 
-  -- a walk that failed handed over a front
+  -- a walk that failed handed over a prefix
   failed_after : (rows : List R) (x y : S) (end : Result (Unit {0}) WalkFault) (cause : LookFault)
-      → failure_of end ≡ Some cause → TakesFront after rows x y → Hands after after_stop rows x y end
-  failed_after rows x y (Ok done) cause some front = absurd (false≢true (ap is_some some))
-  failed_after rows x y (Err why.Stopped) cause some front = absurd (false≢true (ap is_some some))
-  failed_after rows x y (Err why.Memory) cause some front = front
-  failed_after rows x y (Err why.Store) cause some front = front
+      → failure_of end ≡ Some cause → TakesPrefix after rows x y → Hands after after_stop rows x y end
+  failed_after rows x y (Ok done) cause some prefix = absurd (false≢true (ap is_some some))
+  failed_after rows x y (Err why.Stopped) cause some prefix = absurd (false≢true (ap is_some some))
+  failed_after rows x y (Err why.Memory) cause some prefix = prefix
+  failed_after rows x y (Err why.Store) cause some prefix = prefix
 
   stopped_at : (by_call : Bool) (rows taken : List R) (row : R) (rest : List R) (x last y : S)
       (end : Result (Unit {0}) WalkFault) (cause : LookFault) → rows ≡ taken ++ row ∷ rest → Passes after x taken last
       → StopsEither by_call (y ≡ last) (after_stop last row y) → EndsAs cause (Err why.Stopped) by_call end
       → Hands after after_stop rows x y end
-  stopped_at true rows taken row rest x last y end cause e front stop ends =
-      failed_after rows x y end cause ends (taken, row ∷ rest, e, subst (Passes after x taken) (sym stop) front)
-  stopped_at false rows taken row rest x last y end cause e front stop ends =
-      subst (Hands after after_stop rows x y) (sym ends) (taken, row, rest, e, last, front, stop)
+  stopped_at true rows taken row rest x last y end cause e prefix stop ends =
+      failed_after rows x y end cause ends (taken, row ∷ rest, e, subst (Passes after x taken) (sym stop) prefix)
+  stopped_at false rows taken row rest x last y end cause e prefix stop ends =
+      subst (Hands after after_stop rows x y) (sym ends) (taken, row, rest, e, last, prefix, stop)
 
   -- what the sink before took, the sink behind took as the walk's end says
   passed_on : (rows : List R) (a b : Passing S) (beneath end : Result (Unit {0}) WalkFault) (cause : LookFault)
@@ -92,34 +91,36 @@ module _ {S R : Type 0} (after after_stop : S → R → S → Type 0) where
   passed_on rows a b (Err why.Store) end cause ends h =
       subst (Hands after after_stop rows a.sink.now b.sink.now) (sym ends) (h.0, h.1, h.2, (took h.0 a b h.3).1)
 
-  -- So a walk of a list hands its rows to the sink behind, from that sink as it was; and it leaves what a look-up does,
-  -- where its end leaves the rows and is counted.
-  pub walked : {takes_memory : Bool} (listed : List R) (old new : Stopping) (start : S) (a b : Passing S)
-      (beneath end : Result (Unit {0}) WalkFault) (cause : LookFault)
-      → (rows : List R) × Hands Passed PassedNot rows a b beneath × (Unit {0} → rows ≡ listed)
-      → a.sink.now ≡ start → EndsAs cause beneath b.failed end
-      → new.rows ≡ old.rows → NoFewer (counts old) (counts new)
-      → Counts (λ why. one_of why (failure_of end)) (counts old) (counts new)
-      → IfSome (failure_of end) (λ why. HasRisen (counts old why) (counts new why))
-      → WalksOver of_stopping takes_memory after after_stop listed old new start b.sink.now end
-  walked listed old new start a b beneath end cause (rows, handed, all) begun ends same no_fewer counted rose = record {
-    hands = (
-      rows,
-      subst (λ s. Hands after after_stop rows s b.sink.now end) begun
-          (passed_on rows a b beneath end cause ends handed),
-      all,
-    );
-    looks = record {
-      leaves = record {
-        since = record { was_clean = λ h. h; was_honest = λ h. h; counted = no_fewer; disk = search rules };
-        counted = λ _. counted;
-        vouched = λ _ _. tt;
-        stays = λ _ _. inl tt;
+  -- So a walk of a list hands its rows to the sink behind, which is the one that was given, from that sink as it was.
+  -- It leaves what a look-up does, where its end leaves the rows and is counted.
+  pub walked : {takes_memory : Bool} {inside old : Stopping} {named : _} {start : S} (listed : Rows → List R)
+      (new : Stopping) (end beneath : Result (Unit {0}) WalkFault) (a b : Passing S) (cause : LookFault) → inside ≡ old
+      → a.sink.ghost_name ≡ named → a.sink.now ≡ start
+      → (rows : List R) × Hands Passed PassedNot rows a b beneath × (Unit {0} → rows ≡ listed inside.rows)
+      → EndsAs cause beneath b.failed end → new.rows ≡ old.rows → CountsFailure (failure_of end) old new
+      → (named ≡ b.sink.ghost_name)
+      × WalksOver of_stopping takes_memory after after_stop (listed old.rows) old new start b.sink.now end
+  walked listed new end beneath a b cause is_old is_named begun (rows, handed, all) ends same counted = (
+    sym (same_sink rows a b beneath handed ∙ is_named),
+    record {
+      hands = (
+        rows,
+        subst (λ s. Hands after after_stop rows s b.sink.now end) begun
+            (passed_on rows a b beneath end cause ends handed),
+        λ honest. all honest ∙ ap (λ (b : Stopping). listed b.rows) is_old,
+      );
+      looks = record {
+        leaves = record {
+          since = record { was_clean = λ h. h; was_honest = λ h. h; counted = counted.no_fewer; disk = search rules };
+          counted = λ _. counted.counted;
+          vouched = λ _ _. tt;
+          stays = λ _ _. inl tt;
+        };
+        rose = counted.rose;
+        kept = λ _. same;
+        cause = λ _ _. tt;
+        stop = tt;
+        sure = λ never. absurd never;
       };
-      rose = rose;
-      kept = λ _. same;
-      cause = λ _ _. tt;
-      stop = tt;
-      sure = λ never. absurd never;
-    };
-  }
+    },
+  )

@@ -1,7 +1,9 @@
 -- Books in memory of which one call fails.
-use Rattle.std.specs.Prelude.{ℕ, ◌≡◌, ◌+◌, ◌-◌, ◌^◌, ◌<◌, ◌==◌, ◌⊎◌, Bool, true, false, Some, Result, Ok, Err}
+use Rattle.std.specs.Prelude.{ℕ, ◌≡◌, ◌+◌, ◌-◌, ◌^◌, ◌<◌, ◌==◌, ◌⊎◌, Bool, true, false, Option, Some}
+use Rattle.std.specs.Prelude.{Result, Ok, Err, IfSome}
 use Rattle.keycard_rules.specs.declared.issued.LookFault.{LookFault}
 use Rattle.keycard_rules.specs.declared.issued.LookFault.TheVariants as look
+use Rattle.keycard_rules.specs.{Rise.Counts, Rise.HasRisen, Rise.NoFewer, Rise.one_of}
 use Rattle.hotel_core.specs.{declared.books.walks.WalkFault.WalkFault, Books.Walks.failure_of}
 use Rattle.hotel_core.specs.Rows.{Rows}
 use Rattle.hotel_core.specs.declared.books.walks.WalkFault.TheVariants as why
@@ -32,6 +34,12 @@ pub record IsLeft (old new : Stopping) : Type 0 where
   pub rows : new.rows ≡ old.rows
   pub calls : new.calls ≡ old.calls
   pub cause : new.cause ≡ old.cause
+
+-- A failure that was told is counted by its cause, and no other one is.
+pub record CountsFailure (told : Option LookFault) (old new : Stopping) : Type 0 where
+  pub no_fewer : NoFewer (counts old) (counts new)
+  pub counted : Counts (λ why. one_of why told) (counts old) (counts new)
+  pub rose : IfSome told (λ why. HasRisen (counts old why) (counts new why))
 
 -- A sink before another one stops since a call failed, and hands nothing on; or since the other one stopped.
 abbrev pub StopsEither : Bool → Type 0 → Type 0 → Type 0

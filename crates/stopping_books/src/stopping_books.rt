@@ -1,8 +1,8 @@
 //! Books in memory of which one call fails.
 ghost use Rattle.std.specs.Prelude.{◌≡◌, is_err, Some, IfErr, refl};
 ghost use Rattle.std.proofs.Common.{ap, ◌∙◌};
-ghost use Rattle.keycard_rules.specs.{Leaves.told_by, Rise.Counts, Rise.HasRisen, Rise.NoFewer, Rise.one_of};
-ghost use Rattle.stopping_books.specs.Stops.{counts, IsLeft, MakesCall};
+ghost use Rattle.keycard_rules.specs.Leaves.{told_by};
+ghost use Rattle.stopping_books.specs.Stops.{counts, CountsFailure, IsLeft, MakesCall};
 ghost use Rattle.hotel_core.specs.Refinement.Lookups.{codes_in};
 
 use crate::calls::Calls;
@@ -88,9 +88,7 @@ impl StoppingBooks {
     /// Counts a failure; a count stays at its greatest value.
     pub(crate) fn count(&mut self, cause: LookFault)
         ensures left { IsLeft self.old self.new }
-        ensures no_fewer { NoFewer (counts self.old) (counts self.new) }
-        ensures counted { Counts (λ why. one_of why (Some cause)) (counts self.old) (counts self.new) }
-        ensures rose { HasRisen (counts self.old cause) (counts self.new cause) }
+        ensures counted { CountsFailure (Some cause) self.old self.new }
     {
         match cause {
             LookFault::Memory => self.memory = self.memory.saturating_add(1),
@@ -104,9 +102,7 @@ impl StoppingBooks {
         ensures calls { MakesCall self.old.calls self.new.calls (is_err result) }
         ensures cause { self.new.cause ≡ self.old.cause }
         ensures why { IfErr result (λ why. why ≡ self.old.cause) }
-        ensures no_fewer { NoFewer (counts self.old) (counts self.new) }
-        ensures counted { Counts (λ why. one_of why (told_by result)) (counts self.old) (counts self.new) }
-        ensures rose { IfErr result (λ why. HasRisen (counts self.old why) (counts self.new why)) }
+        ensures counted { CountsFailure (told_by result) self.old self.new }
     {
         if self.calls.fails() {
             let cause = self.cause;
@@ -120,9 +116,7 @@ impl StoppingBooks {
     fn found<T>(&mut self, found: Result<T, LookFault>) -> Result<T, LookFault>
         ensures same { result ≡ found }
         ensures left { IsLeft self.old self.new }
-        ensures no_fewer { NoFewer (counts self.old) (counts self.new) }
-        ensures counted { Counts (λ why. one_of why (told_by result)) (counts self.old) (counts self.new) }
-        ensures rose { IfErr result (λ why. HasRisen (counts self.old why) (counts self.new why)) }
+        ensures counted { CountsFailure (told_by result) self.old self.new }
     {
         match found {
             Ok(answer) => Ok(answer),

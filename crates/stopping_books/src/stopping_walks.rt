@@ -1,8 +1,7 @@
 //! Walks over books in memory of which one call fails.
-ghost use Rattle.std.specs.Prelude.{◌≡◌, Err, IfSome, is_some, OnErr, OnOk, Some};
-ghost use Rattle.keycard_rules.specs.Rise.{Counts, HasRisen, NoFewer, one_of};
+ghost use Rattle.std.specs.Prelude.{◌≡◌, Err, is_some, OnErr, OnOk, Some};
 ghost use Rattle.hotel_core.specs.Books.Walks.{failure_of};
-ghost use Rattle.stopping_books.specs.Stops.{counts, EndsAs, IsLeft, MakesCall};
+ghost use Rattle.stopping_books.specs.Stops.{CountsFailure, EndsAs, IsLeft, MakesCall};
 
 use crate::calls::Calls;
 use crate::stopping_books::StoppingBooks;
@@ -60,9 +59,7 @@ impl StoppingBooks {
     fn walk_failed(&mut self, cause: LookFault) -> WalkFault
         ensures same { failure_of (Err result) ≡ Some cause }
         ensures left { IsLeft self.old self.new }
-        ensures no_fewer { NoFewer (counts self.old) (counts self.new) }
-        ensures counted { Counts (λ why. one_of why (failure_of (Err result))) (counts self.old) (counts self.new) }
-        ensures rose { HasRisen (counts self.old cause) (counts self.new cause) }
+        ensures counted { CountsFailure (failure_of (Err result)) self.old self.new }
     {
         self.count(cause);
         match cause {
@@ -83,9 +80,7 @@ impl StoppingBooks {
         ensures cause { self.new.cause ≡ self.old.cause }
         ensures last_call { OnOk end (MakesCall calls self.new.calls (is_some (failure_of result))) }
         ensures no_call { OnErr end (self.new.calls ≡ calls) }
-        ensures no_fewer { NoFewer (counts self.old) (counts self.new) }
-        ensures counted { Counts (λ why. one_of why (failure_of result)) (counts self.old) (counts self.new) }
-        ensures rose { IfSome (failure_of result) (λ cause. HasRisen (counts self.old cause) (counts self.new cause)) }
+        ensures counted { CountsFailure (failure_of result) self.old self.new }
     {
         self.calls = calls;
         match end {

@@ -2,7 +2,7 @@
 use Rattle.std.proofs.Common.{ℕ, suc, ◌≡◌, ◌<◌, ◌+◌, ◌-◌, ◌++◌, Bool, true, false, cond, Option, Some, None, List, []}
 use Rattle.std.proofs.Common.{◌∷◌, Result, Ok, Err, filter, append_assoc, refl, ap, sym, ◌∙◌, subst, arith, filter_map}
 use Rattle.std.proofs.Common.{is_some}
-use Rattle.hotel_core.proofs.Names.{range_with_len, cons_option, Passes, TakesFront, StopsAt, failure_of}
+use Rattle.hotel_core.proofs.Names.{range_with_len, cons_option, Passes, TakesPrefix, StopsAt, failure_of}
 use Rattle.keycard_rules.proofs.CallsTogether.{passes_push}
 use Rattle.std.proofs.lemmas.List.{append-nil}
 use Rattle.keycard_rules.specs.declared.issued.LookFault.TheVariants as look
@@ -36,7 +36,7 @@ stopped after after_stop rows row rest a b c s one = (s.0, row, rest, s.1, b, s.
 
 -- the walk is cut off
 pub cut_off : {S R : Type 0} (after : S → R → S → Type 0) (rows rest : List R) (a b : S)
-    → SoFar after rows rest a b → TakesFront after rows a b
+    → SoFar after rows rest a b → TakesPrefix after rows a b
 cut_off after rows rest a b s = (s.0, rest, s.1, s.2)
 
 -- the rest, where it is known as another list

@@ -7,8 +7,8 @@ use Rattle.hotel_core.specs.declared.books.walks.WalkFault.{WalkFault}
 use Rattle.hotel_core.specs.declared.books.walks.WalkFault.TheVariants as why
 
 -- The sink took a prefix of the rows, one after the other, and went from one meaning to another along them.
-abbrev pub TakesFront : {S R : Type 0} → (S → R → S → Type 0) → List R → S → S → Type 0
-TakesFront {R = R} after rows sink end = (taken : List R) × (rest : List R) × (rows ≡ taken ++ rest)
+abbrev pub TakesPrefix : {S R : Type 0} → (S → R → S → Type 0) → List R → S → S → Type 0
+TakesPrefix {R = R} after rows sink end = (taken : List R) × (rest : List R) × (rows ≡ taken ++ rest)
     × Passes after sink taken end
 
 -- The sink took a prefix of the rows, and stopped at the row after them.
@@ -22,8 +22,8 @@ abbrev pub Hands : {S R : Type 0} → (S → R → S → Type 0) → (S → R �
     → Result (Unit {0}) WalkFault → Type 0
 Hands after after_stop rows sink end (Ok done) = Passes after sink rows end
 Hands after after_stop rows sink end (Err why.Stopped) = StopsAt after after_stop rows sink end
-Hands after after_stop rows sink end (Err why.Memory) = TakesFront after rows sink end
-Hands after after_stop rows sink end (Err why.Store) = TakesFront after rows sink end
+Hands after after_stop rows sink end (Err why.Memory) = TakesPrefix after rows sink end
+Hands after after_stop rows sink end (Err why.Store) = TakesPrefix after rows sink end
 
 -- what the end of a walk prints
 abbrev pub walk_text : WalkFault → List ℕ

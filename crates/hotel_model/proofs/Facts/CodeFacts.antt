@@ -50,7 +50,7 @@ PartiesHaveLinks h = (party : ℕ) (link : Link) → link_of_party h party ≡ S
 -- The newest link of a room is its last two codes.
 abbrev pub NewestAreLast : History → Type 0
 NewestAreLast h = (r : ℕ) (link : Link)
-    → newest_link h r ≡ Some link → (front : List ℕ) × (issued h r ≡ front ++ link.old_code ∷ link.new_code ∷ [])
+    → newest_link h r ≡ Some link → (prefix : List ℕ) × (issued h r ≡ prefix ++ link.old_code ∷ link.new_code ∷ [])
 
 -- The search for the place of a room's code finds this code.
 abbrev pub CodesAreFound : History → Type 0

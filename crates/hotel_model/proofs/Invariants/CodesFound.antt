@@ -46,25 +46,25 @@ newest_found h ok r link e =
     )
 
 -- a code of a room is its current one exactly where it stands at the last place
-pub current_by_place : (h : History) → Reached h → (r : ℕ) (front : List ℕ) (code : ℕ) (later : List ℕ)
-    → is_room h r ≡ true → issued h r ≡ front ++ code ∷ later
-    → (code == current h r) ≡ (length front + 1 == length (issued h r))
-current_by_place h ok r front code later there e = same_bool _ _ (λ t. is_last (eq_from code (current h r) t))
-    (λ t. is_current later e (eq_from (length front + 1) (length (issued h r)) t))
+pub current_by_place : (h : History) → Reached h → (r : ℕ) (prefix : List ℕ) (code : ℕ) (later : List ℕ)
+    → is_room h r ≡ true → issued h r ≡ prefix ++ code ∷ later
+    → (code == current h r) ≡ (length prefix + 1 == length (issued h r))
+current_by_place h ok r prefix code later there e = same_bool _ _ (λ t. is_last (eq_from code (current h r) t))
+    (λ t. is_current later e (eq_from (length prefix + 1) (length (issued h r)) t))
   where
-    is_last : code ≡ current h r → (length front + 1 == length (issued h r)) ≡ true
+    is_last : code ≡ current h r → (length prefix + 1 == length (issued h r)) ≡ true
     is_last same =
         let l = ends_with_current h r (rooms_have_codes h ok r there) in
-        let p = same_place h ok r r code front later l.0 [] e (l.1 ∙ ap (λ z. l.0 ++ z ∷ []) (sym same)) in
-        let n : length (issued h r) ≡ length front + 1 =
-        ap (λ (zs : List ℕ). length zs) (e ∙ ap (λ zs. front ++ code ∷ zs) p.2) ∙ length_more front code in
-        ap (λ z. length front + 1 == z) n ∙ eq_self (length front + 1)
+        let p = same_place h ok r r code prefix later l.0 [] e (l.1 ∙ ap (λ z. l.0 ++ z ∷ []) (sym same)) in
+        let n : length (issued h r) ≡ length prefix + 1 =
+        ap (λ (zs : List ℕ). length zs) (e ∙ ap (λ zs. prefix ++ code ∷ zs) p.2) ∙ length_more prefix code in
+        ap (λ z. length prefix + 1 == z) n ∙ eq_self (length prefix + 1)
 
-    is_current : (rest : List ℕ) → issued h r ≡ front ++ code ∷ rest → length front + 1 ≡ length (issued h r)
+    is_current : (rest : List ℕ) → issued h r ≡ prefix ++ code ∷ rest → length prefix + 1 ≡ length (issued h r)
         → (code == current h r) ≡ true
-    is_current [] f n = ap (λ z. code == z) (ap last_of f ∙ last_more front code) ∙ eq_self code
+    is_current [] f n = ap (λ z. code == z) (ap last_of f ∙ last_more prefix code) ∙ eq_self code
     is_current (x ∷ rest) f n =
-        absurd (let m = ap (λ (zs : List ℕ). length zs) f in omega (arith, length-append front (code ∷ x ∷ rest)))
+        absurd (let m = ap (λ (zs : List ℕ). length zs) f in omega (arith, length-append prefix (code ∷ x ∷ rest)))
 
 -- The codes of a room after an entry that may follow: those then passed, the link's new one, those then awaited.
 pub entered_in_order : (h : History) → Reached h → (room fit count number : ℕ) (link : Link) (at : Moment)
@@ -97,7 +97,7 @@ entered_current h ok room fit count number link at needs =
     current_by_place h ok room (passed h' room) link.new_code (awaited h' room) needs.1
     (entered_in_order h ok room fit count number link at needs)
 
-is_one_in : (front : List ℕ) (c : ℕ) (back : List ℕ) → is_one_of c (front ++ c ∷ back) ≡ true
+is_one_in : (prefix : List ℕ) (c : ℕ) (back : List ℕ) → is_one_of c (prefix ++ c ∷ back) ≡ true
 is_one_in [] c back = first (c == c) (eq_self c)
   where
     first : (b : Bool) → b ≡ true → (b || is_one_of c back) ≡ true
@@ -110,8 +110,8 @@ is_one_in (x ∷ xs) c back = second (x == c) (is_one_in xs c back)
     second false t = t
 
 -- a code that stands past the place of another is one of those after it
-one_after : (ps : List ℕ) (held_code : ℕ) (ws front : List ℕ) (c : ℕ) (back : List ℕ)
-    → ps ++ held_code ∷ ws ≡ front ++ c ∷ back → length ps < length front → is_one_of c ws ≡ true
+one_after : (ps : List ℕ) (held_code : ℕ) (ws prefix : List ℕ) (c : ℕ) (back : List ℕ)
+    → ps ++ held_code ∷ ws ≡ prefix ++ c ∷ back → length ps < length prefix → is_one_of c ws ≡ true
 one_after ps x ws [] c back e lt = absurd (omega arith)
 one_after [] x ws (f ∷ fs) c back e lt =
     let same : ws ≡ fs ++ c ∷ back = cc in ap (is_one_of c) same ∙ is_one_in fs c back

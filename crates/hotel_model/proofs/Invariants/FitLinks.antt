@@ -50,14 +50,14 @@ its_row : (h : History) → Reached h → (n : ℕ) (card : Card) → at_number 
     × (row.place < length (issued h row.room))
 its_row h ok n card e =
     let l = cards_have_links h ok n card e in
-    let front : List ℕ = l.1.0 ++ card.link.old_code ∷ [] in
-    let f : issued h l.0 ≡ front ++ card.link.new_code ∷ l.1.1 =
+    let prefix : List ℕ = l.1.0 ++ card.link.old_code ∷ [] in
+    let f : issued h l.0 ≡ prefix ++ card.link.new_code ∷ l.1.1 =
     l.1.2 ∙ sym (append_assoc l.1.0 (card.link.old_code ∷ []) (card.link.new_code ∷ l.1.1)) in
     let m = ap (λ (zs : List ℕ). length zs) f in (
-      record { room = l.0; place = length front },
-      codes_have_places h ok l.0 front card.link.new_code l.1.1 f,
-      there_by_codes h ok l.0 (λ none. not_empty front card.link.new_code l.1.1 (sym f ∙ none)),
-      omega (arith, m, length-append front (card.link.new_code ∷ l.1.1)),
+      record { room = l.0; place = length prefix },
+      codes_have_places h ok l.0 prefix card.link.new_code l.1.1 f,
+      there_by_codes h ok l.0 (λ none. not_empty prefix card.link.new_code l.1.1 (sym f ∙ none)),
+      omega (arith, m, length-append prefix (card.link.new_code ∷ l.1.1)),
     )
 
 one_row : (o : Option CodeRow) (a b : CodeRow) → o ≡ Some a → o ≡ Some b → a ≡ b

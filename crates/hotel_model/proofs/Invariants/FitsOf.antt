@@ -180,7 +180,7 @@ present_found h ok r there =
     let least = s.least in
     let k : present_fit h r ≡ (length (fits_at (fits h) r) - 1) + 1 = omega arith in
     ap (fit_at (rows_of h) r) k ∙ fit_found h ok r (length (fits_at (fits h) r) - 1) s.numbers
-    ∙ last_is_at (fits_at (fits h) r) s.last.0 s.last.1
+    ∙ last_is_at (fits_at (fits h) r) ∙ s.last.1
 
 -- and the next one isn't there
 pub next_fit_free : (h : History) → Reached h → (r : ℕ)

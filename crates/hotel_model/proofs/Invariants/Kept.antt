@@ -29,20 +29,20 @@ card_goes_on h (Spare party number) n card ok e =
     card_kept_spare (link_of_party h party) h party number n card ok.0 (may_follow h (Spare party number) ok).2 e
 card_goes_on h _ n card ok e = e
 
-more_codes : (b : Bool) (new : ℕ) (codes front back : List ℕ) (a c : ℕ)
-    → codes ≡ front ++ a ∷ c ∷ back → (later : List ℕ) × (when b (and_last new) codes ≡ front ++ a ∷ c ∷ later)
-more_codes true new codes front back a c e =
-    (back ++ new ∷ [], ap (λ zs. zs ++ new ∷ []) e ∙ append_assoc front (a ∷ c ∷ back) (new ∷ []))
-more_codes false new codes front back a c e = (back, e)
+more_codes : (b : Bool) (new : ℕ) (codes prefix back : List ℕ) (a c : ℕ)
+    → codes ≡ prefix ++ a ∷ c ∷ back → (later : List ℕ) × (when b (and_last new) codes ≡ prefix ++ a ∷ c ∷ later)
+more_codes true new codes prefix back a c e =
+    (back ++ new ∷ [], ap (λ zs. zs ++ new ∷ []) e ∙ append_assoc prefix (a ∷ c ∷ back) (new ∷ []))
+more_codes false new codes prefix back a c e = (back, e)
 
 -- neighbours at a room stay so, at their places
-pub link_goes_on : (h : History) (event : Event) (r : ℕ) (front back : List ℕ) (a c : ℕ)
-    → issued h r ≡ front ++ a ∷ c ∷ back → (later : List ℕ) × (issued (h ▷ event) r ≡ front ++ a ∷ c ∷ later)
-link_goes_on h (Install room kind new) r front back a c e = more_codes (room == r) new (issued h r) front back a c e
-link_goes_on h (Issue party room number new) r front back a c e =
-    more_codes (room == r) new (issued h r) front back a c e
-link_goes_on h (Refitted room fit new) r front back a c e = more_codes (room == r) new (issued h r) front back a c e
-link_goes_on h _ r front back a c e = (back, e)
+pub link_goes_on : (h : History) (event : Event) (r : ℕ) (prefix back : List ℕ) (a c : ℕ)
+    → issued h r ≡ prefix ++ a ∷ c ∷ back → (later : List ℕ) × (issued (h ▷ event) r ≡ prefix ++ a ∷ c ∷ later)
+link_goes_on h (Install room kind new) r prefix back a c e = more_codes (room == r) new (issued h r) prefix back a c e
+link_goes_on h (Issue party room number new) r prefix back a c e =
+    more_codes (room == r) new (issued h r) prefix back a c e
+link_goes_on h (Refitted room fit new) r prefix back a c e = more_codes (room == r) new (issued h r) prefix back a c e
+link_goes_on h _ r prefix back a c e = (back, e)
 
 on_by : {X : Type 0} (o p : Option X) (t u : X → Bool) → ((x : X) → o ≡ Some x → p ≡ Some x)
     → ((x : X) → t x ≡ true → u x ≡ true) → said_of o false t ≡ true → said_of p false u ≡ true

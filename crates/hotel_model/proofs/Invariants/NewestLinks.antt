@@ -31,19 +31,19 @@ installed_newest true codes code fs fs' row newest e none ih =
     ∙ none_either (list_any (λ (f : FitRow). f.place == length (code ∷ []) - 1) fs'))
 installed_newest false codes code fs fs' row newest e none ih = ih ∙ ap (λ gs. by_fits gs codes) (sym e)
 
-pub two_last : (front : List ℕ) (a b : ℕ)
-    → last_link_of (front ++ a ∷ b ∷ []) ≡ Some (record { old_code = a; new_code = b })
+pub two_last : (prefix : List ℕ) (a b : ℕ)
+    → last_link_of (prefix ++ a ∷ b ∷ []) ≡ Some (record { old_code = a; new_code = b })
 two_last [] a b = refl
 two_last (c ∷ []) a b = refl
 two_last (c ∷ d ∷ []) a b = refl
-two_last (c ∷ d ∷ f ∷ front) a b = two_last (d ∷ f ∷ front) a b
+two_last (c ∷ d ∷ f ∷ prefix) a b = two_last (d ∷ f ∷ prefix) a b
 
 last_length : (codes : List ℕ) (code : ℕ) → length (codes ++ code ∷ []) - 1 ≡ length codes
 last_length codes code = let l = length_more codes code in omega arith
 
 -- a card of a new code was given
 issued_newest : (b : Bool) (h : History) (room code r : ℕ) → (b ≡ true → room ≡ r)
-    → ((front : List ℕ) × (issued h r ++ code ∷ [] ≡ front ++ (link_to h r code).old_code ∷ code ∷ []))
+    → ((prefix : List ℕ) × (issued h r ++ code ∷ [] ≡ prefix ++ (link_to h r code).old_code ∷ code ∷ []))
     → begins_fit (rows_of h) r (length (issued h r)) ≡ false
     → newest_link h r ≡ by_fits (fits_at (fits h) r) (issued h r)
     → when b (λ _. Some (link_to h room code)) (newest_link h r)
@@ -97,21 +97,21 @@ newest_by_rows (h ▷ Refitted room fit code) ok r =
 newest_by_rows (h ▷ _) ok r = newest_by_rows h ok.0 r
 
 -- A card whose codes are the last two of a room has its newest link.
-pub newest_of_card : (h : History) → Reached h → (r : ℕ) (front : List ℕ) (n : ℕ) (card : Card) (link : Link)
+pub newest_of_card : (h : History) → Reached h → (r : ℕ) (prefix : List ℕ) (n : ℕ) (card : Card) (link : Link)
     → at_number (cards h) n ≡ Some card → card.link ≡ link
-    → issued h r ≡ front ++ link.old_code ∷ link.new_code ∷ [] → newest_link h r ≡ Some link
-newest_of_card h ok r front n card link e same two =
-    let f : issued h r ≡ (front ++ link.old_code ∷ []) ++ link.new_code ∷ [] =
-    two ∙ sym (append_assoc front (link.old_code ∷ []) (link.new_code ∷ [])) in
-    let row : CodeRow = record { room = r; place = length (front ++ link.old_code ∷ []) } in
+    → issued h r ≡ prefix ++ link.old_code ∷ link.new_code ∷ [] → newest_link h r ≡ Some link
+newest_of_card h ok r prefix n card link e same two =
+    let f : issued h r ≡ (prefix ++ link.old_code ∷ []) ++ link.new_code ∷ [] =
+    two ∙ sym (append_assoc prefix (link.old_code ∷ []) (link.new_code ∷ [])) in
+    let row : CodeRow = record { room = r; place = length (prefix ++ link.old_code ∷ []) } in
     let there : at_number (all_issued h) card.link.new_code ≡ Some row =
     ap (λ (l : Link). at_number (all_issued h) l.new_code) same
-    ∙ codes_have_places h ok r (front ++ link.old_code ∷ []) link.new_code [] f in
-    let none : begins_fit (rows_of h) r (length (front ++ link.old_code ∷ [])) ≡ false =
+    ∙ codes_have_places h ok r (prefix ++ link.old_code ∷ []) link.new_code [] f in
+    let none : begins_fit (rows_of h) r (length (prefix ++ link.old_code ∷ [])) ≡ false =
     links_begin_none h ok n card row e there in
-    let m : length (issued h r) - 1 ≡ length (front ++ link.old_code ∷ []) =
-    ap (λ (zs : List ℕ). length zs - 1) f ∙ last_length (front ++ link.old_code ∷ []) link.new_code in
+    let m : length (issued h r) - 1 ≡ length (prefix ++ link.old_code ∷ []) =
+    ap (λ (zs : List ℕ). length zs - 1) f ∙ last_length (prefix ++ link.old_code ∷ []) link.new_code in
     newest_by_rows h ok r
     ∙ ap (λ k. cond (list_any (λ (x : FitRow). x.place == k) (fits_at (fits h) r)) None (last_link_of (issued h r))) m
     ∙ ap (λ z. cond z None (last_link_of (issued h r))) none
-    ∙ ap last_link_of two ∙ two_last front link.old_code link.new_code
+    ∙ ap last_link_of two ∙ two_last prefix link.old_code link.new_code

@@ -59,8 +59,8 @@ link_of_room h ok r link there l opens =
           subst (λ z. IsLinkOf (issued h z) link) (sym p.0) l.1
     ]
 
-is_in : (front : List ℕ) (c : ℕ) (back : List ℕ) → Contains (front ++ c ∷ back) c
-is_in front c back = Contains-append_right front (c ∷ back) c (0, omega arith, refl)
+is_in : (prefix : List ℕ) (c : ℕ) (back : List ℕ) → Contains (prefix ++ c ∷ back) c
+is_in prefix c back = Contains-append_right prefix (c ∷ back) c (0, omega arith, refl)
 
 pub opens_own_room : (h : History) → Reached h → OpensOwnRoom h
 opens_own_room h ok r number card there has opens =
@@ -80,7 +80,7 @@ there_by_codes h ok r some =
     ]
 
 -- a list with a code isn't empty
-pub not_empty : (front : List ℕ) (a : ℕ) (back : List ℕ) → front ++ a ∷ back ≡ [] → ⊥
+pub not_empty : (prefix : List ℕ) (a : ℕ) (back : List ℕ) → prefix ++ a ∷ back ≡ [] → ⊥
 not_empty [] a back e = cc
 not_empty (x ∷ xs) a back e = cc
 
@@ -91,24 +91,24 @@ there_by_link h ok r link e =
     there_by_codes h ok r (λ n. not_empty l.0 link.old_code (link.new_code ∷ []) (sym l.1 ∙ n))
 
 -- the last or the last but one of some codes opens to a link of the last two
-opens_if : (later ps front : List ℕ) (code : ℕ) (link : Link)
-    → ps ++ code ∷ later ≡ front ++ link.old_code ∷ link.new_code ∷ [] → length later ≤ 1
+opens_if : (later ps prefix : List ℕ) (code : ℕ) (link : Link)
+    → ps ++ code ∷ later ≡ prefix ++ link.old_code ∷ link.new_code ∷ [] → length later ≤ 1
     → is_some (turn code link) ≡ true
-opens_if [] ps front code link e short =
-    let f : ps ++ code ∷ [] ≡ (front ++ link.old_code ∷ []) ++ link.new_code ∷ [] =
-    e ∙ sym (append_assoc front (link.old_code ∷ []) (link.new_code ∷ [])) in
+opens_if [] ps prefix code link e short =
+    let f : ps ++ code ∷ [] ≡ (prefix ++ link.old_code ∷ []) ++ link.new_code ∷ [] =
+    e ∙ sym (append_assoc prefix (link.old_code ∷ []) (link.new_code ∷ [])) in
     let n = ap (λ (zs : List ℕ). length zs) f in
-    let m : length ps ≡ length (front ++ link.old_code ∷ []) =
-    omega (arith, n, length-append ps (code ∷ []), length-append (front ++ link.old_code ∷ []) (link.new_code ∷ [])) in
-    let p = (cut_alike ps (front ++ link.old_code ∷ []) (code ∷ []) (link.new_code ∷ []) m f).1 in
+    let m : length ps ≡ length (prefix ++ link.old_code ∷ []) =
+    omega (arith, n, length-append ps (code ∷ []), length-append (prefix ++ link.old_code ∷ []) (link.new_code ∷ [])) in
+    let p = (cut_alike ps (prefix ++ link.old_code ∷ []) (code ∷ []) (link.new_code ∷ []) m f).1 in
     opens_new code link cc
-opens_if (x ∷ []) ps front code link e short =
+opens_if (x ∷ []) ps prefix code link e short =
     let n = ap (λ (zs : List ℕ). length zs) e in
-    let m : length ps ≡ length front =
-    omega (arith, n, length-append ps (code ∷ x ∷ []), length-append front (link.old_code ∷ link.new_code ∷ [])) in
-    let p = (cut_alike ps front (code ∷ x ∷ []) (link.old_code ∷ link.new_code ∷ []) m e).1 in
+    let m : length ps ≡ length prefix =
+    omega (arith, n, length-append ps (code ∷ x ∷ []), length-append prefix (link.old_code ∷ link.new_code ∷ [])) in
+    let p = (cut_alike ps prefix (code ∷ x ∷ []) (link.old_code ∷ link.new_code ∷ []) m e).1 in
     opens_old code link cc
-opens_if (x ∷ y ∷ later) ps front code link e short = absurd (omega arith)
+opens_if (x ∷ y ∷ later) ps prefix code link e short = absurd (omega arith)
 
 pub newest_opens : (h : History) → Reached h → NewestOpens h
 newest_opens h ok r link e =

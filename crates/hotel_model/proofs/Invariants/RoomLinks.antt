@@ -30,13 +30,13 @@ still_link h room new link l = (l.0, still_at (room == l.0) new (issued h l.0) l
 
 -- the codes of a room that is there end with its current one
 pub ends_with_current : (h : History) (room : ℕ)
-    → HasCodes (issued h room) → (front : List ℕ) × (issued h room ≡ front ++ current h room ∷ [])
+    → HasCodes (issued h room) → (prefix : List ℕ) × (issued h room ≡ prefix ++ current h room ∷ [])
 ends_with_current h room f =
     let l = last_split f.0 f.1 in (l.0, f.2 ∙ l.1 ∙ ap (λ zs. l.0 ++ last_of zs ∷ []) (sym f.2))
 
 -- the last two codes of a room whose new code was just issued
 pub new_last_two : (h : History) (room new : ℕ)
-    → HasCodes (issued h room) → (front : List ℕ) × (issued h room ++ new ∷ [] ≡ front ++ current h room ∷ new ∷ [])
+    → HasCodes (issued h room) → (prefix : List ℕ) × (issued h room ++ new ∷ [] ≡ prefix ++ current h room ∷ new ∷ [])
 new_last_two h room new f =
     let l = ends_with_current h room f in
     (l.0, ap (λ zs. zs ++ new ∷ []) l.1 ∙ append_assoc l.0 (current h room ∷ []) (new ∷ []))
@@ -104,13 +104,13 @@ cards_have_links (h ▷ Refitted room fit code) ok n card e =
     still_link h room code card.link (cards_have_links h ok.0 n card e)
 cards_have_links (h ▷ _) ok n card e = cards_have_links h ok.0 n card e
 
-nothing_here : (front : List ℕ) (link : Link) → [] ≡ front ++ link.old_code ∷ link.new_code ∷ [] → ⊥
+nothing_here : (prefix : List ℕ) (link : Link) → [] ≡ prefix ++ link.old_code ∷ link.new_code ∷ [] → ⊥
 nothing_here [] link e = cc
 nothing_here (x ∷ xs) link e = cc
 
 newest_by : (b : Bool) (h : History) (room new r : ℕ) (link : Link) → (b ≡ true → room ≡ r) → HasCodes (issued h room)
     → NewestAreLast h → when b (λ _. Some (link_to h room new)) (newest_link h r) ≡ Some link
-    → (front : List ℕ) × (when b (and_last new) (issued h r) ≡ front ++ link.old_code ∷ link.new_code ∷ [])
+    → (prefix : List ℕ) × (when b (and_last new) (issued h r) ≡ prefix ++ link.old_code ∷ link.new_code ∷ [])
 newest_by true h room new r link here f ih e =
     let same : link_to h room new ≡ link = cc in
     let l = new_last_two h room new f in (
@@ -121,15 +121,15 @@ newest_by true h room new r link here f ih e =
 newest_by false h room new r link here f ih e = ih r link e
 
 installed_by : (b : Bool) (h : History) (room new r : ℕ) (link : Link)
-    → (b ≡ true → issued h r ≡ []) → ((front : List ℕ) × (issued h r ≡ front ++ link.old_code ∷ link.new_code ∷ []))
-    → (front : List ℕ) × (when b (and_last new) (issued h r) ≡ front ++ link.old_code ∷ link.new_code ∷ [])
+    → (b ≡ true → issued h r ≡ []) → ((prefix : List ℕ) × (issued h r ≡ prefix ++ link.old_code ∷ link.new_code ∷ []))
+    → (prefix : List ℕ) × (when b (and_last new) (issued h r) ≡ prefix ++ link.old_code ∷ link.new_code ∷ [])
 installed_by true h room new r link none l = absurd (nothing_here l.0 link (sym (none refl) ∙ l.1))
 installed_by false h room new r link none l = l
 
 refitted_by : (b : Bool) (new : ℕ) (was : Option Link) (codes : List ℕ) (link : Link)
-    → (was ≡ Some link → (front : List ℕ) × (codes ≡ front ++ link.old_code ∷ link.new_code ∷ []))
+    → (was ≡ Some link → (prefix : List ℕ) × (codes ≡ prefix ++ link.old_code ∷ link.new_code ∷ []))
     → when b (λ _. None) was ≡ Some link
-    → (front : List ℕ) × (when b (and_last new) codes ≡ front ++ link.old_code ∷ link.new_code ∷ [])
+    → (prefix : List ℕ) × (when b (and_last new) codes ≡ prefix ++ link.old_code ∷ link.new_code ∷ [])
 refitted_by true new was codes link ih e = absurd (let w : ◌≡◌ {A = Option Link} None (Some link) = e in cc)
 refitted_by false new was codes link ih e = ih e
 

@@ -79,16 +79,16 @@ newest_if_current h ok room number link fit count at needs cur =
 -- an entry by the newest link leaves nothing awaited
 none_awaited : (h : History) → Reached h → (room fit count number : ℕ) (link : Link) (at : Moment)
     → MayFollow h (Entered room fit count number link at)
-    → (front : List ℕ) → issued h room ≡ front ++ link.new_code ∷ []
+    → (prefix : List ℕ) → issued h room ≡ prefix ++ link.new_code ∷ []
     → awaited (h ▷ Entered room fit count number link at) room ≡ []
-none_awaited h ok room fit count number link at needs front e =
+none_awaited h ok room fit count number link at needs prefix e =
     let h' : History = h ▷ Entered room fit count number link at in
     (same_place h ok room room link.new_code (passed h' room)
-    (awaited h' room) front [] (entered_in_order h ok room fit count number link at needs) e).2
+    (awaited h' room) prefix [] (entered_in_order h ok room fit count number link at needs) e).2
 
 -- the newest link's new code is the room's last
 ends_with_new : (h : History) → Reached h → (r : ℕ) (link : Link)
-    → newest_link h r ≡ Some link → (front : List ℕ) × (issued h r ≡ front ++ link.new_code ∷ [])
+    → newest_link h r ≡ Some link → (prefix : List ℕ) × (issued h r ≡ prefix ++ link.new_code ∷ [])
 ends_with_new h ok r link e =
     let l = newest_are_last h ok r link e in
     (l.0 ++ link.old_code ∷ [], l.1 ∙ sym (append_assoc l.0 (link.old_code ∷ []) (link.new_code ∷ [])))

@@ -15,14 +15,11 @@ use Rattle.hotel_model.specs.Lists.{house_row, house_row_of, in_house, in_places
 use Rattle.hotel_model.specs.Lists.{status_row, room_status, are_ahead, free_row, availability}
 use Rattle.hotel_model.specs.Refinement.ListsOnRows.{status_row_on, room_status_on, free_row_on, availability_on}
 use Rattle.hotel_model.specs.{declared.list_rows.FreeRow.FreeRow, Words.greatest}
-use Rattle.hotel_model.proofs.{OfTables.Tests.eq_self, OfTables.RoomNumbers.room_there}
+use Rattle.hotel_model.proofs.{OfTables.RowTests.or_later, OfTables.Tests.eq_self, OfTables.RoomNumbers.room_there}
+use Rattle.hotel_model.proofs.{Lifted.LocksListed.locks_same}
 use Rattle.hotel_model.proofs.{Invariants.LedgerOrder.ledger_holds, OfTables.CodeSearch.codes_are_found}
 use Rattle.hotel_model.proofs.{Invariants.CodesFound.held_found, Invariants.CodesFound.current_found}
 use Rattle.hotel_model.proofs.{OfTables.NotesListed.notes_are_listed, Invariants.KindCounts.rooms_counted}
-
-or_right : (a b : Bool) → b ≡ true → (a || b) ≡ true
-or_right true b e = refl
-or_right false b e = e
 
 -- rows that are made of the rooms' rows, and of the rooms' numbers
 room_by_room : {R : Type 0} (h : History) (f : RoomRow → Option R) (k : ℕ → Option R) (es : List (ℕ × List ℕ))
@@ -33,7 +30,7 @@ room_by_room h f k (e ∷ es) same =
     ap (λ o. cons_option o (filter_map f (values_of (map (λ e. (e.0, room_row h e.0 e.1)) es))))
     (same e.0 e.1 (ap (λ b. b || is_one_of e.0 (keys_of es)) (eq_self e.0)))
     ∙ ap (cons_option (k e.0))
-    (room_by_room h f k es (λ r kind t. same r kind (or_right (e.0 == r) (is_one_of r (keys_of es)) t)))
+    (room_by_room h f k es (λ r kind t. same r kind (or_later (e.0 == r) (is_one_of r (keys_of es)) t)))
 
 made_of : {A B : Type 0} (f : A → B) (o : Option A) → option_map f o ≡ said_of o None (λ a. Some (f a))
 made_of f (Some a) = refl
@@ -166,7 +163,7 @@ status_by h ok [] there = refl
 status_by h ok (e ∷ es) there =
     let here : is_room h e.0 ≡ true = there e.0 (ap (λ b. b || is_one_of e.0 (keys_of es)) (eq_self e.0)) in
     (λ i. record (status_row h e.0 e.1) { awaited = awaited_many h ok e.0 e.1 here i }
-    ∷ status_by h ok es (λ r t. there r (or_right (e.0 == r) (is_one_of r (keys_of es)) t)) i)
+    ∷ status_by h ok es (λ r t. there r (or_later (e.0 == r) (is_one_of r (keys_of es)) t)) i)
 
 pub status_same : (h : History) → Reached h → room_status_on (rows_of h) ≡ room_status h
 status_same h ok = status_by h ok (rooms h) (λ r t. t)
@@ -201,4 +198,6 @@ lists_lift h ok = record {
   of_bookings = refl;
   of_availability = availability_same h;
   of_cards_given = λ party. refl;
+  of_card = λ number. refl;
+  of_locks = locks_same h ok;
 }

@@ -4,13 +4,13 @@ use Rattle.std.proofs.Common.{refl, ap, sym, ◌∙◌, subst, take, drop, arith
 use Rattle.hotel_model.proofs.Names.{position_or_len, false≢true, is_one_of, before, after, without, last_of}
 use Rattle.hotel_model.proofs.OfTables.Tests.{eq_from, eq_self, or_second}
 
-pub nothing_in_nil : (front : List ℕ) (c : ℕ) (back : List ℕ) → [] ≡ front ++ c ∷ back → ⊥
+pub nothing_in_nil : (prefix : List ℕ) (c : ℕ) (back : List ℕ) → [] ≡ prefix ++ c ∷ back → ⊥
 nothing_in_nil [] c back e = cc
 nothing_in_nil (f ∷ fs) c back e = cc
 
 -- in a list with one more code, a code is that one or stood there
-pub snoc_split : (xs : List ℕ) (y : ℕ) (front : List ℕ) (c : ℕ) (back : List ℕ)
-    → xs ++ y ∷ [] ≡ front ++ c ∷ back → ((front ≡ xs) × (c ≡ y)) ⊎ ((rest : List ℕ) × (xs ≡ front ++ c ∷ rest))
+pub snoc_split : (xs : List ℕ) (y : ℕ) (prefix : List ℕ) (c : ℕ) (back : List ℕ)
+    → xs ++ y ∷ [] ≡ prefix ++ c ∷ back → ((prefix ≡ xs) × (c ≡ y)) ⊎ ((rest : List ℕ) × (xs ≡ prefix ++ c ∷ rest))
 snoc_split [] y [] c back e = inl (refl, cc)
 snoc_split [] y (f ∷ fs) c back e = absurd (nothing_in_nil fs c back cc)
 snoc_split (x ∷ xs) y [] c back e = inr (xs, (let q : x ≡ c = cc in ap (λ z. z ∷ xs) q))
@@ -32,7 +32,7 @@ cut_alike (x ∷ xs) (y ∷ ys) us vs l e =
     (ap (λ z. z ∷ xs) p ∙ ap (λ zs. y ∷ zs) q.0, q.1)
 
 -- a list that isn't empty ends with its last code
-pub last_split : (x : ℕ) (xs : List ℕ) → (front : List ℕ) × (x ∷ xs ≡ front ++ last_of (x ∷ xs) ∷ [])
+pub last_split : (x : ℕ) (xs : List ℕ) → (prefix : List ℕ) × (x ∷ xs ≡ prefix ++ last_of (x ∷ xs) ∷ [])
 last_split x [] = ([], refl)
 last_split x (y ∷ ys) = let p = last_split y ys in (x ∷ p.0, ap (λ zs. x ∷ zs) p.1)
 

@@ -1,6 +1,7 @@
 -- The fits of one room, as a list: what holds of them, and of one more.
-use Rattle.std.proofs.Common.{ℕ, suc, ◌≡◌, ◌≤◌, ◌<◌, ◌+◌, ◌-◌, true, false, Option, Some, List, [], ◌∷◌, ◌++◌, drop}
-use Rattle.std.proofs.Common.{map, length, refl, ap, sym, ◌∙◌, arith, length-append, filter, ◌==◌, ◌||◌, nat_le}
+use Rattle.std.proofs.Common.{ℕ, suc, ◌≡◌, ◌≤◌, ◌<◌, ◌+◌, ◌-◌, true, false, Option, Some, None, List, [], ◌∷◌, ◌++◌}
+use Rattle.std.specs.List.{last_or}
+use Rattle.std.proofs.Common.{drop, map, length, refl, ap, sym, ◌∙◌, arith, length-append, filter, ◌==◌, ◌||◌, nat_le}
 use Rattle.std.proofs.Common.{nat_cmp, is_lt}
 use Rattle.hotel_model.proofs.Names.{nat_tests, list_all, list_any, Note, FitRow, fit_row, last_fit, count_up}
 use Rattle.hotel_model.proofs.Names.{are_in_order, first_is_first, none_fall, notes_before_each, rise_by_few}
@@ -202,13 +203,13 @@ none_begins (a ∷ b ∷ fs) place o l =
         let le = m.2 in
         (m.0, m.1, omega arith)
 
--- the last fit is the one after all others
-pub last_is_at : (fs : List FitRow) (f : FitRow) → last_fit fs ≡ Some f → first_in (drop (length fs - 1) fs) ≡ Some f
-last_is_at [] f e = cc
-last_is_at (a ∷ []) f e = e
-last_is_at (a ∷ b ∷ fs) f e =
-    let n : length (a ∷ b ∷ fs) - 1 ≡ suc (length (b ∷ fs) - 1) = omega arith in
-    ap (λ k. first_in (drop k (a ∷ b ∷ fs))) n ∙ last_is_at (b ∷ fs) f e
+-- the last item is the one after all others
+pub last_is_at : {A : Type 0} (xs : List A) → first_in (drop (length xs - 1) xs) ≡ last_or None xs
+last_is_at [] = refl
+last_is_at (a ∷ []) = refl
+last_is_at (a ∷ b ∷ xs) =
+    let n : length (a ∷ b ∷ xs) - 1 ≡ suc (length (b ∷ xs) - 1) = omega arith in
+    ap (λ k. first_in (drop k (a ∷ b ∷ xs))) n ∙ last_is_at (b ∷ xs)
 
 -- No note is of a later fit than the present one, and those of the present one are the ones after so many.
 abbrev pub NotesFor : ℕ → ℕ → List Note → Type 0

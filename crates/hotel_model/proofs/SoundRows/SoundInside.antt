@@ -27,8 +27,8 @@ use Rattle.hotel_model.proofs.{Invariants.Kept.link_goes_on, Starts.StartInside.
 
 -- the link's codes are neighbours at the room, and its lock came to the new one
 abbrev pub HasSeen : History → ℕ → Link → Type 0
-HasSeen h r link = (front : List ℕ) × (later : List ℕ) × (issued h r ≡ front ++ link.old_code ∷ link.new_code ∷ later)
-    × (length front + 1 ≤ length (passed h r)) × (last_fit_place (rows_of h) r ≤ length front)
+HasSeen h r link = (prefix : List ℕ) × (later : List ℕ) × (issued h r ≡ prefix ++ link.old_code ∷ link.new_code ∷ later)
+    × (length prefix + 1 ≤ length (passed h r)) × (last_fit_place (rows_of h) r ≤ length prefix)
 
 -- A card inside a room is there, and the room's lock has seen its link.
 abbrev pub InsidersSeen : History → Type 0

@@ -12,8 +12,9 @@ use Rattle.hotel_model.proofs.Starts.StartRows.{lock_is}
 
 -- the link's codes are neighbours at the room, and its lock came to the new one
 abbrev HasSeen : Rows → ℕ → Link → Type 0
-HasSeen t r link = (front : List ℕ) × (later : List ℕ) × (codes_at t r ≡ front ++ link.old_code ∷ link.new_code ∷ later)
-    × (length front + 1 ≤ length (take (lock_place_of t r) (codes_at t r))) × (last_fit_place t r ≤ length front)
+HasSeen t r link = (prefix : List ℕ) × (later : List ℕ)
+    × (codes_at t r ≡ prefix ++ link.old_code ∷ link.new_code ∷ later)
+    × (length prefix + 1 ≤ length (take (lock_place_of t r) (codes_at t r))) × (last_fit_place t r ≤ length prefix)
 
 place_of : (t : Rows) → IsSound t → (r : ℕ) (link : Link) (l : IsLinkOf (codes_at t r) link) (row : CodeRow)
     → at_number t.codes link.new_code ≡ Some row → row.place ≡ length l.0 + 1

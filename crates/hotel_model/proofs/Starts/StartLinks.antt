@@ -82,7 +82,7 @@ parties_have_links_at_start t s party link e =
     (l.0, subst (λ z. IsLinkOf (codes_at t l.0) z) c.3 l.1)
 
 last_two : (xs : List ℕ) (link : Link)
-    → last_link_of xs ≡ Some link → (front : List ℕ) × (xs ≡ front ++ link.old_code ∷ link.new_code ∷ [])
+    → last_link_of xs ≡ Some link → (prefix : List ℕ) × (xs ≡ prefix ++ link.old_code ∷ link.new_code ∷ [])
 last_two [] link e = absurd (let w : ◌≡◌ {A = Option Link} None (Some link) = e in cc)
 last_two (c ∷ []) link e = absurd (let w : ◌≡◌ {A = Option Link} None (Some link) = e in cc)
 last_two (c ∷ d ∷ []) link e =

@@ -190,7 +190,7 @@ pub under_is_before : (t : Rows) (s : IsSound t) (r : ℕ) (row : RoomRow) → a
 under_is_before t s r row there j g at =
     let said = fits_said t s r row there in
     let many = some_left j (fits_at t.fits r) g at in
-    let last = last_is_at (fits_at t.fits r) said.last.0 said.last.1 in
+    let last = last_is_at (fits_at t.fits r) ∙ said.last.1 in
     let rise : g.before ≤ said.last.0.before =
     rises (fits_at t.fits r) j (length (fits_at t.fits r) - 1) g said.last.0 said.rise (omega arith) at last in
     let few = said.last.5 in
@@ -244,7 +244,7 @@ notes_for_row t s r row there =
     let said = fits_said t s r row there in
     let many = said.many in
     let least = said.least in
-    let last = last_is_at (fits_at t.fits r) said.last.0 said.last.1 in
+    let last = last_is_at (fits_at t.fits r) ∙ said.last.1 in
     let u = under_is_before t s r row there (length (fits_at t.fits r) - 1) said.last.0 last in
     let k : (length (fits_at t.fits r) - 1) + 1 ≡ row.fit = omega arith in
     let v : notes_under row.fit (notes_at t.notes r) ≡ said.last.0.before =

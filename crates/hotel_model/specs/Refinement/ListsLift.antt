@@ -2,10 +2,10 @@
 use Rattle.std.specs.Prelude.{ℕ, ◌≡◌, true}
 use Rattle.hotel_model.specs.{History.History, RowsOf.rows_of, Cases.is_room}
 use Rattle.hotel_model.specs.Lists.{arrivals, in_house, chain, left_behind, business_day, room_status, cards_inside}
-use Rattle.hotel_model.specs.Lists.{bookings, availability, cards_given}
+use Rattle.hotel_model.specs.Lists.{bookings, availability, cards_given, card_rows, locks}
 use Rattle.hotel_model.specs.Refinement.ListsOnRows.{arrivals_on, in_house_on, chain_on, left_behind_on}
 use Rattle.hotel_model.specs.Refinement.ListsOnRows.{business_day_on, room_status_on, cards_inside_on, bookings_on}
-use Rattle.hotel_model.specs.Refinement.ListsOnRows.{availability_on, cards_given_on}
+use Rattle.hotel_model.specs.Refinement.ListsOnRows.{availability_on, cards_given_on, card_rows_on, locks_on}
 use Rattle.hotel_model.specs.{Notes.notes, Rows.notes_at}
 
 -- The lists read off the rows that stand for a history are those read off the history; the codes of a room, where it is
@@ -22,3 +22,5 @@ pub record ListsLift (h : History) : Type 0 where
   pub of_bookings : bookings_on (rows_of h) ≡ bookings h
   pub of_availability : (d n : ℕ) → availability_on (rows_of h) d n ≡ availability h d n
   pub of_cards_given : (party : ℕ) → cards_given_on (rows_of h) party ≡ cards_given h party
+  pub of_card : (number : ℕ) → card_rows_on (rows_of h) number ≡ card_rows h number
+  pub of_locks : locks_on (rows_of h) ≡ locks h

@@ -1,20 +1,24 @@
 -- The rows of the lists, read off the rows of the books.
-use Rattle.std.specs.Prelude.{ℕ, List, [], ◌∷◌, Option, None, ◌-◌, ◌==◌, if◌then◌else◌, nat_le, nat_lt, map, filter}
-use Rattle.std.specs.Prelude.{filter_map, option_map}
+use Rattle.std.specs.Prelude.{ℕ, Bool, List, [], ◌∷◌, Option, None, ◌-◌, ◌==◌, ◌&&◌, if◌then◌else◌, nat_le, nat_lt}
+use Rattle.std.specs.Prelude.{map, filter, filter_map, option_map}
 use Rattle.std.specs.List.{range_with_len}
 use Rattle.std.specs.Map.{values_of}
-use Rattle.keycard_rules.specs.{declared.card.Card.Card}
-use Rattle.hotel_nights.specs.{declared.stay.Stay.Stay, FullNight.nights_taken}
+use Rattle.keycard_rules.specs.{declared.card.Card.Card, declared.numbers.TheConstants.LAST_NUMBER, Note.Note}
+use Rattle.hotel_nights.specs.{declared.stay.Stay.Stay, FullNight.nights_taken, Moments.moment_of}
 use Rattle.hotel_model.specs.{declared.rows.RoomRow.RoomRow, declared.list_rows.HouseRow.HouseRow}
 use Rattle.hotel_model.specs.{declared.list_rows.ChainRow.ChainRow}
 use Rattle.hotel_model.specs.{declared.list_rows.BehindRow.BehindRow, declared.list_rows.CodeState.CodeState}
 use Rattle.hotel_model.specs.declared.list_rows.StatusRow.{StatusRow}
 use Rattle.hotel_model.specs.declared.list_rows.InsideRow.{InsideRow}
 use Rattle.hotel_model.specs.declared.list_rows.FreeRow.{FreeRow}
+use Rattle.hotel_model.specs.declared.list_rows.CardRow.{CardRow}
+use Rattle.hotel_model.specs.declared.list_rows.LockRow.{LockRow}
 use Rattle.hotel_model.specs.{Words.said_of, Words.greatest, Lists.arrives_on, Lists.is_booking, Lists.are_ahead}
+use Rattle.hotel_model.specs.{Lists.card_row}
 use Rattle.hotel_model.specs.declared.list_rows.CodeState.TheVariants.{Passed, Held, Awaited}
 use Rattle.hotel_model.specs.{Rows.Rows, Rows.InsideKey, Rows.rooms_of_kind, Refinement.Lookups.room_at}
 use Rattle.hotel_model.specs.{Refinement.Lookups.stay_at, Refinement.Lookups.code_at, Refinement.Lookups.card_at}
+use Rattle.hotel_model.specs.{Refinement.Lookups.note_at}
 
 -- Booked stays that take the night of a day, by party.
 abbrev pub arrivals_on : Rows → ℕ → List Stay
@@ -119,3 +123,41 @@ availability_on rows d n = map (free_row_on rows d n) rows.kinds
 -- Cards that a party was given, by number.
 abbrev pub cards_given_on : Rows → ℕ → List Card
 cards_given_on rows party = filter (λ card. card.party == party) (values_of rows.cards)
+
+-- The card of a number with its party's guest.
+abbrev pub card_rows_on : Rows → ℕ → List CardRow
+card_rows_on rows number = said_of (card_at rows number) []
+    (λ card. said_of (stay_at rows card.party) [] (λ stay. card_row card stay ∷ []))
+
+-- so many notes have a last one
+abbrev pub is_count : ℕ → Bool
+is_count count = nat_le 1 count && nat_le count LAST_NUMBER
+
+-- the note of a room's present lock that has a count
+abbrev pub counted_note : Rows → RoomRow → ℕ → Option Note
+counted_note rows row count = if is_count count then note_at rows row.room row.fit count else None
+
+-- the row of a room's present lock, of which so many notes were taken
+abbrev pub lock_row_by : Rows → RoomRow → ℕ → LockRow
+lock_row_by rows row count = record {
+  room = row.room;
+  fit = row.fit;
+  count = count;
+  at = option_map moment_of (counted_note rows row count);
+}
+
+-- the row of a room's present lock
+abbrev pub lock_row_on : Rows → RoomRow → LockRow
+lock_row_on rows row = lock_row_by rows row (row.notes - row.before)
+
+-- the row of the present lock of a room that is there
+abbrev pub lock_at : Rows → ℕ → Option LockRow
+lock_at rows room = option_map (lock_row_on rows) (room_at rows room)
+
+-- the numbers of all rooms
+abbrev pub room_numbers : Rows → List ℕ
+room_numbers rows = map (λ row. row.room) (values_of rows.rooms)
+
+-- The present locks of all rooms, by room.
+abbrev pub locks_on : Rows → List LockRow
+locks_on rows = filter_map (lock_at rows) (room_numbers rows)

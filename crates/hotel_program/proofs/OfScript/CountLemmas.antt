@@ -1,9 +1,9 @@
 -- The reads and writes of a script.
 use Rattle.std.proofs.Common.{◌≡◌, ◌∙◌, sym, ap, refl, ℕ, Result, Ok, Err}
 use Rattle.std.specs.Prelude.{IsErrAnd, OnErr}
-use Rattle.hotel_lists.specs.Calls.{Calls, CountsCalls, OnErrOf}
-use Rattle.hotel_lists.specs.declared.bytes.WholeFault.{WholeFault}
-use Rattle.hotel_lists.specs.declared.bytes.WholeFault.TheVariants as whole
+use Rattle.hotel_streams.specs.Calls.{Calls, CountsCalls, OnErrOf}
+use Rattle.hotel_streams.specs.declared.bytes.WholeFault.{WholeFault}
+use Rattle.hotel_streams.specs.declared.bytes.WholeFault.TheVariants as whole
 use Rattle.hotel_program.specs.Program.{script_end}
 use Rattle.hotel_program.specs.Script.WholeScript.{IfCut, IfUnbegun, fault_of_script}
 use Rattle.hotel_program.specs.declared.faults.Fault.{Fault}

@@ -13,9 +13,10 @@ use Rattle.hotel_model.specs.declared.reply.Reply.{Reply}
 use Rattle.hotel_model.specs.declared.reply.Refusal.TheVariants as refusal
 use Rattle.hotel_model.specs.{History.History, Rows.Rows, RowsOf.rows_of, Run.Reached}
 use Rattle.hotel_core.specs.Texts.{reply_text}
-use Rattle.hotel_lists.specs.{Bytes.AppendsFront, declared.calls.WriteFailed.WriteFailed, RowLines.LooksAt}
+use Rattle.hotel_streams.specs.{Bytes.AppendsPrefix, declared.calls.WriteFailed.WriteFailed}
+use Rattle.hotel_lists.specs.RowLines.{LooksAt}
 use Rattle.hotel_lists.specs.declared.fault.ListFault.{ListFault}
-use Rattle.hotel_lists.proofs.CallsLemmas.{last_of}
+use Rattle.hotel_lists.proofs.ToldLemmas.{last_of}
 use Rattle.hotel_asks.specs.Asks.{ask_copies}
 use Rattle.hotel_asks.specs.Listings.{listing_on, listing_over}
 use Rattle.hotel_asks.specs.declared.asked.Ask.{Ask}
@@ -32,17 +33,17 @@ use Rattle.hotel_program.proofs.OfScript.ScriptLemmas.{ask_without_memory}
 pub command_ends : {S : Type 0} {K : KeptOf S} {rows : S → Rows} {a b : S} (s t : Stream) (command : Command)
     (reply : Reply) (old new : Option (List ℕ)) (written : Result (Unit {0}) WriteFailed)
     → Stepped K rows (a, s) (command, reply) (b, t)
-    → OnOk written (Appends old new (reply_text reply)) → OnErr written (AppendsFront old new (reply_text reply))
+    → OnOk written (Appends old new (reply_text reply)) → OnErr written (AppendsPrefix old new (reply_text reply))
     → HappensBy K rows a (AskEnds (Some (ask.Command command)) s t old new written (K.is_clean a)) b
-command_ends {b = b} s t command reply old new (Ok done) step whole front = record {
+command_ends {b = b} s t command reply old new (Ok done) step whole prefix = record {
   told = failure_in reply ∷ [];
   happened = λ honest. leads_as (λ h h' went. (reply_text reply, (reply, went, refl, inl refl), (whole, tt)))
       (step.happened honest);
   calls = (b, step.leaves, refl);
 }
-command_ends {b = b} s t command reply old new (Err cut) step whole front = record {
+command_ends {b = b} s t command reply old new (Err cut) step whole prefix = record {
   told = failure_in reply ∷ [];
-  happened = λ honest. leads_as (λ h h' went. (reply_text reply, (reply, went, refl, inl refl), front))
+  happened = λ honest. leads_as (λ h h' went. (reply_text reply, (reply, went, refl, inl refl), prefix))
       (step.happened honest);
   calls = (b, step.leaves, refl);
 }
@@ -63,12 +64,12 @@ module _ {S : Type 0} {K : KeptOf S} {rows : S → Rows} {a b : S} {end : Result
 
   -- a list is cut short, and nothing happens
   pub list_cut : (s : Stream) (old new : Option (List ℕ))
-      → (K.is_honest b → ListWritten (listing_on (rows a) its_list) (AppendsFront old new) looks.told)
-      → HappensBy K rows a (AskAnswered (λ text. K.is_clean a) (AppendsFront old new) (Some (ask.List its_list)) s s) b
-  list_cut s old new front = record {
+      → (K.is_honest b → ListWritten (listing_on (rows a) its_list) (AppendsPrefix old new) looks.told)
+      → HappensBy K rows a (AskAnswered (λ text. K.is_clean a) (AppendsPrefix old new) (Some (ask.List its_list)) s s) b
+  list_cut s old new prefix = record {
     told = looks.told;
     happened = λ honest h reached stands.
-        let it = front honest in (
+        let it = prefix honest in (
           h,
           reached,
           (λ clean. kept_rows a b (looks.kept clean) ∙ stands (all.since.was_clean clean)),
@@ -86,9 +87,9 @@ module _ {S : Type 0} {K : KeptOf S} {rows : S → Rows} {a b : S} {end : Result
   pub list_ends : (s : Stream) (old new : Option (List ℕ)) (written : Result (Unit {0}) WriteFailed)
       → (K.is_honest b → OnOk written (ListWritten (listing_on (rows a) its_list) (Whole old new looks.told)
       looks.told))
-      → (K.is_honest b → OnErr written (ListWritten (listing_on (rows a) its_list) (AppendsFront old new) looks.told))
+      → (K.is_honest b → OnErr written (ListWritten (listing_on (rows a) its_list) (AppendsPrefix old new) looks.told))
       → HappensBy K rows a (AskEnds (Some (ask.List its_list)) s s old new written (K.is_clean a)) b
-  list_ends s old new (Ok done) whole front = record {
+  list_ends s old new (Ok done) whole prefix = record {
     told = looks.told;
     happened = λ honest h reached stands.
         let it = whole honest in
@@ -112,35 +113,35 @@ module _ {S : Type 0} {K : KeptOf S} {rows : S → Rows} {a b : S} {end : Result
         );
     calls = looks.calls;
   }
-  list_ends s old new (Err cut) whole front = list_cut s old new front
+  list_ends s old new (Err cut) whole prefix = list_cut s old new prefix
 
 -- nothing was asked of the books, and nothing happens
 quiet_ends : {S : Type 0} {K : KeptOf S} {rows : S → Rows} (a : S) (wanted : Option Ask) (s : Stream) (text : List ℕ)
     (old new : Option (List ℕ)) (written : Result (Unit {0}) WriteFailed)
     → ((sure : List ℕ → Type 0) (h : History) → AskGoes sure wanted h s text [] h s) → ListAsked wanted text []
-    → OnOk written (Appends old new text) → OnErr written (AppendsFront old new text)
+    → OnOk written (Appends old new text) → OnErr written (AppendsPrefix old new text)
     → HappensBy K rows a (AskEnds wanted s s old new written (K.is_clean a)) a
-quiet_ends {K = K} a wanted s text old new (Ok done) goes list whole front = record {
+quiet_ends {K = K} a wanted s text old new (Ok done) goes list whole prefix = record {
   told = [];
   happened = λ honest h reached stands.
       (h, reached, stands, (text, goes (Sure (K.is_clean a)) h, (whole, list)), assured h reached);
   calls = refl;
 }
-quiet_ends {K = K} a wanted s text old new (Err cut) goes list whole front = record {
+quiet_ends {K = K} a wanted s text old new (Err cut) goes list whole prefix = record {
   told = [];
   happened = λ honest h reached stands.
-      (h, reached, stands, (text, goes (λ t. K.is_clean a) h, front), assured h reached);
+      (h, reached, stands, (text, goes (λ t. K.is_clean a) h, prefix), assured h reached);
   calls = refl;
 }
 
 -- an unread line is answered
 pub unread_ends : {S : Type 0} {K : KeptOf S} {rows : S → Rows} (a : S) (wanted : Option Ask) (s : Stream)
     (old new : Option (List ℕ)) (written : Result (Unit {0}) WriteFailed) → None ≡ wanted
-    → OnOk written (Appends old new unread_text) → OnErr written (AppendsFront old new unread_text)
+    → OnOk written (Appends old new unread_text) → OnErr written (AppendsPrefix old new unread_text)
     → HappensBy K rows a (AskEnds wanted s s old new written (K.is_clean a)) a
-unread_ends {K = K} {rows = rows} a wanted s old new written e whole front =
+unread_ends {K = K} {rows = rows} a wanted s old new written e whole prefix =
     subst (λ (w : Option Ask). HappensBy K rows a (AskEnds w s s old new written (K.is_clean a)) a) e
-    (quiet_ends a None s unread_text old new written (λ sure h. (refl, refl, refl, refl)) tt whole front)
+    (quiet_ends a None s unread_text old new written (λ sure h. (refl, refl, refl, refl)) tt whole prefix)
 
 no_list : (wanted : Option Ask) (text : List ℕ)
     → IsSomeAnd wanted (λ asked. ask_copies asked ≡ true) → ListAsked wanted text []
@@ -153,9 +154,9 @@ pub memory_ends : {S : Type 0} {K : KeptOf S} {rows : S → Rows} (a : S) (wante
     (old new : Option (List ℕ)) (written : Result (Unit {0}) WriteFailed)
     → IsSomeAnd wanted (λ asked. ask_copies asked ≡ true)
     → OnOk written (Appends old new (refusal_text refusal.Memory))
-    → OnErr written (AppendsFront old new (refusal_text refusal.Memory))
+    → OnErr written (AppendsPrefix old new (refusal_text refusal.Memory))
     → HappensBy K rows a (AskEnds wanted s s old new written (K.is_clean a)) a
-memory_ends a wanted s old new written copied whole front =
+memory_ends a wanted s old new written copied whole prefix =
     quiet_ends a wanted s (refusal_text refusal.Memory) old new written
     (λ sure h. ask_without_memory sure wanted h s copied) (no_list wanted (refusal_text refusal.Memory) copied) whole
-    front
+    prefix

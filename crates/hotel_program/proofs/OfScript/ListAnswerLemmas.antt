@@ -14,7 +14,8 @@ use Rattle.hotel_model.specs.Run.{is_failed}
 use Rattle.hotel_core.proofs.Names.{false≢true}
 use Rattle.hotel_model.specs.declared.reply.Reply.{Reply}
 use Rattle.hotel_core.specs.Texts.{reply_text}
-use Rattle.hotel_lists.specs.{Bytes.AppendsFront, Faults.told_refusal}
+use Rattle.hotel_streams.specs.Bytes.{AppendsPrefix}
+use Rattle.hotel_lists.specs.Faults.{told_refusal}
 use Rattle.hotel_lists.specs.RowLines.{ListTold, LooksAt}
 use Rattle.hotel_lists.specs.declared.fault.ListFault.{ListFault}
 use Rattle.hotel_lists.specs.declared.fault.ListFault.TheVariants as fault
@@ -22,7 +23,7 @@ use Rattle.hotel_lists.specs.Listings.{Listing, ListEnds}
 use Rattle.hotel_core.specs.Books.Failures.{refusal_of}
 use Rattle.hotel_core.proofs.OfCode.Counting.{faults}
 use Rattle.hotel_program.specs.Script.ListAnswers.{AnswersList, refusal_text, ends_by, tells_failure}
-use Rattle.hotel_program.proofs.OfScript.ScriptLemmas.{appends_front}
+use Rattle.hotel_program.proofs.OfScript.ScriptLemmas.{appends_prefix}
 
 -- Such an answer was written so.
 abbrev pub ListWritten : Option Listing → (List ℕ → Type 0) → Told → Type 0
@@ -30,24 +31,24 @@ ListWritten listing written told = (text : List ℕ) × AnswersList listing text
 
 said_no_room : (listing : Option Listing) (old new : Option (List ℕ)) (why : Refusal) (told : Told)
     → told_refusal fault.NoRoom ≡ Some why → NoCallFailed told → ListEnds [] listing old new (Err fault.NoRoom)
-    → (front : List ℕ) × AnswersList listing (front ++ refusal_text why) told × Appends old new front
+    → (prefix : List ℕ) × AnswersList listing (prefix ++ refusal_text why) told × Appends old new prefix
 said_no_room None old new why told e none p =
     let same : refusal.NoRoom ≡ why = cc e in ([], inl (ap refusal_text (sym same), none.1), p.1)
 said_no_room (Some listing) old new why told e none p = cc p.0
 
 -- whole lines of a list, which its refusal follows
-refused_front : (listing : Option Listing) (old new : Option (List ℕ)) (why_not : ListFault) (why : Refusal)
+refused_prefix : (listing : Option Listing) (old new : Option (List ℕ)) (why_not : ListFault) (why : Refusal)
     (told : Told) → told_refusal why_not ≡ Some why → ListTold (Err why_not) told
     → ListEnds [] listing old new (Err why_not)
-    → (front : List ℕ) × AnswersList listing (front ++ refusal_text why) told × Appends old new front
-refused_front listing old new fault.NoRoom why told e t p = said_no_room listing old new why told e t p
-refused_front listing old new fault.Memory why told e t p =
+    → (prefix : List ℕ) × AnswersList listing (prefix ++ refusal_text why) told × Appends old new prefix
+refused_prefix listing old new fault.NoRoom why told e t p = said_no_room listing old new why told e t p
+refused_prefix listing old new fault.Memory why told e t p =
     let same : refusal.Memory ≡ why = cc e in
     (p.0, inr (p.0, look.Memory, p.1, ap (λ (w : Refusal). p.0 ++ refusal_text w) (sym same), t), p.2)
-refused_front listing old new fault.Store why told e t p =
+refused_prefix listing old new fault.Store why told e t p =
     let same : refusal.Store ≡ why = cc e in
     (p.0, inr (p.0, look.Store, p.1, ap (λ (w : Refusal). p.0 ++ refusal_text w) (sym same), t), p.2)
-refused_front listing old new fault.Write why told e t p = cc e
+refused_prefix listing old new fault.Write why told e t p = cc e
 
 -- a text that a failure's line ends reports it
 or_first : (a b : Bool) → a ≡ true → (a || b) ≡ true
@@ -58,26 +59,26 @@ or_then : (a b : Bool) → b ≡ true → (a || b) ≡ true
 or_then true b k = refl
 or_then false b k = k
 
-its_end : (front end : List ℕ) → drop (length (front ++ end) - length end) (front ++ end) ≡ end
-its_end front end =
-    let n : length (front ++ end) - length end ≡ length front = omega (arith, length-append front end) in
-    ap (λ (k : ℕ). drop k (front ++ end)) n ∙ drop-append_seam front end
+its_end : (prefix end : List ℕ) → drop (length (prefix ++ end) - length end) (prefix ++ end) ≡ end
+its_end prefix end =
+    let n : length (prefix ++ end) - length end ≡ length prefix = omega (arith, length-append prefix end) in
+    ap (λ (k : ℕ). drop k (prefix ++ end)) n ∙ drop-append_seam prefix end
 
-by_its_end : (front end : List ℕ) → ends_by end end ≡ true → ends_by end (front ++ end) ≡ true
-by_its_end front end k =
-    let same : drop (length (front ++ end) - length end) (front ++ end) ≡ drop (length end - length end) end =
-    its_end front end ∙ sym (its_end [] end) in
+by_its_end : (prefix end : List ℕ) → ends_by end end ≡ true → ends_by end (prefix ++ end) ≡ true
+by_its_end prefix end k =
+    let same : drop (length (prefix ++ end) - length end) (prefix ++ end) ≡ drop (length end - length end) end =
+    its_end prefix end ∙ sym (its_end [] end) in
     ap (λ (l : List ℕ). bytes_eq l end) same ∙ k
 
-pub told_failed : (front : List ℕ) (why : Refusal)
-    → is_failed (Refused why) ≡ true → tells_failure (front ++ refusal_text why) ≡ true
-told_failed front refusal.Memory k =
-    or_first (ends_by (refusal_text refusal.Memory) (front ++ refusal_text refusal.Memory)) _
-    (by_its_end front (refusal_text refusal.Memory) refl)
-told_failed front refusal.Store k =
-    or_then _ (ends_by (refusal_text refusal.Store) (front ++ refusal_text refusal.Store))
-    (by_its_end front (refusal_text refusal.Store) refl)
-told_failed front _ k = absurd (false≢true k)
+pub told_failed : (prefix : List ℕ) (why : Refusal)
+    → is_failed (Refused why) ≡ true → tells_failure (prefix ++ refusal_text why) ≡ true
+told_failed prefix refusal.Memory k =
+    or_first (ends_by (refusal_text refusal.Memory) (prefix ++ refusal_text refusal.Memory)) _
+    (by_its_end prefix (refusal_text refusal.Memory) refl)
+told_failed prefix refusal.Store k =
+    or_then _ (ends_by (refusal_text refusal.Store) (prefix ++ refusal_text refusal.Store))
+    (by_its_end prefix (refusal_text refusal.Store) refl)
+told_failed prefix _ k = absurd (false≢true k)
 
 -- a reply whose text reports no failure is none
 pub reply_sure : (reply : Reply) → tells_failure (reply_text reply) ≡ false → is_failed reply ≡ false
@@ -86,24 +87,24 @@ reply_sure (Refused refusal.Store) k = absurd (false≢true (sym k ∙ told_fail
 reply_sure _ k = refl
 
 -- where the text of a refusal reports no failure, no call failed
-refusal_answered : (front : List ℕ) (why_not : ListFault) (why : Refusal) (told : Told)
-    → told_refusal why_not ≡ Some why → ListTold (Err why_not) told → tells_failure (front ++ refusal_text why) ≡ false
+refusal_answered : (prefix : List ℕ) (why_not : ListFault) (why : Refusal) (told : Told)
+    → told_refusal why_not ≡ Some why → ListTold (Err why_not) told → tells_failure (prefix ++ refusal_text why) ≡ false
     → NoCallFailed told
-refusal_answered front fault.NoRoom why told e t k = t
-refusal_answered front fault.Memory why told e t k =
+refusal_answered prefix fault.NoRoom why told e t k = t
+refusal_answered prefix fault.Memory why told e t k =
     let same : refusal.Memory ≡ why = cc e in absurd (false≢true (sym k ∙ subst (λ (w : Refusal).
-    tells_failure (front ++ refusal_text w) ≡ true) same (told_failed front refusal.Memory refl)))
-refusal_answered front fault.Store why told e t k =
+    tells_failure (prefix ++ refusal_text w) ≡ true) same (told_failed prefix refusal.Memory refl)))
+refusal_answered prefix fault.Store why told e t k =
     let same : refusal.Store ≡ why = cc e in absurd (false≢true (sym k ∙ subst (λ (w : Refusal).
-    tells_failure (front ++ refusal_text w) ≡ true) same (told_failed front refusal.Store refl)))
-refusal_answered front fault.Write why told e t k = cc e
+    tells_failure (prefix ++ refusal_text w) ≡ true) same (told_failed prefix refusal.Store refl)))
+refusal_answered prefix fault.Write why told e t k = cc e
 
 -- where a list's answer reports no failure, none of its calls did
 pub none_told : (listing : Option Listing) (text : List ℕ) (told : Told) → AnswersList listing text told
     → tells_failure text ≡ false → all_answer told ≡ true
 none_told listing text told (inl it) k = it.1
-none_told listing text told (inr (front, why, is, e, failed)) k =
-    absurd (false≢true (sym k ∙ ap tells_failure e ∙ told_failed front (refusal_of why) (faults why)))
+none_told listing text told (inr (prefix, why, is, e, failed)) k =
+    absurd (false≢true (sym k ∙ ap tells_failure e ∙ told_failed prefix (refusal_of why) (faults why)))
 
 -- An answer to a list that was written whole: these bytes, and where it reports no failure none of the calls did.
 abbrev pub Whole : Option (List ℕ) → Option (List ℕ) → Told → List ℕ → Type 0
@@ -115,7 +116,7 @@ pub refused_whole : {B : Type 0} {K : KeptOf B} {b c : B} (listing : Option List
     → ListEnds [] listing old mid (Err why_not) → (looks : LooksAt K b c (Err why_not))
     → Appends mid new (refusal_text why) → ListWritten listing (Whole old new looks.told) looks.told
 refused_whole listing old mid new why_not why e p looks written =
-    let r = refused_front listing old mid why_not why looks.told e looks.tells p in (
+    let r = refused_prefix listing old mid why_not why looks.told e looks.tells p in (
       r.0 ++ refusal_text why,
       r.1,
       (
@@ -128,10 +129,10 @@ refused_whole listing old mid new why_not why e p looks written =
 pub refused_cut : {B : Type 0} {K : KeptOf B} {b c : B} (listing : Option Listing) (old mid new : Option (List ℕ))
     (why_not : ListFault) (why : Refusal) → told_refusal why_not ≡ Some why
     → ListEnds [] listing old mid (Err why_not) → (looks : LooksAt K b c (Err why_not))
-    → AppendsFront mid new (refusal_text why) → ListWritten listing (AppendsFront old new) looks.told
+    → AppendsPrefix mid new (refusal_text why) → ListWritten listing (AppendsPrefix old new) looks.told
 refused_cut listing old mid new why_not why e p looks written =
-    let r = refused_front listing old mid why_not why looks.told e looks.tells p in
-    (r.0 ++ refusal_text why, r.1, appends_front old mid new r.0 (refusal_text why) written r.2)
+    let r = refused_prefix listing old mid why_not why looks.told e looks.tells p in
+    (r.0 ++ refusal_text why, r.1, appends_prefix old mid new r.0 (refusal_text why) written r.2)
 
 -- a list that was written whole
 pub whole_answered : (listing : Option Listing) (old new : Option (List ℕ)) (told : Told)
@@ -140,14 +141,14 @@ whole_answered None old new told p none = cc p.0
 whole_answered (Some listing) old new told p none = (_, inl (refl, none.1), (p.1, λ k. none))
 
 write_failed : (listing : Option Listing) (old new : Option (List ℕ)) (told : Told) → all_answer told ≡ true
-    → ListEnds [] listing old new (Err fault.Write) → ListWritten listing (AppendsFront old new) told
+    → ListEnds [] listing old new (Err fault.Write) → ListWritten listing (AppendsPrefix old new) told
 write_failed None old new told answered p = absurd (p.0 refl refl)
 write_failed (Some listing) old new told answered p = (_, inl (refl, answered), p.1)
 
 -- a list whose write failed, which no refusal answers
 pub cut_answered : (listing : Option Listing) (old new : Option (List ℕ)) (told : Told) (why_not : ListFault)
     → told_refusal why_not ≡ None → ListTold (Err why_not) told → ListEnds [] listing old new (Err why_not)
-    → ListWritten listing (AppendsFront old new) told
+    → ListWritten listing (AppendsPrefix old new) told
 cut_answered listing old new told fault.NoRoom e t p = cc e
 cut_answered listing old new told fault.Memory e t p = cc e
 cut_answered listing old new told fault.Store e t p = cc e

@@ -26,14 +26,14 @@ use Rattle.hotel_program.specs.Script.Asks.{ask_in}
 use Rattle.hotel_model.specs.Rows.{Rows}
 use Rattle.hotel_model.specs.History.{History}
 use Rattle.hotel_core.specs.Texts.{reply_text}
-use Rattle.hotel_lists.specs.{Bytes.AppendsFront, declared.calls.WriteFailed.WriteFailed}
+use Rattle.hotel_streams.specs.{Bytes.AppendsPrefix, declared.calls.WriteFailed.WriteFailed}
 use Rattle.hotel_program.specs.Script.Lines.{lines, without_return, is_silent, answered_lines}
 use Rattle.hotel_program.specs.Script.LineAnswers.{AskGoes, ScriptLineGoes, Sure}
 use Rattle.hotel_program.specs.Script.WholeScript.{ScriptGoes, ScriptAnswered, ScriptCut, ScriptsHappen, LineEnds}
 use Rattle.hotel_program.specs.Script.WholeScript.{ScriptLineHappens, LinesAnswered, LinesCut, IfCut, IfUnbegun}
 use Rattle.hotel_program.specs.Script.WholeScript.{IsInput, ScriptRan, fault_of_script}
-use Rattle.hotel_lists.specs.declared.bytes.WholeFault.{WholeFault}
-use Rattle.hotel_lists.specs.declared.bytes.WholeFault.TheVariants as whole
+use Rattle.hotel_streams.specs.declared.bytes.WholeFault.{WholeFault}
+use Rattle.hotel_streams.specs.declared.bytes.WholeFault.TheVariants as whole
 use Rattle.hotel_program.specs.declared.script.TheConstants.{SCRIPT_LIMIT}
 use Rattle.hotel_program.specs.declared.script.ScriptEnd.{ScriptEnd}
 use Rattle.hotel_program.specs.declared.script.ScriptFault.{ScriptFault}
@@ -235,9 +235,9 @@ module _ {S R W : Type 0} (K : KeptOf S) (rows : S → Rows) (stream : R → Str
       (take done all, line, (next_line all done line later e).2, mid, before, failed, next)
 
 -- bytes, and then a prefix of some more
-pub appends_front : (a b c : Option (List ℕ)) (output text : List ℕ)
-    → AppendsFront b c text → Appends a b output → AppendsFront a c (output ++ text)
-appends_front a b c output text (n, within, next) first = (
+pub appends_prefix : (a b c : Option (List ℕ)) (output text : List ℕ)
+    → AppendsPrefix b c text → Appends a b output → AppendsPrefix a c (output ++ text)
+appends_prefix a b c output text (n, within, next) first = (
   length output + n,
   simp length-append (omega arith),
   subst (Appends a c) (sym (take-append-add output text n)) (Appends-trans a b c output (take n text) first next),

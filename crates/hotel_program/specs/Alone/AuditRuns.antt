@@ -2,7 +2,7 @@
 use Rattle.std.specs.Prelude.{◌≡◌, ℕ, Bool, true, false, List, [], ◌∷◌, Option, Result, Ok, Err}
 use Rattle.std.specs.Io.KnownBytes.{Appends}
 use Rattle.keycard_rules.specs.declared.issued.LookFault.TheVariants as look
-use Rattle.hotel_lists.specs.Bytes.{AppendsFront}
+use Rattle.hotel_streams.specs.Bytes.{AppendsPrefix}
 use Rattle.hotel_audit.specs.Answers.{answers_text}
 use Rattle.hotel_audit.specs.declared.answer.LineAnswer.{LineAnswer}
 use Rattle.hotel_audit.specs.declared.answer.LineAnswer.TheVariants.{Taken, Seen, Unread, Refused}
@@ -22,15 +22,15 @@ answers_status (Unread cause ∷ answers) = 3
 answers_status (Refused refusal ∷ answers) = 3
 
 -- The fault of bytes that give no lines.
-abbrev pub file_fault : AuditFault → Fault
-file_fault file.TooLarge = fault.TooLarge
-file_fault file.NoHeader = fault.NoHeader
-file_fault file.WrongHeader = fault.WrongHeader
-file_fault file.Memory = fault.Memory
+abbrev pub audit_file_fault : AuditFault → Fault
+audit_file_fault file.TooLarge = fault.TooLarge
+audit_file_fault file.NoHeader = fault.NoHeader
+audit_file_fault file.WrongHeader = fault.WrongHeader
+audit_file_fault file.Memory = fault.Memory
 
 -- The fault of an import that has no answers.
 abbrev pub import_fault : ImportFault → Fault
-import_fault (File why) = file_fault why
+import_fault (File why) = audit_file_fault why
 import_fault (Memory answered taken) = fault.Stopped answered look.Memory
 import_fault (Store answered taken) = fault.Stopped answered look.Store
 
@@ -46,5 +46,5 @@ audit_end (Err why) write_failed = Err (import_fault why)
 abbrev pub WritesAnswers : {W : Type 0} → (W → Option (List ℕ)) → W → W → Result (List LineAnswer) ImportFault → Bool
     → Type 0
 WritesAnswers contents old new (Ok answers) false = Appends (contents old) (contents new) (answers_text 1 answers)
-WritesAnswers contents old new (Ok answers) true = AppendsFront (contents old) (contents new) (answers_text 1 answers)
+WritesAnswers contents old new (Ok answers) true = AppendsPrefix (contents old) (contents new) (answers_text 1 answers)
 WritesAnswers contents old new (Err why) write_failed = new ≡ old

@@ -3,7 +3,7 @@ use Rattle.std.specs.Prelude.{ℕ, Bool, true, false, List, Option, Result, Ok, 
 use Rattle.std.specs.Io.KnownBytes.{Appends}
 use Rattle.hotel_core.specs.Texts.{reply_text}
 use Rattle.hotel_model.specs.declared.reply.Reply.{Reply}
-use Rattle.hotel_lists.specs.Bytes.{AppendsFront}
+use Rattle.hotel_streams.specs.Bytes.{AppendsPrefix}
 use Rattle.hotel_program.specs.Statuses.{exit_of_reply}
 use Rattle.hotel_program.specs.declared.faults.Fault.{Fault}
 use Rattle.hotel_program.specs.declared.faults.Fault.TheVariants.{Write}
@@ -16,4 +16,4 @@ command_end reply true = Err Write
 -- What a writer took of a reply: its text, or a prefix of it where a write failed.
 abbrev pub WritesReply : Option (List ℕ) → Option (List ℕ) → Reply → Bool → Type 0
 WritesReply old new reply false = Appends old new (reply_text reply)
-WritesReply old new reply true = AppendsFront old new (reply_text reply)
+WritesReply old new reply true = AppendsPrefix old new (reply_text reply)

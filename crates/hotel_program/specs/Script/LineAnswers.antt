@@ -9,7 +9,7 @@ use Rattle.hotel_model.specs.Run.{Steps}
 use Rattle.hotel_asks.specs.Asks.{copies}
 use Rattle.hotel_core.specs.{Books.Failures.failure_in, Texts.reply_text}
 use Rattle.hotel_program.specs.Script.Asks.{ask_in}
-use Rattle.hotel_lists.specs.{Bytes.AppendsFront, declared.calls.WriteFailed.WriteFailed}
+use Rattle.hotel_streams.specs.{Bytes.AppendsPrefix, declared.calls.WriteFailed.WriteFailed}
 use Rattle.hotel_program.specs.Script.ListAnswers.{AnswersList, tells_failure}
 use Rattle.hotel_asks.specs.Listings.{listing_over}
 use Rattle.keycard_rules.specs.Calls.{Told}
@@ -71,4 +71,4 @@ abbrev pub AskEnds : Option Ask → Stream → Stream → Option (List ℕ) → 
 AskEnds wanted s s' old new (Ok done) kept told h h' =
     AskAnswered (Sure kept) (λ text. Appends old new text × ListAsked wanted text told) wanted s s' told h h'
 AskEnds wanted s s' old new (Err failed) kept told h h' =
-    AskAnswered (λ text. kept) (AppendsFront old new) wanted s s' told h h'
+    AskAnswered (λ text. kept) (AppendsPrefix old new) wanted s s' told h h'

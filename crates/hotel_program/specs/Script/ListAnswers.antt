@@ -5,7 +5,7 @@ use Rattle.hotel_model.specs.declared.reply.Reply.TheVariants.{Refused}
 use Rattle.hotel_model.specs.declared.reply.Refusal.{Refusal}
 use Rattle.hotel_model.specs.declared.reply.Refusal.TheVariants as refusal
 use Rattle.hotel_core.specs.{Books.Failures.refusal_of, Texts.reply_text}
-use Rattle.hotel_lists.specs.{RowLines.ListFailed, Listings.Listing, Listings.IsListFront, Listings.in_full}
+use Rattle.hotel_lists.specs.{RowLines.ListFailed, Listings.Listing, Listings.IsListPrefix, Listings.in_full}
 
 -- The line of a refusal.
 abbrev pub refusal_text : Refusal → List ℕ
@@ -13,8 +13,8 @@ refusal_text refusal = reply_text (Refused refusal)
 
 -- Whole lines of a list and then the line of the failure.
 abbrev pub IsCutShort : Option Listing → List ℕ → Told → Type 0
-IsCutShort listing text told = (front : List ℕ) × (why : LookFault) × IsListFront listing front
-    × (text ≡ front ++ refusal_text (refusal_of why)) × ListFailed why told
+IsCutShort listing text told = (prefix : List ℕ) × (why : LookFault) × IsListPrefix listing prefix
+    × (text ≡ prefix ++ refusal_text (refusal_of why)) × ListFailed why told
 
 -- The answer to a list, by what its calls reported: it in full, or the line that its room isn't there; or it is cut
 -- short.

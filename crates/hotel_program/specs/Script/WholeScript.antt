@@ -7,7 +7,7 @@ use Rattle.rand_core.specs.Stream.{Stream}
 use Rattle.keycard_rules.specs.{declared.kept.Kept.Ghosts as KeptOf, Calls.Passes}
 use Rattle.keycard_rules.specs.Calls.{Told}
 use Rattle.hotel_core.specs.Books.Happens.{HappensBy}
-use Rattle.hotel_lists.specs.declared.calls.WriteFailed.{WriteFailed}
+use Rattle.hotel_streams.specs.declared.calls.WriteFailed.{WriteFailed}
 use Rattle.hotel_model.specs.History.{History}
 use Rattle.hotel_model.specs.Rows.{Rows}
 use Rattle.hotel_program.specs.Script.Asks.{ask_in}
@@ -17,8 +17,8 @@ use Rattle.hotel_program.specs.declared.script.TheConstants.{SCRIPT_LIMIT}
 use Rattle.hotel_program.specs.declared.script.ScriptEnd.{ScriptEnd}
 use Rattle.hotel_program.specs.declared.script.ScriptFault.{ScriptFault}
 use Rattle.hotel_program.specs.declared.script.ScriptFault.TheVariants.{Read, TooLarge, Memory, Write}
-use Rattle.hotel_lists.specs.declared.bytes.WholeFault.{WholeFault}
-use Rattle.hotel_lists.specs.declared.bytes.WholeFault.TheVariants as whole
+use Rattle.hotel_streams.specs.declared.bytes.WholeFault.{WholeFault}
+use Rattle.hotel_streams.specs.declared.bytes.WholeFault.TheVariants as whole
 
 -- The lines go in their order, each with its answer; what their calls reported is theirs, in order.
 unfoldable pub ScriptGoes : (List ℕ → Type 0) → History → Stream → List (List ℕ) → List (List ℕ) → Told
@@ -38,7 +38,7 @@ ScriptAnswered lines s s' old new kept told h h' =
     (texts : List (List ℕ)) × ScriptGoes (Sure kept) h s lines texts told h' s' × Appends old new (concat texts)
 
 -- Lines were cut short at the last one: they went, and their answers were written whole, but for the last one, of which
--- a front was written, and which vouches for nothing.
+-- a prefix was written, and which vouches for nothing.
 abbrev pub ScriptCut : List (List ℕ) → Stream → Stream → Option (List ℕ) → Option (List ℕ) → Type 0
     → Told → History → History → Type 0
 ScriptCut lines s s' old new kept told h h' =
@@ -61,7 +61,7 @@ abbrev pub LinesAnswered : {S R W : Type 0} → KeptOf S → (S → Rows) → (R
     → S × R × W → List (List ℕ) → S × R × W → Type 0
 LinesAnswered K rows stream contents old lines new = Passes (ScriptLineHappens K rows stream contents) old lines new
 
--- Those before the last one were answered, each in its turn, and then of the last one's answer a front was written.
+-- Those before the last one were answered, each in its turn, and then of the last one's answer a prefix was written.
 abbrev pub LinesCut : {S R W : Type 0} → KeptOf S → (S → Rows) → (R → Stream) → (W → Option (List ℕ)) → S × R × W
     → List (List ℕ) → S × R × W → Type 0
 LinesCut {S = S} {R = R} {W = W} K rows stream contents old lines new = (before : List (List ℕ)) × (last : List ℕ)

@@ -1,11 +1,11 @@
 //! An audit file that is imported alone: its answers on one writer, and what went wrong on another.
 
 ghost use Rattle.std.specs.Prelude.{◌≡◌, List, Bool, Result};
-ghost use Rattle.hotel_lists.specs.Calls.{CountsWrites, OnErrOf};
+ghost use Rattle.hotel_streams.specs.Calls.{CountsWrites, OnErrOf};
 ghost use Rattle.hotel_audit.specs.declared.answer.LineAnswer.{LineAnswer};
 ghost use Rattle.hotel_audit.specs.declared.imports.ImportFault.{ImportFault};
 ghost use Rattle.hotel_program.specs.Faults.{end_status, Reports};
-ghost use Rattle.hotel_program.specs.Alone.AuditRuns.{answers_status, file_fault, import_fault, audit_end};
+ghost use Rattle.hotel_program.specs.Alone.AuditRuns.{answers_status, audit_file_fault, import_fault, audit_end};
 ghost use Rattle.hotel_program.specs.Alone.AuditRuns.{WritesAnswers};
 ghost use Rattle.hotel_audit.specs.{AuditFile.audit_lines, Import.Imports};
 
@@ -13,7 +13,7 @@ use crate::faults::{Fault, FaultSink, finish};
 use crate::statuses::{DONE, REFUSED};
 use hotel_audit::{AuditFault, ImportFault, LineAnswer, import, write_answers};
 use hotel_core::Books;
-use hotel_lists::{IoCalls, WriteFailed};
+use hotel_streams::{IoCalls, WriteFailed};
 use keycard_rules::LookFault;
 use std::alloc::Global;
 use std::io::Write;
@@ -31,8 +31,8 @@ fn answers_status(answers: &[LineAnswer]) -> u8
 }
 
 /// The fault of bytes that give no lines.
-fn file_fault(fault: AuditFault) -> Fault
-    ensures { result ≡ file_fault fault }
+fn audit_file_fault(fault: AuditFault) -> Fault
+    ensures { result ≡ audit_file_fault fault }
 {
     match fault {
         AuditFault::TooLarge => Fault::TooLarge,
@@ -47,7 +47,7 @@ fn import_fault(fault: ImportFault) -> Fault
     ensures { result ≡ import_fault fault }
 {
     match fault {
-        ImportFault::File(why) => file_fault(why),
+        ImportFault::File(why) => audit_file_fault(why),
         ImportFault::Memory { answered, .. } => Fault::Stopped {
             answered,
             by: LookFault::Memory,

@@ -2,7 +2,7 @@
 
 ghost use Rattle.std.specs.Prelude.{◌≡◌, Bool};
 ghost use Rattle.hotel_model.specs.declared.reply.Reply.{Reply};
-ghost use Rattle.hotel_lists.specs.Calls.{CountsWrites, OnErrOf};
+ghost use Rattle.hotel_streams.specs.Calls.{CountsWrites, OnErrOf};
 ghost use Rattle.hotel_program.specs.Alone.CommandRuns.{command_end, WritesReply};
 ghost use Rattle.hotel_core.specs.Books.Stepped.{Stepped};
 ghost use Rattle.hotel_program.specs.Faults.{end_status, Reports};
@@ -11,7 +11,7 @@ ghost use Rattle.hotel_program.specs.declared.faults.Fault.{Fault};
 use crate::faults::{Fault, FaultSink, finish};
 use crate::statuses::status_of;
 use hotel_core::{Books, Command, reply_text, step};
-use hotel_lists::{IoCalls, WriteFailed, write_bytes};
+use hotel_streams::{IoCalls, WriteFailed, write_bytes};
 use rand_core::Rng;
 use std::io::Write;
 

@@ -1,7 +1,7 @@
 //! A list that is asked for alone: its text on one writer, and what went wrong on another.
 
 ghost use Rattle.std.specs.Prelude.{◌≡◌, Result};
-ghost use Rattle.hotel_lists.specs.Calls.{CountsWrites, OnErrOf};
+ghost use Rattle.hotel_streams.specs.Calls.{CountsWrites, OnErrOf};
 ghost use Rattle.hotel_lists.specs.RowLines.{LooksAt};
 ghost use Rattle.hotel_lists.specs.declared.fault.ListFault.{ListFault};
 ghost use Rattle.hotel_program.specs.Faults.{end_status, Reports};
@@ -12,7 +12,8 @@ use crate::faults::{Fault, FaultSink, finish};
 use crate::statuses::{DONE, REFUSED};
 use hotel_asks::{ListAsk, write_list};
 use hotel_core::{Refusal, Reply, Walks, reply_text};
-use hotel_lists::{IoCalls, ListFault, write_bytes};
+use hotel_lists::ListFault;
+use hotel_streams::{IoCalls, write_bytes};
 use std::alloc::Global;
 use std::io::Write;
 

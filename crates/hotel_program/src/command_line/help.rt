@@ -3,7 +3,7 @@
 use hotel_asks::{ValueName, Verb};
 
 /// The program's version, which `--version` prints after the program's name.
-pub const VERSION: &str = "1";
+pub(crate) const VERSION: &str = "1";
 
 /// What a command or list does, in one line, with an example.
 pub(crate) fn about_verb<'a>(verb: Verb) -> &'a str {
@@ -32,7 +32,7 @@ pub(crate) fn about_verb<'a>(verb: Verb) -> &'a str {
             "List the bookings for a night that aren't checked in: arrivals 2031-05-01",
         Verb::InHouse => "List the rooms with a party: in-house",
         Verb::ChainOf => "List a room's codes: chain 101",
-        Verb::LeftBehind => "List the rooms whose newest card doesn't open the lock: left-behind",
+        Verb::LeftBehind => "List the rooms whose lock awaits two codes or more: left-behind",
         Verb::AuditOf => "List a room's notes: audit-of 101",
         Verb::BusinessDay => "Print the business day: business-day",
         Verb::RoomStatus =>

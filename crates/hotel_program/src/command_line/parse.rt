@@ -1,13 +1,12 @@
 //! From words to a plan.
 
 ghost use Rattle.std.specs.Prelude.{◌≡◌, ◌<◌, ◌^◌, Some, Ok, IfOk, IfErr, codes, option_map};
-ghost use Rattle.std.specs.Prelude.{string_bytes, map, true, []};
-ghost use Rattle.clap.specs.Words.{first_of, found_of, has_subcommand, rows_of, subcommand_rows_of, subcommand_of};
-ghost use Rattle.clap.specs.Words.{fault_of, matches_of, kind_of};
+ghost use Rattle.std.specs.Prelude.{string_bytes, map, true};
+ghost use Rattle.clap.specs.Words.{first_of, found_of, has_subcommand, kind_of, rows_of, subcommand_rows_of};
 ghost use Rattle.hotel_asks.specs.Names.{names_of};
-ghost use Rattle.hotel_program.specs.CommandLine.{desk};
 ghost use Rattle.hotel_program.specs.Plans.{text_value, texts_in, number_in, verb_act, serve_act, own_act, desk_act};
-ghost use Rattle.hotel_program.specs.Plans.{act_in, IsOf, IsRead, IsRefusalOf, IsToldBy, IsValueOrMemory};
+ghost use Rattle.hotel_program.specs.Plans.{act_in, IsOf, IsRead, IsRefusalOf, IsValueOrMemory};
+ghost use Rattle.hotel_program.specs.Plan.{ParseTo};
 
 use super::command::desk_command;
 use super::plan::{DeskAct, FileName, Plan, UsageFault};
@@ -18,10 +17,10 @@ use keycard_rules::read_numeral;
 use std::alloc::Global;
 
 /// The greatest port.
-pub const MOST_PORT: u64 = 65_535;
+pub(crate) const MOST_PORT: u64 = 65_535;
 
 /// The most connections that one call serves.
-pub const MOST_CONNECTIONS: u64 = 1_000_000;
+pub(crate) const MOST_CONNECTIONS: u64 = 1_000_000;
 
 fn given<'a>(matches: &ArgMatches<'a>, id: &str) -> Option<&'a str>
     ensures { option_map (λ s. s.now) result ≡ first_of id.now (rows_of (found_of matches.now)) }
@@ -164,13 +163,7 @@ fn plan(alloc: Global, matches: &ArgMatches) -> Result<Plan, UsageFault>
 /// Help or the version, where it was asked for, and what `clap` says of words in which its definition finds a fault,
 /// come as texts.
 pub fn parse_words(alloc: Global, words: &[String]) -> Result<Plan, UsageFault>
-    ensures clean { IfOk result (λ _. fault_of desk (map string_bytes words.now) ≡ []) }
-    ensures act { IfOk result (λ p. act_in (subcommand_of desk (map string_bytes words.now)) ≡ Some (Ok p.act)) }
-    ensures db { IfOk result (λ p. p.db ≡ first_of (codes "db") (matches_of desk (map string_bytes words.now))) }
-    ensures seed { IfOk result (λ p. p.seed_file ≡ first_of (codes "seed-file")
-        (matches_of desk (map string_bytes words.now))) }
-    ensures value { IfErr result (IsRefusalOf (act_in (subcommand_of desk (map string_bytes words.now)))) }
-    ensures told { IfErr result (IsToldBy (fault_of desk (map string_bytes words.now))) }
+    ensures { ParseTo (map string_bytes words.now) result }
 {
     let Ok(command) = desk_command(alloc) else {
         return Err(UsageFault::Memory);

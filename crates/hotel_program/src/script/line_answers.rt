@@ -3,22 +3,22 @@
 ghost use Rattle.std.specs.Prelude.{Some, OnErr};
 ghost use Rattle.hotel_asks.specs.declared.asked.Ask.TheVariants as ask;
 ghost use Rattle.hotel_core.specs.Books.Happens.{HappensBy};
-ghost use Rattle.hotel_lists.specs.Bytes.{Writes};
-ghost use Rattle.hotel_lists.specs.Calls.{CountsWrites};
+ghost use Rattle.hotel_streams.specs.Bytes.{Writes};
+ghost use Rattle.hotel_streams.specs.Calls.{CountsWrites};
 ghost use Rattle.hotel_program.specs.Script.{Asks.ask_in, LineAnswers.AskEnds, LineAnswers.answer_text};
 
 use crate::script::asks::read_line;
 use crate::script::list_answers::answer_list;
 use hotel_asks::Ask;
 use hotel_core::{Books, Command, Refusal, Reply, Walks, reply_text, step};
-use hotel_lists::{IoCalls, WriteFailed, write_bytes};
+use hotel_streams::{IoCalls, WriteFailed, write_bytes};
 use rand_core::Rng;
 use std::alloc::Global;
 use std::io::Write;
 
 /// The answer to a line.
 #[derive(Clone, Copy, Debug)]
-pub enum ScriptAnswer {
+pub(crate) enum ScriptAnswer {
     /// The reply to the command that the line asks for.
     Replied(Reply),
     /// The line asks for no command; nothing was done.

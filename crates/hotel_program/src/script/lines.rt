@@ -6,7 +6,7 @@ ghost use Rattle.hotel_program.specs.Script.Lines.{lines, without_return, is_sil
 use crate::script::words::trimmed_start;
 
 /// The most bytes of a line that is read, without its end.
-pub const LINE_LIMIT: usize = 1024;
+pub(crate) const LINE_LIMIT: usize = 1024;
 
 /// Where the first line feed is, or the text's length where there is none.
 fn line_end(text: &[u8]) -> usize

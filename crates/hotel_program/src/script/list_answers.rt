@@ -4,12 +4,12 @@ ghost use Rattle.std.specs.Prelude.{Some, OnErr};
 ghost use Rattle.rand_core.specs.Stream.{Stream};
 ghost use Rattle.hotel_core.specs.Books.Happens.{HappensBy};
 ghost use Rattle.hotel_asks.specs.declared.asked.Ask.TheVariants as ask;
-ghost use Rattle.hotel_lists.specs.Calls.{CountsWrites};
+ghost use Rattle.hotel_streams.specs.Calls.{CountsWrites};
 ghost use Rattle.hotel_program.specs.Script.{LineAnswers.AskEnds};
 
 use hotel_asks::{ListAsk, write_list};
 use hotel_core::{Reply, Walks, reply_text};
-use hotel_lists::{IoCalls, WriteFailed, write_bytes};
+use hotel_streams::{IoCalls, WriteFailed, write_bytes};
 use std::alloc::Global;
 use std::io::Write;
 

@@ -1,6 +1,6 @@
 -- Where keys stand.
-use Rattle.std.proofs.Common.{◌≡◌, ℕ, suc, zero, ◌<◌, ◌≤◌, ◌+◌, ◌-◌, nat_le, inl, inr, Bool, true, false, cond, ◌==◌, ◌&&◌, ◌++◌, List, [], ◌∷◌, map}
-use Rattle.std.proofs.Common.{length, get_or, Option, Some, None, refl, sym, ap, subst, ◌∙◌, arith}
+use Rattle.std.proofs.Common.{◌≡◌, ℕ, suc, zero, ◌<◌, ◌≤◌, ◌+◌, ◌-◌, nat_le, inl, inr, Bool, true, false, cond}
+use Rattle.std.proofs.Common.{◌==◌, ◌&&◌, ◌++◌, List, [], ◌∷◌, map, length, get_or, Option, Some, None, refl, sym, ap, subst, ◌∙◌, arith}
 use Rattle.std.specs.Prelude.{option_map, is_some}
 use Rattle.std.specs.Ordering.{nat_cmp}
 use Rattle.std.specs.BTreeMap.{insert_entry}
@@ -120,7 +120,8 @@ module _ {L X : Type 0} (key : L → ℕ) (row : L → X) where
   length_keys (l ∷ ls) = ap suc (length_keys ls)
 
   pub none_found : (found : ℕ → Option ℕ) (ls : List L) (q : ℕ)
-      → ((q : ℕ) → found q ≡ place_in (map key ls) q) → found q ≡ None → at_number (map (λ l. (key l, row l)) ls) q ≡ None
+      → ((q : ℕ) → found q ≡ place_in (map key ls) q)
+      → found q ≡ None → at_number (map (λ l. (key l, row l)) ls) q ≡ None
   none_found found [] q is e = refl
   none_found found (l ∷ ls) q is e =
       row_found key row l (l ∷ ls) q ∙ ap (λ o. option_map (λ i. row (get_or (l ∷ ls) i l)) o) (sym (is q) ∙ e)

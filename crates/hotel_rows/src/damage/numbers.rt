@@ -77,9 +77,6 @@ pub(crate) fn count_from_one(keys: &[u64]) -> bool
 pub(crate) fn are_numbered(keys: &[u64]) -> bool
     ensures { result ≡ are_numbered keys.now }
 {
-    if !rise(keys) {
-        return false;
-    }
     if !count_from_one(keys) {
         return false;
     }

@@ -1,7 +1,6 @@
 //! The rules of the table of stays.
 ghost use Rattle.std.specs.Prelude.{◌≡◌, true, false, IfOk, MatchOption};
 ghost use Rattle.std.specs.List.{list_all};
-ghost use Rattle.hotel_nights.specs.Guests.{is_guest};
 ghost use Rattle.hotel_rows.specs.Stored.{rows_of, stay_row};
 ghost use Rattle.hotel_rows.specs.Counts.{IsCountedOf};
 ghost use Rattle.hotel_rows.specs.Damage.{are_stay_columns, kind_holds, room_holds, stay_holds};
@@ -16,7 +15,7 @@ use crate::damage::nights::nights_fit;
 use crate::damage::numbers::{are_numbered, number, number_if};
 use crate::damage::rooms::home_of;
 use crate::stored::{PlainStay, Stored};
-use hotel_nights::{Guest, GuestFault, MOST_NIGHTS};
+use hotel_nights::{MOST_NIGHTS, is_guest};
 use keycard_rules::{LAST_DAY, Memory};
 use std::alloc::Global;
 
@@ -59,60 +58,30 @@ fn has_home(places: &Places, stored: &Stored, stay: &PlainStay) -> bool
     party == number(stay.party)
 }
 
-/// Whether the text is a guest's name.
-fn is_guest(alloc: Global, text: &str) -> Result<bool, Memory>
-    ensures { IfOk result (λ read. read ≡ is_guest text.now) }
-{
-    match Guest::read(alloc, text) {
-        Ok(_guest) => Ok(true),
-        Err(GuestFault::Unread) => Ok(false),
-        Err(GuestFault::Memory) => Err(Memory),
-    }
-}
-
-fn stay_fits(
-    alloc: Global,
-    kinds: &Kinds,
-    places: &Places,
-    stored: &Stored,
-    stay: &PlainStay,
-) -> Result<bool, Memory>
+fn stay_fits(kinds: &Kinds, places: &Places, stored: &Stored, stay: &PlainStay) -> bool
     requires kinds { KindsOf kinds.now.entries stored.now }
     requires places { AreOf places.now stored.now }
-    ensures { IfOk result (λ fits. fits ≡ stay_fits stored.now stay.now) }
+    ensures { result ≡ stay_fits stored.now stay.now }
 {
-    if !has_columns(stay) {
-        return Ok(false);
-    }
-    if !is_guest(alloc, stay.guest.as_str())? {
-        return Ok(false);
-    }
-    if !has_kind(kinds, stay.kind.as_str()) {
-        return Ok(false);
-    }
-    if !has_days(stay) {
-        return Ok(false);
-    }
-    Ok(has_home(places, stored, stay))
+    has_columns(stay)
+        && is_guest(stay.guest.as_str())
+        && has_kind(kinds, stay.kind.as_str())
+        && has_days(stay)
+        && has_home(places, stored, stay)
 }
 
 /// Whether each stay fits by itself.
-pub(crate) fn stays_fit(
-    alloc: Global,
-    kinds: &Kinds,
-    places: &Places,
-    stored: &Stored,
-) -> Result<bool, Memory>
+pub(crate) fn stays_fit(kinds: &Kinds, places: &Places, stored: &Stored) -> bool
     requires kinds { KindsOf kinds.now.entries stored.now }
     requires places { AreOf places.now stored.now }
-    ensures { IfOk result (λ fit. fit ≡ list_all (stay_fits stored.now) stored.now.stay.items) }
+    ensures { result ≡ list_all (stay_fits stored.now) stored.now.stay.items }
 {
     for i in 0..stored.stay.len() {
-        if !stay_fits(alloc, kinds, places, stored, &stored.stay[i])? {
-            return Ok(false);
+        if !stay_fits(kinds, places, stored, &stored.stay[i]) {
+            return false;
         }
     }
-    Ok(true)
+    true
 }
 
 /// What is counted of the rows, where the rules of the table of stays hold.
@@ -133,8 +102,7 @@ pub(crate) fn stays_hold(
     if !are_numbered(&keys) {
         return Ok(None);
     }
-    let fit = stays_fit(alloc, kinds, places, stored)?;
-    if !fit {
+    if !stays_fit(kinds, places, stored) {
         return Ok(None);
     }
     let counts = counts_of(alloc, stored)?;

@@ -7,7 +7,7 @@ ghost use Rattle.hotel_model.specs.Refinement.Fits.{Fits};
 ghost use Rattle.hotel_statements.specs.Tables.{rows_in};
 ghost use Rattle.hotel_statements.specs.Books.{IsKept};
 ghost use Rattle.hotel_tables.specs.Applied.{Applies};
-ghost use Rattle.hotel_tables.specs.Causes.{TablesFail};
+ghost use Rattle.hotel_tables.specs.Causes.{ChangingFails};
 
 use crate::apply::apply_change;
 use crate::counted::{count_added, count_ended, count_room, ended_by, uncount_added};
@@ -23,7 +23,7 @@ impl<S: Alter> TableBooks<S> {
             → Fits change.now (rows_in (state S.Store self.old.conn).now.trees) }
         ensures applies { Applies change.now (state S.Store self.old.conn) (state S.Store self.new.conn) result }
         ensures cause { HasCleanDisk (state S.Store self.new.conn)
-            → IfErr result (λ why. why ≡ Store → TablesFail S.Store change.now self.old.conn self.new.conn) }
+            → IfErr result (λ why. why ≡ Store → ChangingFails S.Store change.now self.old.conn self.new.conn) }
         ensures memory { self.new.memory ≡ self.old.memory }
         ensures store { self.new.store ≡ self.old.store }
     {

@@ -1,10 +1,9 @@
 //! The walks over the lists' rows, each counted where it fails.
 ghost use Rattle.std.specs.Prelude.{◌≡◌, None, IsTrue};
-ghost use Rattle.keycard_rules.specs.Rise.{Counts, NoFewer, one_of};
 ghost use Rattle.sqlite.specs.Held.{state};
 ghost use Rattle.sqlite.specs.State.{HasCleanDisk};
 ghost use Rattle.hotel_core.specs.Books.Walks.{failure_of};
-ghost use Rattle.hotel_tables.specs.TableBooks.{failed};
+ghost use Rattle.hotel_tables.specs.TableBooks.{HandsOn};
 
 use crate::table_books::TableBooks;
 use hotel_core::{
@@ -20,10 +19,7 @@ impl<S: Alter> TableBooks<S> {
     fn counting_walk(&mut self, end: Result<(), WalkFault>) -> Result<(), WalkFault>
         requires answered { HasCleanDisk (state S.Store self.old.conn) → failure_of end ≡ None
             → IsTrue (state S.Store self.old.conn).is_open }
-        ensures same { result ≡ end }
-        ensures conn { self.new.conn ≡ self.old.conn }
-        ensures no_fewer { NoFewer (failed self.old) (failed self.new) }
-        ensures counted { Counts (λ why. one_of why (failure_of result)) (failed self.old) (failed self.new) }
+        ensures { HandsOn (failure_of result) end result self.old self.new }
     {
         match end {
             Err(WalkFault::Memory) => self.count(LookFault::Memory),

@@ -1,7 +1,7 @@
 -- the answers so far were written
 use Rattle.std.proofs.Common.{take}
 use Rattle.std.specs.Io.KnownBytes.{Appends}
-use Rattle.hotel_lists.specs.Calls.{NoneForgotten}
+use Rattle.hotel_streams.specs.Calls.{NoneForgotten}
 use Rattle.hotel_audit.specs.Answers.{answers_text}
 use Rattle.hotel_audit.proofs.written.write_answers.Given as goal
 

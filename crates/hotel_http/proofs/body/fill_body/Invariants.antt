@@ -1,7 +1,7 @@
 -- what was taken stands behind what there was
 use Rattle.std.proofs.Common.{◌≡◌, ◌-◌, ◌++◌, List, ℕ, vec_len}
 use Rattle.std.specs.Io.KnownBytes.{Consumes}
-use Rattle.hotel_lists.specs.Calls.{NoneForgotten}
+use Rattle.hotel_streams.specs.Calls.{NoneForgotten}
 use Rattle.hotel_http.specs.Body.{ReadsBody}
 use Rattle.hotel_http.proofs.body.fill_body.Given as goal
 

@@ -1,5 +1,5 @@
 use Rattle.std.proofs.Common.{take, subst}
-use Rattle.hotel_lists.proofs.ReadLemmas.{then_lost, then_read}
+use Rattle.hotel_streams.proofs.ReadLemmas.{then_lost, then_read}
 use Rattle.hotel_http.specs.Head.{LiesWithin, WantsHead}
 use Rattle.hotel_http.proofs.HeadLemmas.{judged_of_input}
 use Rattle.hotel_http.specs.declared.head.TheConstants.{HEAD_BYTES}

@@ -1,7 +1,7 @@
 -- the bytes so far are those that were read, and they are few
 use Rattle.std.proofs.Common.{◌≡◌, ◌+◌, ◌-◌, ◌≤◌, length, vec_len}
 use Rattle.std.specs.Io.KnownBytes.{Consumes}
-use Rattle.hotel_lists.specs.Calls.{NoneForgotten}
+use Rattle.hotel_streams.specs.Calls.{NoneForgotten}
 use Rattle.hotel_http.specs.Head.{WantsHead}
 use Rattle.hotel_http.specs.declared.head.TheConstants.{HEAD_BYTES, HEAD_FIELDS}
 use Rattle.hotel_http.proofs.head.read_head.Given as goal

@@ -12,7 +12,8 @@ behind-begun-requires g c = omega (arith, length-take HEAD_BYTES c.args.bytes.no
 pub returns-in-Err-clause-ends : goal.returns-in-Err-clause-ends
 returns-in-Err-clause-ends g c head at =
     let here =
-    subst (λ (l : List ℕ). IsRequestAt l c.args.headers.now c.args.spans.now head) (sym c.head_part-front.ensures) at in
+    subst (λ (l : List ℕ). IsRequestAt l c.args.headers.now c.args.spans.now head)
+    (sym c.head_part-prefix.ensures) at in
     head_rejected c.args.service.origins head c.in-Err.why
     (λ left. drop c.args.spans.now.len (c.args.bytes.now ++ left)) _ _ (sym (c.in-Err.ensures head here))
     c.refused.result c.refused.ensures.asks
@@ -20,7 +21,8 @@ returns-in-Err-clause-ends g c head at =
 pub returns-in-Ok-clause-ends : goal.returns-in-Ok-clause-ends
 returns-in-Ok-clause-ends g c head at =
     let here =
-    subst (λ (l : List ℕ). IsRequestAt l c.args.headers.now c.args.spans.now head) (sym c.head_part-front.ensures) at in
+    subst (λ (l : List ℕ). IsRequestAt l c.args.headers.now c.args.spans.now head)
+    (sym c.head_part-prefix.ensures) at in
     let text = c.target_text.ensures (subst IsUtf8 (sym here.path) here.reads.0.target_text) in
     let fits : c.args.spans.now.len ≤ length c.args.bytes.now =
     omega (arith, length-take HEAD_BYTES c.args.bytes.now, c.requires.section.len_fits) in
@@ -35,7 +37,8 @@ returns-in-Err-clause-wanted g c head at = inl (Keeps-refl _)
 pub returns-in-Ok-clause-wanted : goal.returns-in-Ok-clause-wanted
 returns-in-Ok-clause-wanted g c head at =
     let here =
-    subst (λ (l : List ℕ). IsRequestAt l c.args.headers.now c.args.spans.now head) (sym c.head_part-front.ensures) at in
+    subst (λ (l : List ℕ). IsRequestAt l c.args.headers.now c.args.spans.now head)
+    (sym c.head_part-prefix.ensures) at in
     let fits : c.args.spans.now.len ≤ length c.args.bytes.now =
     omega (arith, length-take HEAD_BYTES c.args.bytes.now, c.requires.section.len_fits) in
     body_read c.args.service.origins head c.in-Ok.plan c.args.bytes.now c.args.spans.now.len _ _ _ fits

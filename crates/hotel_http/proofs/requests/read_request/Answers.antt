@@ -7,9 +7,10 @@ use Rattle.hotel_http.proofs.requests.read_request.Goals as goal
 
 pub read_behind_head-requires : goal.read_behind_head-requires
 read_behind_head-requires g c =
-    let front = take HEAD_BYTES c.read_head.new.bytes.items in
+    let prefix = take HEAD_BYTES c.read_head.new.bytes.items in
     let (within, of) =
-    subst (λ (j : Judged). LiesWithin front c.read_head.new.headers j) c.in-Whole.is c.in_ok-read_head.ensures.within in
+    subst (λ (j : Judged). LiesWithin prefix c.read_head.new.headers j) c.in-Whole.is
+    c.in_ok-read_head.ensures.within in
     subst (λ (l : List ℕ). IsRequestWithin (take HEAD_BYTES l) c.read_head.new.headers c.in-Whole.spans)
     (sym c.deref.ensures.value) within
 

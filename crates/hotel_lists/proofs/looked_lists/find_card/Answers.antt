@@ -2,10 +2,11 @@ use Rattle.std.proofs.Common.{◌≡◌, [], ◌∷◌, Some, None, Ok, Err, ap,
 use Rattle.hotel_core.proofs.Names.{Rows}
 use Rattle.hotel_model.specs.Refinement.Lookups.{stay_at}
 use Rattle.keycard_rules.specs.Leaves.{told_by}
-use Rattle.hotel_lists.specs.{Faults.list_fault, LookedRows.card_row}
-use Rattle.hotel_lists.proofs.CallsLemmas.{answered_clean}
-use Rattle.hotel_lists.proofs.LookedLemmas.{all_found, answer_is, began_honest, card_there, look_ended, looks_next, no_card}
-use Rattle.hotel_lists.proofs.LookedLemmas.{no_stay, none_kept, one_answered, one_failed}
+use Rattle.hotel_lists.specs.Faults.{list_fault}
+use Rattle.hotel_model.specs.Lists.{card_row}
+use Rattle.hotel_lists.proofs.ToldLemmas.{answered_clean}
+use Rattle.hotel_lists.proofs.LookedLemmas.{all_found, answer_is, began_honest, card_there, look_ended, looks_next}
+use Rattle.hotel_lists.proofs.LookedLemmas.{no_card, no_stay, none_kept, one_answered, one_failed}
 use Rattle.hotel_lists.proofs.looked_lists.find_card.Goals as goal
 
 pub returns-in_err-card : goal.returns-in_err-card

@@ -2,11 +2,12 @@ use Rattle.std.proofs.Common.{◌≡◌, ◌-◌, ◌≤◌, refl, option_map, O
 use Rattle.hotel_model.specs.declared.rows.RoomRow.{RoomRow}
 use Rattle.keycard_rules.specs.Leaves.{told_by}
 use Rattle.hotel_lists.specs.Faults.{list_fault}
-use Rattle.hotel_lists.specs.{LookedLists.one_or_none, LookedLists.end_of, LookedRows.lock_row_on, RowLines.LooksAt}
+use Rattle.hotel_lists.specs.{LookedLists.one_or_none, LookedLists.end_of, RowLines.LooksAt}
+use Rattle.hotel_model.specs.Refinement.ListsOnRows.{lock_row_on}
 use Rattle.hotel_model.proofs.Names.{Rows, note_at}
 use Rattle.hotel_nights.specs.Moments.{moment_of}
 use Rattle.std.specs.Option.{SomeIff}
-use Rattle.hotel_lists.proofs.CallsLemmas.{answered_clean}
+use Rattle.hotel_lists.proofs.ToldLemmas.{answered_clean}
 use Rattle.hotel_lists.proofs.LookedLemmas.{all_found, answer_is, began_honest, look_ended, one_answered, one_failed}
 use Rattle.hotel_lists.proofs.LookedLemmas.{lock_found, looks_next, moment_found, none_counted, part_ended, same_option}
 use Rattle.hotel_lists.proofs.looked_lists.find_lock.Goals.{in-Some-new+in_ok-at-in-Some-new, in-None}

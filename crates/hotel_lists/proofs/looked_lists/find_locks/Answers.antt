@@ -1,8 +1,9 @@
 use Rattle.std.proofs.Common.{◌≡◌, ◌++◌, Ok, Err, Some, ap, rules, subst, ◌∙◌}
 use Rattle.hotel_core.proofs.Names.{Rows}
-use Rattle.hotel_lists.specs.{LookedLists.end_of, LookedLists.one_or_none, LookedRows.lock_at, LookedRows.locks_on}
+use Rattle.hotel_lists.specs.{LookedLists.end_of, LookedLists.one_or_none}
+use Rattle.hotel_model.specs.Refinement.ListsOnRows.{lock_at, locks_on}
 use Rattle.hotel_lists.specs.RowLines.{LooksAt}
-use Rattle.hotel_lists.proofs.CallsLemmas.{answered_clean}
+use Rattle.hotel_lists.proofs.ToldLemmas.{answered_clean}
 use Rattle.hotel_lists.proofs.LookedLemmas.{answer_is, began_honest, looks_next, none_kept, one_more, part_ended}
 use Rattle.hotel_lists.proofs.looked_lists.find_locks.Goals.{in-Some+in-Ok, in_default}
 use Rattle.hotel_lists.proofs.looked_lists.find_locks.Goals as goal

@@ -1,5 +1,6 @@
 use Rattle.std.specs.Prelude.{◌≡◌, ◌++◌, Ok, drop, filter_map}
-use Rattle.hotel_lists.specs.{RowLines.LooksAt, LookedRows.lock_at, LookedRows.locks_on}
+use Rattle.hotel_lists.specs.RowLines.{LooksAt}
+use Rattle.hotel_model.specs.Refinement.ListsOnRows.{lock_at, locks_on}
 use Rattle.hotel_lists.proofs.looked_lists.find_locks.Given as goal
 
 abbrev pub invariant-loop-room : goal.invariant-loop-room

@@ -1,5 +1,5 @@
 use Rattle.std.proofs.Common.{refl, rules, sym, ◌∙◌}
-use Rattle.hotel_lists.proofs.CallsLemmas.{then_none_forgotten}
+use Rattle.hotel_streams.proofs.CallsLemmas.{then_none_forgotten}
 use Rattle.hotel_lists.proofs.LinesWritten.{Ends, list_ended, list_written}
 use Rattle.hotel_lists.proofs.write_lists.write_found.Goals as goal
 

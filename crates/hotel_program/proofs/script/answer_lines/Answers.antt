@@ -1,7 +1,7 @@
 use Rattle.std.proofs.Common.{◌≡◌, ◌∙◌, [], arith, false, refl, subst, sym, List, ℕ, Result}
 use Rattle.hotel_core.specs.Books.Happens.{HappensBy}
-use Rattle.hotel_lists.specs.declared.calls.WriteFailed.{WriteFailed}
-use Rattle.hotel_lists.proofs.CallsLemmas.{none_forgotten, then_none_forgotten}
+use Rattle.hotel_streams.specs.declared.calls.WriteFailed.{WriteFailed}
+use Rattle.hotel_streams.proofs.CallsLemmas.{none_forgotten, then_none_forgotten}
 use Rattle.hotel_program.specs.Script.Asks.{ask_in}
 use Rattle.hotel_program.specs.Script.LineAnswers.{AskEnds}
 use Rattle.hotel_program.specs.Script.Lines.{answered_lines, is_silent}

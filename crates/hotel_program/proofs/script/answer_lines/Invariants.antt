@@ -1,6 +1,6 @@
 -- the lines that are done were answered, each in the state that the one before it left, and the others are left
 use Rattle.std.proofs.Common.{◌≡◌, ◌+◌, ◌≤◌, length, take, drop}
-use Rattle.hotel_lists.specs.Calls.{NoneForgotten}
+use Rattle.hotel_streams.specs.Calls.{NoneForgotten}
 use Rattle.hotel_program.specs.Script.Lines.{answered_lines}
 use Rattle.hotel_program.specs.Script.WholeScript.{LinesAnswered}
 use Rattle.hotel_program.proofs.script.answer_lines.Given as goal

@@ -1,6 +1,6 @@
 use Rattle.std.proofs.Common.{ap, rules}
 use Rattle.hotel_program.specs.Script.WholeScript.{IsInput}
-use Rattle.hotel_lists.proofs.CallsLemmas.{then_none_forgotten}
+use Rattle.hotel_streams.proofs.CallsLemmas.{then_none_forgotten}
 use Rattle.hotel_program.proofs.OfScript.CountLemmas.{begun, not_cut, on_cut, the_err, unread_end}
 use Rattle.hotel_program.proofs.OfScript.ScriptLemmas.{script_ran, unread_ran}
 use Rattle.hotel_program.proofs.script.run_script_by.Goals as goal

@@ -1,6 +1,6 @@
 use Rattle.std.proofs.Common.{◌≡◌, ◌∙◌, ℕ, List, ◌++◌, codes, subst}
 use Rattle.std.specs.Fmt.{decimal}
-use Rattle.hotel_lists.specs.Bytes.{Writes}
+use Rattle.hotel_streams.specs.Bytes.{Writes}
 use Rattle.hotel_program.proofs.server.write_listening.Goals as goal
 
 pub returns : goal.returns

@@ -26,6 +26,6 @@ loop-i-preserved c =
       c.loop-i-test.true,
       c.len-i-end.ensures,
     ) in
-    more_stays c.loop-i.nights c.add.new.self stays c.loop-i.i c.index.result.now c.in_ok-stay.stay low
-    c.loop-i.invariant (c.in_ok-stay.ensures.ok ∙ ap stay_row at)
-    (λ kind n. c.in-Ok.ensures.ok kind n (counts_fit c.loop-i.nights es kind n c.loop-i.invariant few))
+    more_stays c.loop-i.nights c.count_stay.new.nights stays c.loop-i.i c.index.result.now
+    (stay_row c.index.result.now) low c.loop-i.invariant (ap stay_row at)
+    (λ kind n. c.in_ok-count_stay.ensures.ok kind n (counts_fit c.loop-i.nights es kind n c.loop-i.invariant few))

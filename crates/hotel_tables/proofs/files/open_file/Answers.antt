@@ -5,7 +5,8 @@ pub returns-in-Ok-books_of-clause-books : goal.returns-in-Ok-books_of-clause-boo
 returns-in-Ok-books_of-clause-books g c = (c.in-Ok.conn, c.in-Ok.ensures.answer, c.in-Ok-books_of.ensures.books)
 
 pub returns-in-Err-clause-fault : goal.returns-in-Err-clause-fault
-returns-in-Err-clause-fault g c = inl ((c.in-Err.error, c.in-Err._left), c.in-Err.ensures.answer, c.file_fault.ensures)
+returns-in-Err-clause-fault g c =
+    inl ((c.in-Err.error, c.in-Err._left), c.in-Err.ensures.answer, c.connect_fault.ensures)
 
 pub returns-in-Err-books_of-clause-fault : goal.returns-in-Err-books_of-clause-fault
 returns-in-Err-books_of-clause-fault g c =

@@ -15,12 +15,10 @@ pub returns-clause-ok : goal.returns-clause-ok
 returns-clause-ok c =
     let stay = c.args.stay.now in
     let old = c.args.self.now in
-    let new = c.add_nights.new.self in
+    let new = c.add_span.new.self in
     let more : ((k : List ℕ) (d : ℕ) → counted old k d < 2 ^ 63
-    → counted new k d ≡ counted old k d + one_if (spans stay.kind c.number-first.result c.number-last.result k d))
+    → counted new k d ≡ counted old k d + one_if (spans stay.kind stay.arrive stay.depart k d))
     → (k : List ℕ) (d : ℕ) → counted old k d < 2 ^ 63 → counted new k d ≡ counted old k d + one_if (takes k d stay) =
-    λ held k d few. held k d few ∙ (λ i. counted old k d
-    + one_if (spans stay.kind (c.number-first.ensures.same i) (c.number-last.ensures.same i) k d))
-    ∙ ap (λ b. counted old k d + one_if b)
+    λ held k d few. held k d few ∙ ap (λ b. counted old k d + one_if b)
     (sym (takes_by stay k d (sym c.is_standing.ensures ∙ c.if-not-is_standing.false))) in
-    when_ok _ _ _ more c.add_nights.ensures.ok
+    when_ok _ _ _ more c.add_span.ensures.ok

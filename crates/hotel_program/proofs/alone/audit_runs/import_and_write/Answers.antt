@@ -1,6 +1,6 @@
 use Rattle.std.proofs.Common.{rules, ◌≡◌, true, false, refl, sym, ap, ◌∙◌, subst, List, Ok, Err}
 use Rattle.std.specs.Io.KnownBytes.{Appends}
-use Rattle.hotel_lists.specs.Bytes.{AppendsFront}
+use Rattle.hotel_streams.specs.Bytes.{AppendsPrefix}
 use Rattle.hotel_audit.specs.Answers.{answers_text}
 use Rattle.hotel_audit.specs.declared.answer.LineAnswer.{LineAnswer}
 use Rattle.hotel_program.specs.Alone.AuditRuns.{answers_status}
@@ -40,7 +40,7 @@ returns-clause-ends g c =
       Ok c.in-Ok.answers.items,
       true,
       refl,
-      subst (λ (l : List LineAnswer). AppendsFront old new (answers_text 1 l)) items
+      subst (λ (l : List LineAnswer). AppendsPrefix old new (answers_text 1 l)) items
           c.in-Err-write_answers.ensures.writes.err,
       e.imported,
     )

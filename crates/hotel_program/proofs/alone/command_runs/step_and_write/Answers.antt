@@ -1,6 +1,6 @@
 use Rattle.std.proofs.Common.{◌∙◌, true, false, refl, ap, subst, List, ℕ, Ok}
 use Rattle.std.specs.Io.KnownBytes.{Appends}
-use Rattle.hotel_lists.specs.Bytes.{AppendsFront}
+use Rattle.hotel_streams.specs.Bytes.{AppendsPrefix}
 use Rattle.hotel_program.proofs.alone.command_runs.step_and_write.Goals as goal
 
 pub returns-in-Ok-clause-ends : goal.returns-in-Ok-clause-ends
@@ -20,7 +20,7 @@ returns-in-Err-clause-ends g c =
       c.step-reply.result,
       true,
       refl,
-      subst (λ (t : List ℕ). AppendsFront (g.W.Write.contents c.args.writer.now)
+      subst (λ (t : List ℕ). AppendsPrefix (g.W.Write.contents c.args.writer.now)
           (g.W.Write.contents c.write_bytes.new.writer) t) text c.in-Err.ensures.writes.err,
       c.step-reply.ensures,
     )

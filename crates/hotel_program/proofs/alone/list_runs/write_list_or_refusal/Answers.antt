@@ -1,7 +1,7 @@
 use Rattle.std.proofs.Common.{◌≡◌, ◌∙◌, [], subst, sym, ap, Result, Err, ℕ, List}
 use Rattle.std.specs.Io.KnownBytes.{Appends}
 use Rattle.hotel_model.specs.declared.reply.Refusal.TheVariants as refusal
-use Rattle.hotel_lists.specs.Bytes.{AppendsFront}
+use Rattle.hotel_streams.specs.Bytes.{AppendsPrefix}
 use Rattle.hotel_lists.specs.declared.fault.ListFault.{ListFault}
 use Rattle.hotel_program.specs.Script.ListAnswers.{refusal_text}
 use Rattle.hotel_program.specs.Alone.ListRuns.{AnswerEnds}
@@ -21,10 +21,10 @@ returns-in_err-write_bytes-in-Err-NoRoom-clause-text g c = λ honest.
     (c.write_list.ensures.text honest) in
     let said : c.as_bytes.result.now ≡ refusal_text refusal.NoRoom =
     c.as_bytes.ensures.same ∙ c.reply_text-refused.ensures in
-    let front : AppendsFront mid new c.as_bytes.result.now = c.in_err-write_bytes-in-Err-NoRoom.ensures.writes.err in
+    let prefix : AppendsPrefix mid new c.as_bytes.result.now = c.in_err-write_bytes-in-Err-NoRoom.ensures.writes.err in
     subst (λ (r : Result (Unit {0}) ListFault). AnswerEnds listing old new r)
     (sym (is_write c.from_residual.result c.from_residual.ensures.1))
-    (cut_no_room listing old mid new written (subst (λ (t : List ℕ). AppendsFront mid new t) said front))
+    (cut_no_room listing old mid new written (subst (λ (t : List ℕ). AppendsPrefix mid new t) said prefix))
 
 pub returns-in_ok-write_bytes-in-Err-NoRoom-clause-text : goal.returns-in_ok-write_bytes-in-Err-NoRoom-clause-text
 returns-in_ok-write_bytes-in-Err-NoRoom-clause-text g c = λ honest.

@@ -10,11 +10,11 @@ use Rattle.hotel_asks.specs.Verbs.{texts}
 use Rattle.hotel_program.specs.CommandLine.{leaf, options, verb_leaf}
 use Rattle.hotel_program.proofs.command_line.command.with_verbs.Goals as goal
 
-one_more : (front : List (Bor (List ℕ) × Verb)) (row : Bor (List ℕ) × Verb)
-    → map verb_leaf (texts front) ++ leaf row.0.now (names_of row.1) ∷ [] ≡ map verb_leaf (texts (front ++ row ∷ []))
+one_more : (prefix : List (Bor (List ℕ) × Verb)) (row : Bor (List ℕ) × Verb)
+    → map verb_leaf (texts prefix) ++ leaf row.0.now (names_of row.1) ∷ [] ≡ map verb_leaf (texts (prefix ++ row ∷ []))
 one_more [] row = refl
-one_more (first ∷ front) row =
-    ap (λ (leaves : List Shape). leaf first.0.now (names_of first.1) ∷ leaves) (one_more front row)
+one_more (first ∷ prefix) row =
+    ap (λ (leaves : List Shape). leaf first.0.now (names_of first.1) ∷ leaves) (one_more prefix row)
 
 fold-more : (verbs : List (Bor (List ℕ) × Verb)) (i : ℕ) (d : Bor (List ℕ) × Verb) → i < length verbs
     → with_subcommand (fold with_subcommand options
@@ -33,7 +33,8 @@ loop-row-preserved c =
     let added = c.in_ok-command-2.ensures in
     record {
       shape = added.shape sub.globals
-          ∙ ap₂ with_subcommand c.loop-row.invariant.shape (ap (λ (a : App). a.top) (rw c.values.ensures.names at sub.shape))
+          ∙ ap₂ with_subcommand c.loop-row.invariant.shape
+          (ap (λ (a : App). a.top) (rw c.values.ensures.names at sub.shape))
           ∙ fold-more c.args.verbs.now c.loop-row.row-index _ (omega arith);
       globals = added.globals ∙ ap₂ ◌||◌ c.loop-row.invariant.globals sub.globals;
     }

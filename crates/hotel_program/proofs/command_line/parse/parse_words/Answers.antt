@@ -1,4 +1,4 @@
-use Rattle.std.proofs.Common.{sym, subst, map, string_bytes, ap, ◌∙◌, ◌∷◌, []}
+use Rattle.std.proofs.Common.{sym, subst, map, rules, string_bytes, ap, ◌∙◌, ◌∷◌, []}
 use Rattle.std.proofs.lemmas.Result.{IfErr-weaker, IfOk-weaker}
 use Rattle.clap.specs.Words.{App, fault_of, first_of, is_simple, is_simple_and_free, kind_of, matches_of}
 use Rattle.clap.specs.Words.{subcommand_of}
@@ -14,51 +14,35 @@ plan-requires c =
     let wants = ap (λ (a : App). a.top.subcommand_required) c.in-Ok.ensures.shape ∙ desk_wants_subcommand in
     (from.parsed (from.from.globals ∙ c.in-Ok.ensures.globals)).checked.subcommand (from.from.needs_subcommand ∙ wants)
 
-pub returns-in-Ok-try_get_matches_from-clause-act : goal.returns-in-Ok-try_get_matches_from-clause-act
-returns-in-Ok-try_get_matches_from-clause-act c =
+pub returns-in-Ok-try_get_matches_from : goal.returns-in-Ok-try_get_matches_from
+returns-in-Ok-try_get_matches_from c =
+    let words = map string_bytes c.args.words.now in
     let m = c.in-Ok-try_get_matches_from.ensures.matches (ap is_simple c.in-Ok.ensures.shape ∙ desk_is_simple) in
-    let sub = m.1 ∙ ap (λ (a : App). subcommand_of a (map string_bytes c.args.words.now)) c.in-Ok.ensures.shape in
-    IfOk-weaker c.plan.result _ _ (λ p h. ap act_in (sym sub) ∙ h) c.plan.ensures.act
-
-pub returns-in-Ok-try_get_matches_from-clause-db : goal.returns-in-Ok-try_get_matches_from-clause-db
-returns-in-Ok-try_get_matches_from-clause-db c =
-    let m = c.in-Ok-try_get_matches_from.ensures.matches (ap is_simple c.in-Ok.ensures.shape ∙ desk_is_simple) in
-    let rows = m.0 ∙ ap (λ (a : App). matches_of a (map string_bytes c.args.words.now)) c.in-Ok.ensures.shape in
-    IfOk-weaker c.plan.result _ _ (λ p h. h ∙ ap (first_of (100 ∷ 98 ∷ [])) rows) c.plan.ensures.db
-
-pub returns-in-Ok-try_get_matches_from-clause-seed : goal.returns-in-Ok-try_get_matches_from-clause-seed
-returns-in-Ok-try_get_matches_from-clause-seed c =
-    let m = c.in-Ok-try_get_matches_from.ensures.matches (ap is_simple c.in-Ok.ensures.shape ∙ desk_is_simple) in
-    let rows = m.0 ∙ ap (λ (a : App). matches_of a (map string_bytes c.args.words.now)) c.in-Ok.ensures.shape in
-    IfOk-weaker c.plan.result _ _
-    (λ p h. h ∙ ap (first_of (115 ∷ 101 ∷ 101 ∷ 100 ∷ 45 ∷ 102 ∷ 105 ∷ 108 ∷ 101 ∷ [])) rows) c.plan.ensures.seed
-
-pub returns-in-Ok-try_get_matches_from-clause-value : goal.returns-in-Ok-try_get_matches_from-clause-value
-returns-in-Ok-try_get_matches_from-clause-value c =
-    let m = c.in-Ok-try_get_matches_from.ensures.matches (ap is_simple c.in-Ok.ensures.shape ∙ desk_is_simple) in
-    let sub = m.1 ∙ ap (λ (a : App). subcommand_of a (map string_bytes c.args.words.now)) c.in-Ok.ensures.shape in
-    IfErr-weaker c.plan.result _ _ (λ e h v r. ap act_in (sym sub) ∙ h v r) c.plan.ensures.value
-
-pub returns-in-Ok-try_get_matches_from-clause-clean : goal.returns-in-Ok-try_get_matches_from-clause-clean
-returns-in-Ok-try_get_matches_from-clause-clean c =
-    let same = ap (λ (a : App). fault_of a (map string_bytes c.args.words.now)) c.in-Ok.ensures.shape in
-    let none = sym same
+    let rows = m.0 ∙ ap (λ (a : App). matches_of a words) c.in-Ok.ensures.shape in
+    let sub = m.1 ∙ ap (λ (a : App). subcommand_of a words) c.in-Ok.ensures.shape in
+    let none = sym (ap (λ (a : App). fault_of a words) c.in-Ok.ensures.shape)
     ∙ c.in-Ok-try_get_matches_from.ensures.kinds (ap is_simple_and_free c.in-Ok.ensures.shape ∙ desk_is_free) in
-    IfOk-weaker c.plan.result _ _ (λ p h. none) c.plan.ensures.act
+    record {
+      clean = IfOk-weaker c.plan.result _ _ (λ p h. none) c.plan.ensures.act;
+      act = IfOk-weaker c.plan.result _ _ (λ p h. ap act_in (sym sub) ∙ h) c.plan.ensures.act;
+      db = IfOk-weaker c.plan.result _ _ (λ p h. h ∙ ap (first_of (100 ∷ 98 ∷ [])) rows) c.plan.ensures.db;
+      seed = IfOk-weaker c.plan.result _ _
+          (λ p h. h ∙ ap (first_of (115 ∷ 101 ∷ 101 ∷ 100 ∷ 45 ∷ 102 ∷ 105 ∷ 108 ∷ 101 ∷ [])) rows) c.plan.ensures.seed;
+      value = IfErr-weaker c.plan.result _ _ (λ e h v r. ap act_in (sym sub) ∙ h v r) c.plan.ensures.value;
+      told = IfErr-weaker c.plan.result _ _ (λ e h. told_of_plan _ e h none) c.plan.ensures.only;
+    }
 
-pub returns-in-Ok-try_get_matches_from-clause-told : goal.returns-in-Ok-try_get_matches_from-clause-told
-returns-in-Ok-try_get_matches_from-clause-told c =
+pub returns-in-Err : goal.returns-in-Err
+returns-in-Err c =
     let same = ap (λ (a : App). fault_of a (map string_bytes c.args.words.now)) c.in-Ok.ensures.shape in
-    let none = sym same
-    ∙ c.in-Ok-try_get_matches_from.ensures.kinds (ap is_simple_and_free c.in-Ok.ensures.shape ∙ desk_is_free) in
-    IfErr-weaker c.plan.result _ _ (λ e h. told_of_plan _ e h none) c.plan.ensures.only
-
-pub returns-in-Err-clause-value : goal.returns-in-Err-clause-value
-returns-in-Err-clause-value c = refuses_none _ (kind_of c.in-Err.error) c.usage_fault.result c.usage_fault.ensures.kind
-
-pub returns-in-Err-clause-told : goal.returns-in-Err-clause-told
-returns-in-Err-clause-told c =
-    let same = ap (λ (a : App). fault_of a (map string_bytes c.args.words.now)) c.in-Ok.ensures.shape in
-    told_by _ (kind_of c.in-Err.error) c.usage_fault.result
-    (subst (λ (k : Kinds). HasKind k c.in-Err.error) same
-    (c.in-Err.ensures.kinds (ap is_simple_and_free c.in-Ok.ensures.shape ∙ desk_is_free))) c.usage_fault.ensures.kind
+    record {
+      clean = tt;
+      act = tt;
+      db = tt;
+      seed = tt;
+      value = refuses_none _ (kind_of c.in-Err.error) c.usage_fault.result c.usage_fault.ensures.kind;
+      told = told_by _ (kind_of c.in-Err.error) c.usage_fault.result
+          (subst (λ (k : Kinds). HasKind k c.in-Err.error) same
+          (c.in-Err.ensures.kinds (ap is_simple_and_free c.in-Ok.ensures.shape ∙ desk_is_free)))
+          c.usage_fault.ensures.kind;
+    }

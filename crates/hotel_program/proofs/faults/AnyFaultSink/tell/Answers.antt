@@ -1,9 +1,9 @@
 use Rattle.hotel_program.specs.Faults.{fault_text}
-use Rattle.hotel_program.proofs.FaultLemmas.{front_taken, taken_whole}
+use Rattle.hotel_program.proofs.FaultLemmas.{prefix_taken, taken_whole}
 use Rattle.hotel_program.proofs.faults.AnyFaultSink.tell.Goals as goal
 
 pub returns-clause-told : goal.returns-clause-told
-returns-clause-told g c = front_taken c.write_fault.result _ _
+returns-clause-told g c = prefix_taken c.write_fault.result _ _
     (fault_text c.args.fault.now) c.write_fault.ensures.writes.ok c.write_fault.ensures.writes.err
 
 pub returns-clause-heard : goal.returns-clause-heard

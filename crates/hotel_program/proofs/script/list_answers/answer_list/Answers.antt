@@ -1,6 +1,6 @@
 use Rattle.std.proofs.Common.{◌≡◌, ◌∙◌, [], sym, subst, Result, ℕ, List, Ok, Err}
 use Rattle.std.specs.Io.KnownBytes.{Appends}
-use Rattle.hotel_lists.specs.Bytes.{AppendsFront}
+use Rattle.hotel_streams.specs.Bytes.{AppendsPrefix}
 use Rattle.hotel_lists.specs.RowLines.{ListTold, LooksAt}
 use Rattle.hotel_lists.specs.declared.fault.ListFault.{ListFault}
 use Rattle.hotel_program.specs.Script.ListAnswers.{refusal_text}
@@ -33,7 +33,7 @@ returns-clause-went g c = λ s.
     let written = subst (λ (r : Result (Unit {0}) ListFault). ListEnds [] listing old mid r) c.in-Err.is
     (c.write_list.ensures.text honest) in
     when_err _ _ _ (λ p. refused_cut listing old mid new _ _ refused written looks
-    (subst (λ (t : List ℕ). AppendsFront mid new t) said p)) c.write_bytes.ensures.writes.err)
+    (subst (λ (t : List ℕ). AppendsPrefix mid new t) said p)) c.write_bytes.ensures.writes.err)
 
 pub returns-in_default-clause-went : goal.returns-in_default-clause-went
 returns-in_default-clause-went g c = λ s.

@@ -11,6 +11,7 @@ invariant_of-self g c =
     let got = c.read_within-got.result in
     let left = as_nanos c.read_within-got.new.left in
     record {
+      of = self.of;
       timed = ∥∥₁_map self.timed (read_more g.L.Caller self.stream.now _
           (record { caller = c.read_within-got.new.caller; left = as_nanos c.patience-self.result; waits = false })
           (got, c.read_within-got.new.room) (
@@ -26,6 +27,7 @@ invariant_of-self-else-is_first g c =
     let got = c.read_within-got.result in
     let left = as_nanos c.read_within-got.new.left in
     record {
+      of = self.of;
       timed = ∥∥₁_map self.timed (read_more g.L.Caller self.stream.now _
           (record { caller = c.read_within-got.new.caller; left = left; waits = self.waits })
           (got, c.read_within-got.new.room) (

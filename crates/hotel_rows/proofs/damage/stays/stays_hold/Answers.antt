@@ -11,12 +11,12 @@ returns-then-not-are_numbered c =
     ∙ ap are_numbered (c.deref-2.ensures.value ∙ c.in_ok-keys.ensures ∙ ap (map stay_key) c.deref.ensures.value) in
     sym (first_fails _ _ (stays_together c.args.stored.now) (sym order ∙ c.if-not-are_numbered.true))
 
-pub returns-then-not-fit : goal.returns-then-not-fit
-returns-then-not-fit c =
+pub returns-then-not-stays_fit : goal.returns-then-not-stays_fit
+returns-then-not-stays_fit c =
     let order = c.are_numbered.ensures
     ∙ ap are_numbered (c.deref-2.ensures.value ∙ c.in_ok-keys.ensures ∙ ap (map stay_key) c.deref.ensures.value) in
     sym (second_fails _ (stays_together c.args.stored.now) (sym order ∙ c.if-not-are_numbered.false)
-    (sym c.in_ok-fit.ensures ∙ c.if-not-fit.true))
+    (sym c.stays_fit.ensures ∙ c.if-not-stays_fit.true))
 
 pub counts_of-requires-clause-rooms : goal.counts_of-requires-clause-rooms
 counts_of-requires-clause-rooms c = rooms_told c.args.stored.now c.requires.kinds_hold c.requires.rooms_hold
@@ -26,25 +26,25 @@ counts_of-requires-clause-stays c =
     let order = c.are_numbered.ensures
     ∙ ap are_numbered (c.deref-2.ensures.value ∙ c.in_ok-keys.ensures ∙ ap (map stay_key) c.deref.ensures.value) in
     stays_told c.args.stored.now c.requires.kinds_hold c.requires.rooms_hold
-    (sym order ∙ c.if-not-are_numbered.false) (sym c.in_ok-fit.ensures ∙ c.if-not-fit.false)
+    (sym order ∙ c.if-not-are_numbered.false) (sym c.stays_fit.ensures ∙ c.if-not-stays_fit.false)
 
 pub nights_fit-requires-clause-told : goal.nights_fit-requires-clause-told
 nights_fit-requires-clause-told c =
     nights_told c.args.stored.now c.in_ok-counts.counts c.requires.kinds_hold c.requires.rooms_hold
-    c.in_ok-counts.ensures (sym c.in_ok-fit.ensures ∙ c.if-not-fit.false)
+    c.in_ok-counts.ensures (sym c.stays_fit.ensures ∙ c.if-not-stays_fit.false)
 
 pub returns-then-not-nights_fit : goal.returns-then-not-nights_fit
 returns-then-not-nights_fit c =
     let order = c.are_numbered.ensures
     ∙ ap are_numbered (c.deref-2.ensures.value ∙ c.in_ok-keys.ensures ∙ ap (map stay_key) c.deref.ensures.value) in
     sym (third_tells (stays_together c.args.stored.now) (sym order ∙ c.if-not-are_numbered.false)
-    (sym c.in_ok-fit.ensures ∙ c.if-not-fit.false)) ∙ sym c.nights_fit.ensures ∙ c.if-not-nights_fit.true
+    (sym c.stays_fit.ensures ∙ c.if-not-stays_fit.false)) ∙ sym c.nights_fit.ensures ∙ c.if-not-nights_fit.true
 
 pub returns : goal.returns
 returns c =
     let order = c.are_numbered.ensures
     ∙ ap are_numbered (c.deref-2.ensures.value ∙ c.in_ok-keys.ensures ∙ ap (map stay_key) c.deref.ensures.value) in (
       sym (third_tells (stays_together c.args.stored.now) (sym order ∙ c.if-not-are_numbered.false)
-          (sym c.in_ok-fit.ensures ∙ c.if-not-fit.false)) ∙ sym c.nights_fit.ensures ∙ c.if-not-nights_fit.false,
+          (sym c.stays_fit.ensures ∙ c.if-not-stays_fit.false)) ∙ sym c.nights_fit.ensures ∙ c.if-not-nights_fit.false,
       c.in_ok-counts.ensures,
     )

@@ -13,7 +13,7 @@ use Rattle.hotel_statements.specs.Books.{IsKept}
 use Rattle.hotel_tables.specs.Counted.{booked_by, CountsLess}
 use Rattle.hotel_tables.specs.TableBooks.{Tabled, IsCounted}
 use Rattle.hotel_tables.specs.Applied.{Applies}
-use Rattle.hotel_tables.specs.Causes.{TablesFail}
+use Rattle.hotel_tables.specs.Causes.{ChangingFails}
 use Rattle.hotel_tables.proofs.Causes.{passed, making_from}
 use Rattle.hotel_tables.proofs.KeptCounts.{counted_still, counted_back, counted_after}
 use Rattle.hotel_tables.proofs.Applied.{then_applies}
@@ -101,12 +101,12 @@ returns-in-Err-clause-applies g c =
 pub returns-in_err-ended-clause-cause : goal.returns-in_err-ended-clause-cause
 returns-in_err-ended-clause-cause g c =
     let fails : HasCleanDisk (state g.S.Store c.ended_by.new.conn) → IfErr c.from_residual.result
-    (λ fault. fault ≡ why.Store → TablesFail g.S.Store c.args.change.now c.self.inside.conn c.ended_by.new.conn) = λ
+    (λ fault. fault ≡ why.Store → ChangingFails g.S.Store c.args.change.now c.self.inside.conn c.ended_by.new.conn) = λ
     clean.
     passed _ c.from_residual.result c.from_residual.ensures inl (c.in_err-ended.ensures.cause clean) in
     subst (λ (b : Tabled g.row.S.Denot). HasCleanDisk (state g.S.Store c.ended_by.new.conn) → IfErr
     c.from_residual.result
-    (λ fault. fault ≡ why.Store → TablesFail g.S.Store c.args.change.now b.conn c.ended_by.new.conn)) c.self.view_is
+    (λ fault. fault ≡ why.Store → ChangingFails g.S.Store c.args.change.now b.conn c.ended_by.new.conn)) c.self.view_is
     fails
 
 pub returns-in-Err-clause-cause : goal.returns-in-Err-clause-cause
@@ -114,7 +114,7 @@ returns-in-Err-clause-cause g c =
     let change = c.args.change.now in
     let why_not = c.in-Err.why in
     let new = c.apply_change.new.conn in
-    let fails : HasCleanDisk (state g.S.Store new) → why_not ≡ why.Store → TablesFail g.S.Store change
+    let fails : HasCleanDisk (state g.S.Store new) → why_not ≡ why.Store → ChangingFails g.S.Store change
     c.self.inside.conn new = λ clean is.
     let before : HasCleanDisk (state g.S.Store c.ended_by.new.conn) = omega (
       arith,
@@ -123,13 +123,13 @@ returns-in-Err-clause-cause g c =
     ) in
     inr (making_from g.S.Store c.self.inside.conn c.ended_by.new.conn new change (c.in_ok-ended.ensures.asks before)
     (c.in-Err.ensures.cause clean is)) in
-    let of_self : HasCleanDisk (state g.S.Store new) → why_not ≡ why.Store → TablesFail g.S.Store change
+    let of_self : HasCleanDisk (state g.S.Store new) → why_not ≡ why.Store → ChangingFails g.S.Store change
     c.args.self.now.conn new =
-    subst (λ (b : Tabled g.row.S.Denot). HasCleanDisk (state g.S.Store new) → why_not ≡ why.Store → TablesFail
+    subst (λ (b : Tabled g.row.S.Denot). HasCleanDisk (state g.S.Store new) → why_not ≡ why.Store → ChangingFails
     g.S.Store change b.conn new) c.self.view_is fails in
     elim c.match-ended-2.branch [
       | in-Some-2 w ↦ subst (λ (b : Tabled g.row.S.Denot). HasCleanDisk (state g.S.Store b.conn) → why_not ≡
-          why.Store → TablesFail g.S.Store change c.args.self.now.conn b.conn) (sym w.self-is) of_self
+          why.Store → ChangingFails g.S.Store change c.args.self.now.conn b.conn) (sym w.self-is) of_self
       | in-None-2 w ↦ subst (λ (b : Tabled g.row.S.Denot). HasCleanDisk (state g.S.Store b.conn) → why_not ≡
-          why.Store → TablesFail g.S.Store change c.args.self.now.conn b.conn) (sym w.self-is) of_self
+          why.Store → ChangingFails g.S.Store change c.args.self.now.conn b.conn) (sym w.self-is) of_self
     ]

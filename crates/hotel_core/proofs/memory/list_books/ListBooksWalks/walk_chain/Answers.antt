@@ -1,31 +1,10 @@
-use Rattle.std.proofs.Common.{refl, rules, inl}
+use Rattle.std.proofs.Common.{rules}
 use Rattle.hotel_core.proofs.Names.{Hands, chain_on}
-use Rattle.hotel_core.proofs.OfCode.Counting.{none_more}
+use Rattle.hotel_core.proofs.OfCode.StillWalks.{still_walks}
 use Rattle.hotel_core.proofs.memory.list_books.ListBooksWalks.walk_chain.Goals as goal
 
 pub returns : goal.returns
 returns g c =
-    let rows = chain_on c.args.self.now.rows c.args.room in
-    let hands : Hands g.S.Sink.after g.S.Sink.after_stop rows c.args.sink.now c.walk_chain.new.sink
-    c.walk_chain.result = search rules in
-    record {
-      hands = (rows, hands, λ _. refl);
-      looks = record {
-        leaves = record {
-          since = record {
-            was_clean = search rules;
-            was_honest = search rules;
-            counted = search rules;
-            disk = search rules;
-          };
-          counted = λ honest why. none_more _ why _ _ c.walk_chain.ensures.sure refl;
-          vouched = search rules;
-          stays = λ _ _. inl tt;
-        };
-        rose = search rules;
-        kept = search rules;
-        cause = λ honest store. cc;
-        stop = search rules;
-        sure = search rules;
-      };
-    }
+    let hands : Hands g.S.Sink.after g.S.Sink.after_stop (chain_on c.args.self.now.rows c.args.room) c.args.sink.now
+    c.walk_chain.new.sink c.walk_chain.result = search rules in
+    still_walks _ _ _ _ _ _ _ _ _ tt tt c.walk_chain.ensures.sure hands

@@ -1,32 +1,11 @@
-use Rattle.std.proofs.Common.{refl, rules, inl}
+use Rattle.std.proofs.Common.{rules}
 use Rattle.hotel_core.proofs.Names.{Hands}
 use Rattle.hotel_model.specs.Refinement.ListsOnRows.{cards_inside_on}
-use Rattle.hotel_core.proofs.OfCode.Counting.{none_more}
+use Rattle.hotel_core.proofs.OfCode.StillWalks.{still_walks}
 use Rattle.hotel_core.proofs.memory.list_books.ListBooksWalks.walk_inside.Goals as goal
 
 pub returns : goal.returns
 returns g c =
-    let rows = cards_inside_on c.args.self.now.rows in
-    let hands : Hands g.S.Sink.after g.S.Sink.after_stop rows c.args.sink.now c.walk_inside.new.sink
-    c.walk_inside.result = search rules in
-    record {
-      hands = (rows, hands, λ _. refl);
-      looks = record {
-        leaves = record {
-          since = record {
-            was_clean = search rules;
-            was_honest = search rules;
-            counted = search rules;
-            disk = search rules;
-          };
-          counted = λ honest why. none_more _ why _ _ c.walk_inside.ensures.sure refl;
-          vouched = search rules;
-          stays = λ _ _. inl tt;
-        };
-        rose = search rules;
-        kept = search rules;
-        cause = λ honest store. cc;
-        stop = search rules;
-        sure = search rules;
-      };
-    }
+    let hands : Hands g.S.Sink.after g.S.Sink.after_stop (cards_inside_on c.args.self.now.rows) c.args.sink.now
+    c.walk_inside.new.sink c.walk_inside.result = search rules in
+    still_walks _ _ _ _ _ _ _ _ _ tt tt c.walk_inside.ensures.sure hands

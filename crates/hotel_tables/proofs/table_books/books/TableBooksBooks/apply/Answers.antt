@@ -7,7 +7,7 @@ use Rattle.hotel_model.specs.Refinement.Change.{made}
 use Rattle.hotel_model.specs.Refinement.Fits.{Fits}
 use Rattle.hotel_statements.specs.Tables.{rows_in}
 use Rattle.hotel_tables.specs.Applied.{Applies}
-use Rattle.hotel_tables.specs.Causes.{TablesFail}
+use Rattle.hotel_tables.specs.Causes.{ChangingFails}
 use Rattle.hotel_tables.proofs.CountedCalls.{change_applies, change_cause, change_counts, change_leaves, ready_change}
 use Rattle.hotel_tables.proofs.CountedCalls.{ready_fails, ready_leaves, ready_rose, rows_are, vain_change, vain_fails}
 use Rattle.hotel_tables.proofs.CountedCalls.{vain_leaves}
@@ -36,29 +36,25 @@ returns-in-Ok g c =
           (rows_in new.now.trees) (subst (λ (d : Database). OnOk c.counting.result (rows_in new.now.trees
           ≡ made c.args.change (rows_in d.trees))) was (applies.whole kept)) (on_err_weaker c.counting.result
           (λ (same : _). ap (λ (d : Database). rows_in d.trees) (same ∙ was)) (applies.same kept));
-      leaves = ready_leaves g.S.Store c.args.self.now c.ask.new.self c.counting.new.self _ asked.ready asked.no_fewer
-          asked.counted applies.crash
+      leaves = ready_leaves g.S.Store c.counting.new.self asked applies.crash
           (change_leaves g.S.Store c.args.change c.ask.new.self c.change_tables-applied.new.self c.counting.new.self _ _
           c.counting.ensures.same c.counting.ensures.conn ended.applies ended.memory ended.store
           c.counting.ensures.no_fewer c.counting.ensures.counted);
-      rose = ready_rose g.S.Store c.args.self.now c.ask.new.self c.counting.new.self _ asked.ready asked.no_fewer
-          asked.counted (told_by c.counting.result) (counts_rise (told_by c.counting.result) (failed c.ask.new.self)
-          (failed c.counting.new.self) (change_counts g.S.Store c.args.change c.ask.new.self
-          c.change_tables-applied.new.self c.counting.new.self _ _ c.counting.ensures.same c.counting.ensures.conn
-          ended.memory ended.store c.counting.ensures.counted));
+      rose = ready_rose g.S.Store c.counting.new.self asked (told_by c.counting.result) (counts_rise
+          (told_by c.counting.result) (failed c.ask.new.self) (failed c.counting.new.self)
+          (change_counts g.S.Store c.args.change c.ask.new.self c.change_tables-applied.new.self c.counting.new.self _ _
+          c.counting.ensures.same c.counting.ensures.conn ended.memory ended.store c.counting.ensures.counted));
       cause = λ honest store.
           let before : HasCleanDisk (state g.S.Store c.ask.new.self.conn) =
           omega (arith, applies.crash.clean, honest) in
-          ready_fails g.S.Store c.args.self.now c.ask.new.self c.counting.new.self _ asked.ready asked.no_fewer
-          asked.counted (TablesFail g.S.Store c.args.change) before (
+          ready_fails g.S.Store c.counting.new.self asked (ChangingFails g.S.Store c.args.change) before (
             c.ask.new.self.conn,
             inl refl,
             change_cause g.S.Store c.args.change c.ask.new.self c.change_tables-applied.new.self c.counting.new.self _ _
                 c.counting.ensures.same c.counting.ensures.conn ended.cause honest store,
           );
       stop = record {
-        crash = ready_change g.S.Store c.args.self.now c.ask.new.self c.counting.new.self _ asked.ready asked.no_fewer
-            asked.counted c.args.change applies;
+        crash = ready_change g.S.Store c.counting.new.self asked c.args.change applies;
         left = λ kept db left. g.met.S.Store.settled c.counting.new.self.conn.store db kept.1 left
             ∙ sym (ap (λ (d : Database). d.trees) (applies.books.desk kept).settled);
       };
@@ -71,13 +67,11 @@ returns g c =
     let why = c.in-Err.why in
     record {
       whole = λ kept. ap (λ (d : Database). rows_in d.trees) (asked.ready.keeps kept).1;
-      leaves = vain_leaves g.S.Store c.args.self.now c.ask.new.self why asked.ready asked.no_fewer asked.counted;
+      leaves = vain_leaves g.S.Store asked;
       rose = counts_rise (Some why) (failed c.args.self.now) (failed c.ask.new.self) asked.counted;
-      cause = vain_fails g.S.Store c.args.self.now c.ask.new.self why asked.ready asked.no_fewer asked.counted
-          (TablesFail g.S.Store c.args.change);
+      cause = vain_fails g.S.Store asked (ChangingFails g.S.Store c.args.change);
       stop = record {
-        crash = vain_change g.S.Store c.args.self.now c.ask.new.self why asked.ready asked.no_fewer asked.counted
-            c.args.change;
+        crash = vain_change g.S.Store asked c.args.change;
         left = λ kept db left. g.met.S.Store.settled c.ask.new.self.conn.store db kept.1 left
             ∙ sym (ap (λ (d : Database). d.trees) (asked.ready.books.desk kept).settled);
       };

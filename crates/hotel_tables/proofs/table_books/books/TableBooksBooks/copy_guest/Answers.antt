@@ -4,11 +4,8 @@ use Rattle.hotel_tables.proofs.table_books.books.TableBooksBooks.copy_guest.Goal
 
 pub returns : goal.returns
 returns g c =
-    asked_first g.S.Store c.args.self.now c.ask.new.self c.counting.new.self c.counting.result
-    _ c.in_ok-ask.ensures.ready c.in_ok-ask.ensures.no_fewer c.in_ok-ask.ensures.counted
-    c.counting.ensures.conn c.counting.ensures.no_fewer c.counting.ensures.counted (search rules) (search rules)
+    asked_first g.S.Store c.counting.new.self c.counting.result c.in_ok-ask.ensures c.counting.ensures.conn
+    c.counting.ensures.no_fewer c.counting.ensures.counted (search rules) (search rules)
 
 pub returns-in_err-ask : goal.returns-in_err-ask
-returns-in_err-ask g c =
-    asked_in_vain g.S.Store _ _ _ c.in_err-ask.ensures.ready c.in_err-ask.ensures.no_fewer c.in_err-ask.ensures.counted
-    _ c.from_residual.ensures
+returns-in_err-ask g c = asked_in_vain g.S.Store c.in_err-ask.ensures _ c.from_residual.ensures

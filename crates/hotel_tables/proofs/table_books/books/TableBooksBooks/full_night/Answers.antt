@@ -9,17 +9,13 @@ use Rattle.hotel_tables.proofs.table_books.books.TableBooksBooks.full_night.Goal
 
 pub returns : goal.returns
 returns g c =
-    let asked = c.in_ok-ask.ensures.ready in
-    asked_first g.S.Store c.args.self.now c.ask.new.self c.ask.new.self (Ok c.full_night.result) _ asked
-    c.in_ok-ask.ensures.no_fewer c.in_ok-ask.ensures.counted refl
-    (λ cause. omega arith) (λ cause. refl) (λ store. cc)
-    (λ kept.
+    let asked = c.in_ok-ask.ensures in
+    asked_first g.S.Store c.ask.new.self (Ok c.full_night.result) asked refl (λ cause. omega arith) (λ cause. refl)
+    (λ store. cc) (λ kept.
     night_found (state g.S.Store) _ c.ask.new.self c.self.view_is c.args.kind.now c.rooms-rooms.result c.args.arrive
     c.args.depart c.full_night.result c.self.invariant.counted c.rooms-rooms.ensures c.full_night.ensures kept
     ∙ ap (λ (d : Database). first_full_on (rows_in d.trees) c.args.kind.now c.args.arrive (c.args.depart -
-    c.args.arrive)) (asked.keeps kept).1)
+    c.args.arrive)) (asked.ready.keeps kept).1)
 
 pub returns-in_err-ask : goal.returns-in_err-ask
-returns-in_err-ask g c =
-    asked_in_vain g.S.Store _ _ _ c.in_err-ask.ensures.ready c.in_err-ask.ensures.no_fewer c.in_err-ask.ensures.counted
-    _ c.from_residual.ensures
+returns-in_err-ask g c = asked_in_vain g.S.Store c.in_err-ask.ensures _ c.from_residual.ensures

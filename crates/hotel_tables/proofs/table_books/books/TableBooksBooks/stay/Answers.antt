@@ -1,18 +1,12 @@
 use Rattle.hotel_model.specs.Refinement.Lookups.{stay_at}
 use Rattle.hotel_tables.specs.Causes.{of_stay}
-use Rattle.hotel_tables.proofs.CountedCalls.{asked_in_vain, asked_then_looked, look_up_counted}
+use Rattle.hotel_tables.proofs.CountedCalls.{asked_in_vain, looked_up}
 use Rattle.hotel_tables.proofs.table_books.books.TableBooksBooks.stay.Goals as goal
 
 pub returns : goal.returns
 returns g c =
-    let asked = c.in_ok-ask.ensures in
-    asked_then_looked g.S.Store c.args.self.now c.ask.new.self c.counting.new.self _ asked.ready asked.no_fewer
-    asked.counted (λ rows. stay_at rows c.args.party)
-    (look_up_counted g.S.Store _ _ c.self.view_is _ _ c.counting.ensures.conn c.counting.ensures.no_fewer
-    (λ clean. (asked.ready.unchanged clean).0.is_open) (λ _ _. of_stay c.args.party) c.stay-stay.ensures
-    c.counting.ensures.same c.counting.ensures.counted)
+    looked_up g.S.Store _ c.in_ok-ask.ensures (λ rows. stay_at rows c.args.party) (λ _ _. of_stay c.args.party)
+    c.self.view_is c.counting.ensures c.stay-stay.ensures
 
 pub returns-in_err-ask : goal.returns-in_err-ask
-returns-in_err-ask g c =
-    let asked = c.in_err-ask.ensures in
-    asked_in_vain g.S.Store _ _ _ asked.ready asked.no_fewer asked.counted _ c.from_residual.ensures
+returns-in_err-ask g c = asked_in_vain g.S.Store c.in_err-ask.ensures _ c.from_residual.ensures

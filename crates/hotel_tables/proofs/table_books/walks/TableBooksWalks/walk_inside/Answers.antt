@@ -1,7 +1,7 @@
 use Rattle.sqlite.specs.Held.{state}
 use Rattle.hotel_model.specs.Refinement.ListsOnRows.{cards_inside_on}
 use Rattle.hotel_tables.specs.Causes.{of_cards_inside}
-use Rattle.hotel_tables.proofs.CountedCalls.{asked_then_walked, still_tabled, walk_counted, walked_in_vain}
+use Rattle.hotel_tables.proofs.CountedCalls.{still_tabled, walked, walked_in_vain}
 use Rattle.hotel_tables.proofs.table_books.walks.TableBooksWalks.walk_inside.Goals as goal
 
 pub invariant_of-self : goal.invariant_of-self
@@ -11,15 +11,8 @@ invariant_of-self g c =
 
 pub returns : goal.returns
 returns g c =
-    let asked = c.in_ok-ask.ensures in
-    asked_then_walked g.S.Store c.args.self.now c.ask.new.self c.counting_walk.new.self _ asked.ready asked.no_fewer
-    asked.counted cards_inside_on
-    (walk_counted g.S.Store _ _ c.self.view_is _ _ c.counting_walk.ensures.conn c.counting_walk.ensures.no_fewer
-    cards_inside_on (λ clean. (asked.ready.unchanged clean).0.is_open) (λ _ _. of_cards_inside)
-    c.cards_inside-end.ensures c.counting_walk.ensures.same c.counting_walk.ensures.counted)
+    walked g.S.Store _ c.in_ok-ask.ensures cards_inside_on (λ _ _. of_cards_inside)
+    c.self.view_is c.counting_walk.ensures c.cards_inside-end.ensures
 
 pub returns-in_err-ask : goal.returns-in_err-ask
-returns-in_err-ask g c =
-    let asked = c.in_err-ask.ensures in
-    walked_in_vain g.S.Store _ _ _ asked.ready asked.no_fewer asked.counted c.from_residual.result
-    c.from_residual.ensures.1
+returns-in_err-ask g c = walked_in_vain g.S.Store c.in_err-ask.ensures _ c.from_residual.ensures.1

@@ -1,0 +1,5 @@
+pub mod Asked
+pub mod Bytes
+pub mod Calls
+pub mod Reads
+pub mod TestStreams
