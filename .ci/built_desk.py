@@ -13,6 +13,7 @@ import struct
 import subprocess
 import sys
 import tempfile
+import traceback
 
 HERE = pathlib.Path(__file__).resolve().parent
 DESK = HERE.parent / "crates" / "hotel_desk" / "out" / "hotel_desk"
@@ -292,7 +293,9 @@ def serve(program, count, *words, env=None):
     server = subprocess.Popen([program, *words, "serve", str(port), str(count)], stdout=subprocess.PIPE,
                               stderr=subprocess.PIPE, env=env)
     line = server.stdout.readline().decode()
-    assert line == f"listening on 127.0.0.1:{port}\n", f"{line!r} {server.stderr.read()!r}"
+    if line != f"listening on 127.0.0.1:{port}\n":
+        server.kill()
+        raise AssertionError(f"{line!r} {server.stderr.read()!r}")
     return server, port
 
 
@@ -317,15 +320,24 @@ def exchange(port, asked, piece):
 
 
 def wrong_cases(program, test):
-    """The cases of a test of this program that aren't as wanted."""
+    """The cases of a test of this program that aren't as wanted, behind the exception that ended it, if one did."""
+    wrong = []
     with tempfile.TemporaryDirectory(dir=ROOM) as made:
-        return [case for case in test(Desk(program, pathlib.Path(made))) if case[1] != case[2]]
+        try:
+            for case in test(Desk(program, pathlib.Path(made))):
+                wrong += [case] if case[1] != case[2] else []
+        except Exception:
+            wrong.insert(0, ("what ended it", "nothing", traceback.format_exc(limit=-1)))
+    return wrong
 
 
 def main(tests, waiting=(), at_once=1):
     """Runs these tests of the program that is named by the first word, or of the built one, so many at once, and behind
-    them those that mostly wait, side by side; and counts them."""
-    program = pathlib.Path(sys.argv[1] if len(sys.argv) > 1 else DESK).resolve()
+    them those that mostly wait, side by side; where more words follow, the tests of these names alone. Counts them."""
+    program, named = pathlib.Path(sys.argv[1] if len(sys.argv) > 1 else DESK).resolve(), sys.argv[2:]
+    if unknown := set(named) - {test.__name__ for test in (*tests, *waiting)}:
+        sys.exit(f"no tests: {' '.join(sorted(unknown))}")
+    tests, waiting = ([test for test in group if not named or test.__name__ in named] for group in (tests, waiting))
     failed = 0
     for group, number in ((tests, at_once), (waiting, max(1, len(waiting)))):
         with concurrent.futures.ThreadPoolExecutor(number) as pool:

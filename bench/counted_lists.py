@@ -8,7 +8,8 @@ times, and one asks one of the lists so many times more. The difference, by the 
 what an opening and a first call cost isn't in it.
 
 - Each of the thirteen lists over a desk of so many past stays, beside the same over a desk of none. Both are those of
-  tables_speed.py, and have the same rows to show, but for `locks`, which has more notes to look up.
+  tables_speed.py, and have the same rows to show. Over none `locks` is asked of a desk that had one stay in each room,
+  since it looks up each lock's last note.
 - `room-status` of 300 rooms, and `availability` of 14 nights of four kinds, beside `in-house` of 300 guests, over one
   desk.
 
@@ -74,17 +75,23 @@ def full_desk(counter):
     return db
 
 
+def over_past(counter, past, *names):
+    """By its first word, the name of each list, or of these; the instructions of a call of it over so many past stays,
+    and how many lines it has."""
+    lines, sizes = lists(past)
+    sizes = {name: size for name, size in sizes.items() if not names or name in names}
+    db = make_desk(counter.folder / f"{past}.db", SECOND, past, INDEXES)
+    counter.ran(db, lines)
+    counts = counter.of_calls(db, list(sizes))
+    assert sizes == {name: size for name, (_, size) in counts.items()}, counts
+    return {name.split()[0]: (name, *count) for name, count in counts.items()}
+
+
 def over_stays(counter, stays):
     """Whether each list costs little more over many past stays."""
-    counts = []
-    for past in (0, stays):
-        lines, sizes = lists(past)
-        db = make_desk(counter.folder / f"{past}.db", SECOND, past, INDEXES)
-        counter.ran(db, lines)
-        counts.append(counter.of_calls(db, list(sizes)))
-        assert sizes == {name: size for name, (_, size) in counts[-1].items()}, counts
-    for name, size in sizes.items():
-        none, many = (each[name][0] for each in counts)
+    few = over_past(counter, 0) | over_past(counter, ROOMS, "locks")
+    for first, (name, many, size) in over_past(counter, stays).items():
+        _, none, _ = few[first]
         print(f"{name} ({size - 1} rows): over no past stay {none:,.0f} instructions, over {stays} {many:,.0f}: "
               f"ratio {many / none:.2f}, wanted {MOST_OVER_STAYS} at most")
         yield many / none <= MOST_OVER_STAYS
