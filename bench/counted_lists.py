@@ -92,7 +92,8 @@ def over_stays(counter, stays):
     few = over_past(counter, 0) | over_past(counter, ROOMS, "locks")
     for first, (name, many, size) in over_past(counter, stays).items():
         _, none, _ = few[first]
-        print(f"{name} ({size - 1} rows): over no past stay {none:,.0f} instructions, over {stays} {many:,.0f}: "
+        before = ROOMS if first == "locks" else "no"
+        print(f"{name} ({size - 1} rows): over {before} past stays {none:,.0f} instructions, over {stays} {many:,.0f}: "
               f"ratio {many / none:.2f}, wanted {MOST_OVER_STAYS} at most")
         yield many / none <= MOST_OVER_STAYS
 
