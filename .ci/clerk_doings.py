@@ -91,6 +91,7 @@ def names_found(clerk, enter):
     yield "two match", (False, "Joanna"), (clerk.js("return document.querySelector('dialog').open"), clerk.focused())
     clerk.type(enter)
     yield "the one that was chosen", True, clerk.shows("Joanna", "dialog h2")
+    yield "who stays longer", True, "check the new booking in at the same room" in clerk.raw("dialog details")
     yield "where the keyboard is", "Close", clerk.focused()
     clerk.type(enter, enter, enter)
     search(clerk, "joanna", enter)
@@ -117,6 +118,23 @@ def numbers_found(clerk, enter):
         search(clerk, number, enter)
         yield number, True, clerk.shows(title, "dialog h2")
         clerk.done("Close")
+
+
+def cells(clerk):
+    """How many the picture of free rooms has."""
+    return clerk.js("return document.querySelectorAll('#grid button').length")
+
+
+def answered_again(clerk, between):
+    """Book is filled when the desk answers again."""
+    between.end()
+    clerk.go("Today")
+    clerk.go("Book")
+    yield "no answer again", True, clerk.shows("No answer", "#state")
+    yield "Book without an answer", ("", 0), (clerk.text("#free-DBL"), cells(clerk))
+    between.begin()
+    yield "Book with an answer", True, clerk.shows("full", "#free-DBL")
+    yield "its nights", 28, cells(clerk)
 
 
 def left_open(desk):
@@ -151,6 +169,7 @@ def left_open(desk):
         clerk.seen()
         time.sleep(1)
         yield "it isn't drawn anew", True, clerk.js("return document.querySelector('main h1').isMarked")
+        yield from answered_again(clerk, between)
         yield "the console", [], clerk.faults()
 
 
@@ -235,6 +254,48 @@ def long_names(desk):
             if not told:
                 yield (name, "booked"), True, clerk.shows(name, "#said")
         yield "the bookings", 3, site.ask("GET /desk/bookings")[2].count(b"DBL")
+        yield "the console", [], clerk.faults()
+
+
+def wrong_stays(desk):
+    """A stay that can't be booked is named as such, and no type is full for it. A day of another year has its year."""
+    with hotel(desk, SMALL) as (_, site), Clerk(site) as clerk:
+        clerk.go("Book")
+        for arrive, nights, told in (("2031-01-02", "3", "This day is over. Look at the year too."),
+                                     ("2031-06-01", "91", "A booking has at most 90 nights.")):
+            clerk.fill(guest="Eve", arrive=arrive, nights=nights)
+            yield told, True, clerk.shows(told, "#until")
+            yield (told, "free rooms"), True, clerk.until(lambda: clerk.text("#free-DBL") == "")
+            yield (told, "nights"), True, clerk.until(
+                lambda: not clerk.js("return document.querySelectorAll('.mine').length"))
+        clerk.fill(nights="90")
+        yield "ninety nights", True, clerk.shows("3 free", "#free-DBL")
+        clerk.book("Eve", "DBL", "2031-12-30", 90)
+        yield "booked", True, clerk.shows("Booking 4: Eve, DBL, Tue 30 Dec to Mon 29 Mar 2032.", "#said")
+        clerk.go("Guests")
+        yield "in the list", True, clerk.shows("Tue 30 Dec\tMon 29 Mar 2032", "main")
+        yield "this year", True, clerk.shows("Fri 2 May\tSat 3 May\t", "main")
+        yield "the console", [], clerk.faults()
+
+
+# Twelve rooms whose locks are to be set.
+TO_SET = b"begin 2031-05-01\nadd-kind DBL\n" + b"".join(
+    b"add-room %d DBL\nreserve DBL 2031-05-01 1 Guest %d\ncheck-in %d %d\nreissue %d\n" % (room, room, room, room, room)
+    for room in range(1, 13))
+
+
+def imports(desk):
+    """What becomes of an import is in sight, however long the list of locks to set is."""
+    with hotel(desk, TO_SET) as (_, site), Clerk(site) as clerk:
+        (site.folder / "wrong.csv").write_text("Breakfast is at seven.\n")
+        clerk.go("Locks")
+        yield "locks to set", True, clerk.until(
+            lambda: clerk.js("return document.querySelectorAll('main tbody tr').length") == 12)
+        clerk.until(lambda: clerk.find("[type=file]").send_keys(f"{site.folder}/wrong.csv") or True)
+        yield "told", True, clerk.shows("This isn't an audit file of a lock's reader.", "#imported")
+        yield "in sight", True, clerk.until(lambda: clerk.js("""
+            const box = document.getElementById('imported').getBoundingClientRect();
+            return box.top > document.querySelector('header').offsetHeight && box.bottom <= innerHeight"""))
         yield "the console", [], clerk.faults()
 
 

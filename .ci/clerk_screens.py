@@ -125,6 +125,33 @@ def screens(desk):
         yield "the console", [], clerk.faults()
 
 
+# Cells of the picture that lie over the next one.
+OVERLAPPING = """
+return [...document.querySelectorAll('#grid td + td button')].filter(one => {
+    const before = one.closest('td').previousElementSibling.querySelector('button').getBoundingClientRect();
+    return before.right > one.getBoundingClientRect().left;
+}).length"""
+
+
+def small_windows(desk):
+    """In a window of 1024 by 700, and with letters half as large again: nothing is cut off or covered."""
+    script = FEW + "reserve DBL 2031-12-30 9 Zo\u00eb M\u00fcller-L\u00fcdenscheidt von und zu Oberwinter\n".encode()
+    with hotel(desk, script) as (_, site), Clerk(site) as clerk:
+        for width, height, scale in (1024, 700, 1), (682, 466, 1.5):
+            clerk.command("Emulation.setDeviceMetricsOverride", width=width, height=height, mobile=False,
+                          deviceScaleFactor=scale)
+            for view in "Today", "Book", "Rooms", "Guests", "Locks", "Set-up":
+                clerk.go(view)
+                clerk.shows("101", "main")
+                time.sleep(0.3)
+                yield from looked_at(clerk, (width, view))
+                if view == "Book":
+                    yield (width, "the picture"), True, clerk.until(
+                        lambda: clerk.js("return document.querySelectorAll('#grid button').length") == 28)
+                    yield (width, "covered"), 0, clerk.js(OVERLAPPING)
+        yield "the console", [], clerk.faults()
+
+
 def views_in_order(clerk):
     """The names of what has the keyboard, from Tab to Tab, at the page's beginning."""
     clerk.js("document.activeElement.blur(); scrollTo(0, 0)")
@@ -141,6 +168,8 @@ def few_keys(desk):
         clerk.go("Today")
         clerk.press("Check in", "Bo")
         clerk.shows("Room")
+        yield "the room that Enter takes is outlined", "solid", clerk.js(
+            "return getComputedStyle(document.activeElement.closest('label')).outlineStyle")
         clerk.type(clerk.keys.ENTER)
         yield "a click and a key", "4", clerk.card()[0]
         clerk.type(clerk.keys.ENTER)
@@ -158,7 +187,8 @@ def few_keys(desk):
         yield "the console", [], clerk.faults()
 
 
-BUTTONS = "Done", "Copy", "Check out", "Next day", "Spare", "Set-up", "Print", "Find"
+BUTTONS = ("Done", "Copy", "Check out", "Next day", "Spare", "Set-up", "Print", "Find", "Log out", "Import", "Replace",
+           "Choose File")
 
 
 def clipboard(clerk):

@@ -94,20 +94,29 @@ export function forgetNights() {
   nightly = undefined;
 }
 
+// Asks again for the nights if they couldn't be asked.
+export const completeBooking = () => nightly ?? fillBooking();
+
 function nightsFrom(from) {
   const days = Array.from({ length: NIGHTS }, (_, at) => plus(from, at)).filter(day => day < "2099-12-31");
   return { from, days, rows: Promise.all(days.map(day => list(`/availability/${day}/1`))) };
 }
 
-// The typed nights, or none while they aren't whole.
-const typedNights = () =>
-  booking.arrive && booking.nights >= 1 && booking.nights <= LONGEST ? Number(booking.nights) : 0;
+// The typed nights, or none while they can't be booked: then no room is said to be free, and none to be taken.
+const typedNights = () => booking.arrive >= hotel.today && booking.nights >= 1 && booking.nights <= LONGEST
+  ? Number(booking.nights) : 0;
+
+// The typed stay in words, or what is wrong with it.
+const stayInWords = () => typedNights()
+  ? `${longDay(booking.arrive)} to ${longDay(plus(booking.arrive, typedNights()))}`
+  : booking.nights > LONGEST ? `A booking has at most ${LONGEST} nights.`
+  : booking.arrive && booking.arrive < hotel.today ? "This day is over. Look at the year too." : "";
 
 // Fills in how many rooms are free: of the typed nights, and of each kind on the nights of the picture.
 export async function fillBooking() {
   const mine = asked += 1, nights = typedNights();
   measureName();
-  $("until").textContent = nights ? `${longDay(booking.arrive)} to ${longDay(plus(booking.arrive, nights))}` : "";
+  $("until").textContent = stayInWords();
   if (nightly?.from !== booking.from) nightly = nightsFrom(booking.from);
   const { days, rows } = nightly;
   try {

@@ -17,7 +17,15 @@ const writer = options => {
   return day => format.format(dateOf(day));
 };
 export const longDay = writer({ weekday: "long", day: "numeric", month: "long", year: "numeric" });
-export const shortDay = writer({ weekday: "short", day: "numeric", month: "short" });
+const short = writer({ weekday: "short", day: "numeric", month: "short" });
+let year = ""; // the business day's
+
+export function knowYear(today = "") {
+  year = today.slice(0, 4);
+}
+
+// A day in short words, with its year if it isn't the business day's.
+export const shortDay = day => day.startsWith(year) ? short(day) : `${short(day)} ${day.slice(0, 4)}`;
 export const weekday = writer({ weekday: "short" });
 export const date = writer({ day: "numeric", month: "short" });
 

@@ -1,6 +1,6 @@
 // The desk as the page asks it: requests, its lists, and what they say.
 
-import { plus } from "./days.js";
+import { knowYear, plus } from "./days.js";
 
 // The desk gave no answer, or one that doesn't say whether a command was done.
 export class NoAnswer extends Error {}
@@ -106,6 +106,7 @@ function take(number, lists) {
   shown = number;
   const before = JSON.stringify(hotel);
   Object.assign(hotel, lists);
+  knowYear(hotel.today);
   return JSON.stringify(hotel) !== before;
 }
 

@@ -1,6 +1,6 @@
 // The page: which view is drawn and when, the keys, the search, and when the desk is asked anew by itself.
 
-import { book, fillBooking, forgetNights, renewBooking } from "./book.js";
+import { book, completeBooking, fillBooking, forgetNights, renewBooking } from "./book.js";
 import { shortDay } from "./days.js";
 import { hotel, isRefreshing, refresh } from "./desk.js";
 import { isShown } from "./dialog.js";
@@ -50,7 +50,10 @@ function tell(fault) {
 
 document.addEventListener("refreshed", ({ detail: { fault, isChanged } }) => {
   tell(fault);
-  if (!isChanged) return;
+  if (!isChanged) {
+    if (!fault && view() === book) completeBooking();
+    return;
+  }
   forgetNights();
   if (!isTyping()) {
     draw();

@@ -66,7 +66,7 @@ export function rooms() {
   const waiting = hotel.rooms.filter(isStuck).length;
   const size = hotel.rooms.length > 100 ? "many" : null;
   return [head("Rooms", el("p", { class: "legend" }, legend, el("span", {}, el("b", { class: "mark" }, "!"),
-    many(waiting, "lock waits", "locks wait")))),
+    many(waiting, "lock waits", "locks wait"))), printer("Print")),
   hotel.rooms.length ? [...floors].map(([floor, row]) =>
     el("section", { class: "floor", "aria-label": `Floor ${floor}` }, el("h2", {}, floor),
       el("ul", { class: size }, row.map(tile))))
@@ -133,15 +133,21 @@ export function locks() {
     el("div", { id: "imported", "aria-live": "polite" }, imported)];
 }
 
+// Shows this of the import where the clerk sees it: the list of locks to set can be long.
+function showImported(...shown) {
+  $("imported")?.replaceChildren(...shown);
+  $("imported")?.scrollIntoView({ block: "nearest" });
+}
+
 // Sends the files one after the other, and shows what was answered.
 async function importAll(files) {
   imported = [];
   for (const file of files) {
-    $("imported")?.replaceChildren(...imported, hint(`${file.name} is being imported.`));
+    showImported(...imported, hint(`${file.name} is being imported.`));
     imported.push(card(file.name, await importOne(file)));
   }
   await refresh();
-  $("imported")?.replaceChildren(...imported);
+  showImported(...imported);
 }
 
 // The text of a file. Its folder may be gone.

@@ -185,7 +185,7 @@ export const bookingActs = (booking, props) => [isDue(booking) ? checkInButton(b
 // What the desk can't do, and what is done in its place.
 const OTHERWISE = {
   inHouse: [["To stay longer", "Book the further nights. On the first of them check the guest out, check the new "
-    + "booking in, and write its card. Book early: the nights after a booked stay count as free."],
+    + "booking in at the same room, and write its card. Book early: the nights after a booked stay count as free."],
   ["Another type of room", "Book it from today, check the guest out, and check the new booking in."]],
   booked: [["Another name, day, length or type", "Book anew, then cancel this booking."],
     ["To come early", "Book the nights from today too."]],
@@ -244,7 +244,8 @@ export const showRoom = room => showWhenReady(roomLists(room), ([chain, notes]) 
 
 export const refit = room => askOnce(`Replace the lock of ${room}`,
   [p("First make sure of these:"), el("ul", {}, ["The old lock's file is imported, if it can be read.",
-    "Nobody is in the room.", "The new lock is at hand."].map(text => el("li", {}, text))), p("This can't be undone.")],
+    "Nobody is in the room.", "The new lock is at hand, or the old one can count from 1 again."].map(text =>
+    el("li", {}, text))), p("This can't be undone.")],
   "Replace the lock", () => run(commands.refit(room), answer => {
     const [, fit, fresh] = /^lock (\d+) code (\w+)$/.exec(answer);
     show(`New lock of ${room}`,

@@ -30,16 +30,16 @@ const REFUSALS = {
   21: ["The lock has reported something else with this count before.",
     `If the lock was replaced, the reader must write its new number. ${RESTORED}`],
   22: ["Earlier lines of this lock are missing.",
-    "Read the lock again from its line {} on, and import that file. If that line is lost or refused, replace "
-      + "the lock's number (Locks)."],
+    "Read the lock again from its line {} on, and import that file. If that line is lost or refused, give "
+      + "the lock a new number: “Replace a lock” (Locks)."],
   23: ["The desk has issued no card with this number.", RESTORED],
   24: ["The card has other codes than this line says.", RESTORED],
   25: ["As far as the desk knows, the lock doesn't open to this card.",
     "A shut-out card may have been tried: then there is nothing to do. If it did open, import the lock's "
       + "earlier lines first."],
   26: ["As far as the desk knows, this card isn't inside.",
-    "Import the lock's earlier lines first. If the lock was replaced while somebody was in the room, replace "
-      + "its number again (Locks)."],
+    "Import the lock's earlier lines first. If the lock was replaced while somebody was in the room, choose "
+      + "“Replace a lock” once more (Locks)."],
   27: ["As far as the desk knows, the lock held another code.", `Import the lock's earlier lines first. ${RESTORED}`],
   28: ["The lock was set to a code that it doesn't wait for.",
     "Set the lock to the code in the column “Set it to” (Locks), and import its file again."],
