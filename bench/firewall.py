@@ -35,7 +35,7 @@ RULES = {
 
 def can_connect(account, name, port):
     """Whether this account gets an answer from the desk by this name."""
-    words = ["curl", "-s", "-f", "-m", "10", "-o", "/dev/null", f"http://{name}:{port}/in-house"]
+    words = ["curl", "-sf", "-m", "10", "-H", "Host: localhost", "-o", "/dev/null", f"http://{name}:{port}/in-house"]
     return subprocess.run(words, user=account, extra_groups=[], check=False).returncode == 0
 
 
