@@ -25,11 +25,12 @@
 //!   nothing can spoil. `failures`: how many calls answered Memory, and how many Store; `disk_failures`: 0 without a
 //!   disk. `never_fails`: ⊥, unless look-ups can't fail. `leaves_no_more` and `look_up_fails`: what a stop leaves, and
 //!   why the store failed; `Unit {0}` where nothing is known. The laws are `never_store`, `clean_honest`, `kept_refl`,
-//!   `kept_trans` and `kept_issued`.
+//!   `kept_trans`, `no_more_refl`, `no_more_trans` and `kept_issued`.
 //! - `Issued`: `is_issued`. A call that answers a fault has counted it, and has changed no row.
-//! - `Books`. Its ghosts are `rows`, and for changes `leaves_change` and `change_fails`; its laws are `kept_rows` and
-//!   `issued_are`. To be written are `day`, `kind`, `room`, `code_place`, `code_at`, `stay`, `stays_of_kind`, `card`,
-//!   `inside`, `note`, `fit`, `rooms_of_kind`, `next_numbers`, and `apply`, which makes all of a change or nothing.
+//! - `Books`. Its ghosts are `rows`, and for changes `leaves_change` and `change_fails`; its laws are `kept_rows`,
+//!   `change_after` and `issued_are`. To be written are `day`, `kind`, `room`, `code_place`, `code_at`, `stay`,
+//!   `stays_of_kind`, `card`, `inside`, `note`, `fit`, `rooms_of_kind`, `next_numbers`, and `apply`, which makes all of
+//!   a change or nothing.
 //!   `is_inside` and `has_inside` have bodies, over `inside`. Three more are to be written, each for a reason:
 //!   - `full_night` finds the first full night, and takes no memory;
 //!   - `copy_guest` copies a guest's name: books alone can count that memory for it ran out;

@@ -3,6 +3,7 @@ ghost use Rattle.std.specs.Prelude.{◌≡◌, ◌-◌, Option, true, false, is_
 ghost use Rattle.hotel_model.specs.{Words.is_one_of, Rows.Rows, Rows.has_kind, Rows.fit_at, Rows.rooms_of_kind};
 ghost use Rattle.hotel_model.specs.Guests.{are_none};
 ghost use Rattle.hotel_core.specs.Books.{Reads.LooksUp, Reads.is_any, Reads.placed_row, Changes.Makes};
+ghost use Rattle.hotel_core.specs.Books.Changes.{ChangesAfter};
 ghost use Rattle.hotel_model.specs.Refinement.Lookups.{room_at, codes_in, code_place, code_at, stay_at, stays_of_kind};
 ghost use Rattle.hotel_model.specs.Refinement.Lookups.{card_at, inside_at, note_at, first_full_on};
 ghost use Rattle.hotel_model.specs.Refinement.Lookups.{number_after};
@@ -143,6 +144,9 @@ pub trait Books: Issued {
 
     // What a look-up leaves has the same rows, and the issued codes are those of the rows.
     ghost kept_rows: { (a b : Self) → Self.is_kept a b → rows b ≡ rows a };
+
+    // A change after what a look-up left: a stop leaves what the books say of the change made before it.
+    ghost change_after: { ChangesAfter Self.Kept rows leaves_change };
 
     ghost issued_are: { (books : Self) → Self.issued books ≡ codes_in (rows books) };
 }

@@ -15,8 +15,9 @@ use httparse::spans::HeaderSpan;
 pub enum Origins {
     /// All.
     Any,
-    /// Those that no web page sent: without an `Origin`, which browsers add to a page's POST (Fetch, "append a request
-    /// `Origin` header"), and to no `Host` but `localhost` and `127.0.0.1`, with a port or without.
+    /// Those that don't show a web page: without an `Origin`, which browsers add to a page's POST (Fetch, "append a
+    /// request `Origin` header"), and to no `Host` but `localhost` and `127.0.0.1`, with a port or without. So a page's
+    /// GET to these names is among them.
     Local,
 }
 

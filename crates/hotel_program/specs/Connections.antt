@@ -169,14 +169,14 @@ abbrev pub faults_at : Result (Unit {0}) Fault → List Fault
 faults_at (Ok done) = []
 faults_at (Err fault) = fault ∷ []
 
--- A connection was asked for, and ended so; and then its fault was reported, if there was one.
+-- A connection was asked for, and ended so; and its fault was reported, if there was one.
 abbrev pub ConnectsAndTells : {B R F : Type 0} → (v : Sockets) → KeptOf B → (B → Rows) → (R → Stream)
     → (F → Fault → F → Type 0) → (v.Listener × (B × R)) × F → ConnectionEnd → (v.Listener × (B × R)) × F → Type 0
 ConnectsAndTells v K rows words tells old end new =
     Connects v K rows words old.0 end new.0 × ReportsAll tells old.1 (faults_at (connection_end end)) new.1
 
--- So many connections were asked for, one after the other, and the fault of each was reported before the next. What
--- came of their requests came over the books as over their histories.
+-- So many connections were asked for, and their faults were reported, each in its order. What came of their requests
+-- came over the books as over their histories.
 pub record ServesEach {B R F : Type 0} (v : Sockets) (K : KeptOf B) (rows : B → Rows) (words : R → Stream)
     (tells : F → Fault → F → Type 0) (count : ℕ) (listener : v.Listener) (old : B × R) (faults : F) (new : B × R)
     (faults' : F) : Type 0 where

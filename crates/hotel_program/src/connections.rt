@@ -42,7 +42,7 @@ fn fault_of(why: ServeFault) -> Fault
     }
 }
 
-/// What the program's server answers: what no web page sent.
+/// What the program's server answers: what doesn't show a web page.
 fn local(routes: &Routes) -> Service<'_>
     ensures { result.origins ≡ Local }
 {
@@ -59,7 +59,7 @@ struct Server<'r> {
     routes: Option<&'r Routes>,
 }
 
-/// Answers the request of a connection, if no web page sent it, by the table of routes that was made for all
+/// Answers the request of a connection, if it doesn't show a web page, by the table of routes that was made for all
 /// connections. Where it wasn't made, the request makes its own. The reads and writes are added to the connection's.
 fn serve_stream<I: Read, W: Write, B: Walks, R: Rng>(
     server: &Server<'_>,
@@ -215,7 +215,7 @@ fn serve_and_tell<L: Listener, B: Walks, R: Rng, F: FaultSink>(
     }
 }
 
-/// Takes so many connections, one after the other, and answers the request of each; what a web page sends is refused
+/// Takes so many connections, one after the other, and answers the request of each; what shows a web page is refused
 /// (`Origins::Local`). A connection that fails is reported as a fault, and then the next one is taken; behind one that
 /// couldn't be taken, after a tenth of a second. A connection has a second for its first byte, ten in all for its
 /// request's other bytes and ten for its answer's, whatever pieces come in; then its peer is given up. The table of

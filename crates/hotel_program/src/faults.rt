@@ -35,7 +35,7 @@ pub enum Fault {
     Stopped { answered: usize, by: LookFault },
     /// The file of a database gave no books.
     Books(FileFault),
-    /// The seed has fewer than 32 bytes.
+    /// The seed's file couldn't be opened, or has fewer than 32 bytes.
     Seed,
     /// An audit file couldn't be opened or read, or the seed's couldn't be read.
     File,

@@ -123,9 +123,9 @@ keeps_then : (ts : List Table) (a b c : Trees) → KeepsRows ts a b → KeepsRow
 keeps_then [] a b c one two = tt
 keeps_then (t ∷ ts) a b c one two = (two.0 ∙ one.0, keeps_then ts a b c one.1 two.1)
 
-keeps_front : (ts more : List Table) (a b : Trees) → KeepsRows (ts ++ more) a b → KeepsRows ts a b
-keeps_front [] more a b keeps = tt
-keeps_front (t ∷ ts) more a b keeps = (keeps.0, keeps_front ts more a b keeps.1)
+keeps_first : (ts more : List Table) (a b : Trees) → KeepsRows (ts ++ more) a b → KeepsRows ts a b
+keeps_first [] more a b keeps = tt
+keeps_first (t ∷ ts) more a b keeps = (keeps.0, keeps_first ts more a b keeps.1)
 
 keeps_last : (ts : List Table) (t : Table) (a b : Trees) → KeepsRows (ts ++ t ∷ []) a b → b t.tree ≡ a t.tree
 keeps_last [] t a b keeps = keeps.0
@@ -249,12 +249,12 @@ the_fits = at_tree fit_tree fit_table
 -- the table of the fits and the indexes, of eight tables with rows
 pub all_new : (a b c : State) → HasTable first_schema fit_table a b → HasIndexes INDEXES b c → HasNew a c
 all_new a b c one more =
-    let front = keeps_front first_schema.tables (the_fits ∷ []) b.now.trees c.now.trees more.rows in
+    let first = keeps_first first_schema.tables (the_fits ∷ []) b.now.trees c.now.trees more.rows in
     record {
       inside = more.inside;
       was_open = one.was_open;
       schema_is = more.schema_is;
-      rows = keeps_then first_schema.tables a.now.trees b.now.trees c.now.trees one.rows front;
+      rows = keeps_then first_schema.tables a.now.trees b.now.trees c.now.trees one.rows first;
       empty = keeps_last first_schema.tables the_fits b.now.trees c.now.trees more.rows ∙ one.empty;
     }
 

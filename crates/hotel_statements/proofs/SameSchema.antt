@@ -191,9 +191,9 @@ index_is a b e =
     }
 
 -- a schema that the test takes for another's prefix is that
-pub front_is : (tables indexes : ℕ) (a b : Schema) → spec.same_front tables indexes a b ≡ true
+pub prefix_is : (tables indexes : ℕ) (a b : Schema) → spec.same_prefix tables indexes a b ≡ true
     → a ≡ record b { tables = take tables b.tables; indexes = take indexes b.indexes }
-front_is tables indexes a b e =
+prefix_is tables indexes a b e =
     let p3 = and_true _ _ e in
     let p2 = and_true _ _ p3.0 in
     let p1 = and_true _ _ p2.0 in
@@ -203,16 +203,16 @@ front_is tables indexes a b e =
       views = (none_of a.views p2.1 ∙ sym (none_of b.views p3.1)) i;
     }
 
--- ---- the first version, which is the second's front
+-- ---- the first version, which is the second's prefix
 
-pub first_is_front : spec.same_front 8 5 first_schema desk_schema ≡ true
+pub first_is_prefix : spec.same_prefix 8 5 first_schema desk_schema ≡ true
 unfolding digits
-first_is_front = refl
+first_is_prefix = refl
 
-pub front_is_first : record desk_schema { tables = take 8 desk_schema.tables; indexes = take 5 desk_schema.indexes }
+pub prefix_is_first : record desk_schema { tables = take 8 desk_schema.tables; indexes = take 5 desk_schema.indexes }
     ≡ first_schema
 unfolding digits
-front_is_first = refl
+prefix_is_first = refl
 
 pub count_tables : length desk_schema.tables ≡ 9
 count_tables = refl
@@ -235,26 +235,26 @@ count_with (suc (suc (suc count))) =
     ap (λ (s : Schema). length s.indexes) (with_many (suc (suc (suc count))) (omega arith)) in
     (omega (arith, is), omega (arith, is))
 
-pub with_is_front : (count : ℕ)
-    → spec.same_front 9 (length (with_indexes count).indexes) (with_indexes count) desk_schema ≡ true
+pub with_is_prefix : (count : ℕ)
+    → spec.same_prefix 9 (length (with_indexes count).indexes) (with_indexes count) desk_schema ≡ true
 unfolding digits
-with_is_front zero = refl
-with_is_front (suc zero) = refl
-with_is_front (suc (suc zero)) = refl
-with_is_front (suc (suc (suc count))) =
-    let all : spec.same_front 9 (length desk_schema.indexes) desk_schema desk_schema ≡ true = refl in
-    subst (λ (s : Schema). spec.same_front 9 (length s.indexes) s desk_schema ≡ true)
+with_is_prefix zero = refl
+with_is_prefix (suc zero) = refl
+with_is_prefix (suc (suc zero)) = refl
+with_is_prefix (suc (suc (suc count))) =
+    let all : spec.same_prefix 9 (length desk_schema.indexes) desk_schema desk_schema ≡ true = refl in
+    subst (λ (s : Schema). spec.same_prefix 9 (length s.indexes) s desk_schema ≡ true)
     (sym (with_many (suc (suc (suc count))) (omega arith))) all
 
-pub front_is_with : (count : ℕ) → count ≤ INDEXES
+pub prefix_is_with : (count : ℕ) → count ≤ INDEXES
     → record desk_schema { tables = take 9 desk_schema.tables; indexes = take (7 + count) desk_schema.indexes }
     ≡ with_indexes count
 unfolding digits
-front_is_with zero low = refl
-front_is_with (suc zero) low = refl
-front_is_with (suc (suc zero)) low = refl
-front_is_with (suc (suc (suc zero))) low = refl
-front_is_with (suc (suc (suc (suc count)))) low = absurd (omega (arith, low))
+prefix_is_with zero low = refl
+prefix_is_with (suc zero) low = refl
+prefix_is_with (suc (suc zero)) low = refl
+prefix_is_with (suc (suc (suc zero))) low = refl
+prefix_is_with (suc (suc (suc (suc count)))) low = absurd (omega (arith, low))
 
 -- ---- the layouts
 

@@ -38,7 +38,7 @@ use Rattle.hotel_statements.proofs.Answers.{fused}
 use Rattle.hotel_statements.proofs.Transaction.{Begins, LeavesDesk, Committed, Finishes, start_mid, finished}
 use Rattle.hotel_statements.proofs.Transaction.{start_kept, or_committed}
 use Rattle.hotel_statements.proofs.Risen.{rooms_rise, keys_rise}
-use Rattle.hotel_statements.proofs.Made.Desk.{same_tables, same_bare, same_desk, front_of}
+use Rattle.hotel_statements.proofs.Made.Desk.{same_tables, same_bare, same_desk, first_of_same}
 
 -- ---- statements, one after the other
 
@@ -196,7 +196,7 @@ indexes_made rooms {a} {b} count did before =
         committed = has.committed;
         mid = record { schema = has.schema_is; inside = has.inside; tables = desk.0 };
         sound = has.sound;
-        bare_rows_are = same_bare a.now.trees b.now.trees (front_of a.now.trees b.now.trees has.rows).0;
+        bare_rows_are = same_bare a.now.trees b.now.trees (first_of_same a.now.trees b.now.trees has.rows).0;
       },
       λ _. desk.1,
     )

@@ -48,7 +48,7 @@ clean_or_not s = go s.is_clean
     go true = inl refl
     go false = inr (λ e. cc)
 
--- the rows after some that are a front where the disk returned what was written
+-- the rows after some that are a prefix where the disk returned what was written
 pub chosen : {A : Type 0} (s : State) (taken rows : List A)
     → (HasCleanDisk s → (rest : List A) × (rows ≡ taken ++ rest))
     → (rest : List A) × (HasCleanDisk s → taken ++ rest ≡ rows)
@@ -90,7 +90,7 @@ not_all P (r ∷ given) row tail unread all =
 
 module _ {A : Type 0} (of : Row → A) (text : List ℕ) (params : Row) (old : State) (rows : List A)
     (says : SaysRows of text params old rows) where
-  -- those so far are a front
+  -- those so far are a prefix
   pub begins : (s : State) → IsBooks s → IsKept s → IsKept old → s.now ≡ old.now
       → (given : List Row) → Begins text params s given
       → (rest : List A) × (rows ≡ map of given ++ rest)
@@ -178,7 +178,7 @@ module _ {S A K : Type 0} (g : Ghosts S) (of : Row → A) (IsReadable : Row → 
       crash = all_crash text params (state g old) (state g new) books asks mode survives;
     }
 
-  -- the rows that were taken are a front
+  -- the rows that were taken are a prefix
   prefix : (rows : List A) → SaysRows of text params (state g old) rows
       → (mid : Held S) (now : K) (count : ℕ) (so_far : Walking mid now count)
       → HasCleanDisk (state g mid) → (rest : List A) × (rows ≡ so_far.taken ++ rest)

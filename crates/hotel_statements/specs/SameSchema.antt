@@ -114,7 +114,7 @@ same_index a b =
     && a.order.digits == b.order.digits && same_flag a.is_unique b.is_unique
 
 -- the one is the other without its tables and indexes past the first so many
-abbrev pub same_front : ℕ → ℕ → Schema → Schema → Bool
-same_front tables indexes a b =
+abbrev pub same_prefix : ℕ → ℕ → Schema → Schema → Bool
+same_prefix tables indexes a b =
     same_all same_table a.tables (take tables b.tables) && same_all same_index a.indexes (take indexes b.indexes)
     && length a.views == 0 && length b.views == 0

@@ -289,10 +289,10 @@ impl Part for Index {
 }
 
 /// Whether a schema is another without its tables and indexes past the first so many, and has no view.
-pub fn same_front(a: &Schema, b: &Schema, tables: usize, indexes: usize) -> bool
+pub fn same_prefix(a: &Schema, b: &Schema, tables: usize, indexes: usize) -> bool
     requires tables { tables ≤ length b.now.tables }
     requires indexes { indexes ≤ length b.now.indexes }
-    ensures { result ≡ spec.same_front tables indexes a.now b.now }
+    ensures { result ≡ spec.same_prefix tables indexes a.now b.now }
 {
     same_parts(a.tables.as_slice(), &b.tables.as_slice()[..tables])
         && same_parts(a.indexes.as_slice(), &b.indexes.as_slice()[..indexes])

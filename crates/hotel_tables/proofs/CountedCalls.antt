@@ -1,7 +1,7 @@
 -- A look-up or a walk of the tables whose answer was counted, as one of the books.
 use Rattle.std.proofs.Common.{ℕ, ◌≡◌, ◌≤◌, ◌<◌, ◌⊎◌, inl, inr, Bool, true, false, List, [], Result, Ok, Err, Option}
 use Rattle.std.proofs.Common.{Some, None}
-use Rattle.std.proofs.Common.{◌+◌, nat_le, refl, ap, sym, ◌∙◌, subst, rules, arith}
+use Rattle.std.proofs.Common.{◌+◌, nat_le, refl, ap, sym, ◌∙◌, subst, rules, arith, le_refl}
 use Rattle.std.specs.Prelude.{IfErr, IfOk, OnErr, OnOk, IsErrAnd, IsTrue}
 use Rattle.std.specs.Result.{IsErr, IsErrAnd}
 use Rattle.std.proofs.lemmas.Bool.{false≢true}
@@ -86,6 +86,16 @@ over_tables g = record {
   clean_honest = λ a kept. kept.0;
   kept_refl = λ a. refl;
   kept_trans = λ a b c h k. k ∙ h;
+  no_more_refl = λ a. record {
+    clean = le_refl _;
+    shield = λ h. h;
+    counts = le_refl _;
+    limit = refl;
+    closes = λ clean is_open. inl is_open;
+    crash = λ clean db left. inl left;
+  };
+  no_more_trans = λ a b c first later. survives_then (state g a.conn) (state g b.conn) (state g c.conn)
+      (λ _. ⊥) (λ _. ⊥) (λ _. ⊥) (λ clean db no. no) (λ clean db no. no) first later;
   kept_issued = λ a b h. ap codes_in h;
 }
 

@@ -1,5 +1,6 @@
 -- The definitions of this crate.
 pub mod Applied
+pub mod StopLaws
 pub mod Counted
 pub mod TableBooks
 pub mod Causes

@@ -8,7 +8,7 @@ ghost use Rattle.hotel_tables.specs.Opening.{IsLaidOut, IsNoDesk};
 
 use crate::create::make_desk;
 use hotel_rows::OpenFault;
-use hotel_statements::same_schema::same_front;
+use hotel_statements::same_schema::same_prefix;
 use hotel_statements::{INDEXES, Layout};
 use keycard_rules::Memory;
 use sqlite::{Alter, Connection, MemStore};
@@ -44,7 +44,7 @@ fn has_first_tables_of<S: Alter>(conn: &Connection<S>, desk: &Connection<MemStor
     ensures sound { result ≡ true → (state S.Store conn.now).now.schema ≡ first_schema }
     ensures full { (state S.Store conn.now).now.schema ≡ first_schema → result ≡ true }
 {
-    same_front(conn.schema(), desk.schema(), FIRST_TABLES, FIRST_INDEXES)
+    same_prefix(conn.schema(), desk.schema(), FIRST_TABLES, FIRST_INDEXES)
 }
 
 /// How many of our indexes a database has, where it has the nine tables of a desk, which is in memory, and no other
@@ -59,7 +59,7 @@ fn our_indexes<S: Alter>(conn: &Connection<S>, desk: &Connection<MemStore>) -> O
     if indexes < KEYS || indexes > KEYS + INDEXES {
         return None;
     }
-    if same_front(schema, desk.schema(), TABLES, indexes) {
+    if same_prefix(schema, desk.schema(), TABLES, indexes) {
         Some(indexes - KEYS)
     } else {
         None

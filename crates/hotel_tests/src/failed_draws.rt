@@ -40,6 +40,10 @@ impl Kept for FailingCodes {
 
     ghost kept_trans = { λ a b c first second. tt };
 
+    ghost no_more_refl = { λ a. tt };
+
+    ghost no_more_trans = { λ a b c first second. tt };
+
     ghost kept_issued = { λ a b kept. refl };
 }
 

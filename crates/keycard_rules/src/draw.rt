@@ -40,6 +40,7 @@ pub fn draw_fresh<R: Rng, I: Issued>(source: &mut R, issued: &mut I) -> Result<C
     ensures kept { I.is_clean issued.new → I.is_kept issued.old issued.new }
     ensures leaves { Leaves I.Kept issued.old (fault_in result) issued.new }
     ensures rose { Rose I.Kept issued.old (fault_in result) issued.new }
+    ensures stop { I.leaves_no_more issued.old issued.new }
     ensures sure { I.never_fails → fault_in result ≡ None }
 {
     for _ in 0..MOST_WORDS {

@@ -44,5 +44,9 @@ pub trait Kept {
 
     ghost kept_trans: { (a b c : Self) → is_kept a b → is_kept b c → is_kept a c };
 
+    ghost no_more_refl: { (a : Self) → leaves_no_more a a };
+
+    ghost no_more_trans: { (a b c : Self) → leaves_no_more a b → leaves_no_more b c → leaves_no_more a c };
+
     ghost kept_issued: { (a b : Self) → is_kept a b → issued b ≡ issued a };
 }

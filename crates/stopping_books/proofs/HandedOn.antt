@@ -28,6 +28,8 @@ of_stopping = record {
   clean_honest = λ a clean. clean;
   kept_refl = λ a. refl;
   kept_trans = λ a b c h k. k ∙ h;
+  no_more_refl = λ a. tt;
+  no_more_trans = λ a b c h k. tt;
   kept_issued = λ a b h. ap (λ rows. codes_in rows) h;
 }
 

@@ -155,6 +155,10 @@ impl Kept for StoppingBooks {
 
     ghost kept_trans = { λ a b c h k. k ∙ h };
 
+    ghost no_more_refl = { λ a. tt };
+
+    ghost no_more_trans = { λ a b c h k. tt };
+
     ghost kept_issued = { λ a b h. ap (λ rows. codes_in rows) h };
 }
 
@@ -301,6 +305,8 @@ impl Books for StoppingBooks {
     }
 
     ghost kept_rows = { λ a b h. h };
+
+    ghost change_after = { λ change a b c was same before stop. tt };
 
     ghost issued_are = { λ a. refl };
 }

@@ -32,6 +32,7 @@ module _ {S : Type 0} {K : KeptOf S} {B : BooksOf S} {checks : Rows → List (Op
     answer = λ clean k. let a = f.answer clean k in h a.0 ∙ ap Some (sym a.1);
     same = f.same;
     leaves = leaves_unfound f;
+    stop = f.stop;
   })
 
   -- what is wanted is there, and the checks refuse it
@@ -43,6 +44,7 @@ module _ {S : Type 0} {K : KeptOf S} {B : BooksOf S} {checks : Rows → List (Op
     answer = λ clean _. h (f.answer clean);
     same = f.same;
     leaves = subst (λ told. Leaves K old told new) (sym (untold (Refused _) k)) (leaves_found f);
+    stop = f.stop;
   }
 
   -- what is wanted is there, and the checks pass
@@ -54,6 +56,7 @@ module _ {S : Type 0} {K : KeptOf S} {B : BooksOf S} {checks : Rows → List (Op
     answer = λ clean. h (f.answer clean);
     same = f.same;
     leaves = leaves_found f;
+    stop = f.stop;
   }
 
   -- memory or the store failed
@@ -66,13 +69,14 @@ module _ {S : Type 0} {K : KeptOf S} {B : BooksOf S} {checks : Rows → List (Op
     vouched = λ honest n. f.leaves.vouched honest (untold (Refused _) n);
     stays = f.leaves.stays;
     counted = λ honest w. f.leaves.counted honest;
+    stop = f.stop;
   }
 
   module _ {v : Bool} {facts : Rows → Type 0} {start : S} where
     -- the checks pass
     pub then_passed : {done : Unit {0}} → SoFar K B v facts start old → FindsChecked K B checks old new (Ok done)
         → SoFar K B true (λ rs. facts rs × (first_refusal (checks rs) ≡ None)) start new
-    then_passed s f = then_asked s f.same f.leaves (λ before clean. (
+    then_passed s f = then_asked s f.same f.leaves f.stop (λ before clean. (
       s.facts_hold before,
       ap (λ rs. first_refusal (checks rs)) (sym (s.same before)) ∙ f.answer clean,
     ))
@@ -83,7 +87,7 @@ module _ {S : Type 0} {K : KeptOf S} {B : BooksOf S} {checks : Rows → List (Op
         → SoFar K B true (λ rs. facts rs × (first_refusal (checks rs) ≡ Some e)) start new
     then_refused s f k =
         let l = subst (λ told. Leaves K old told new) (untold (Refused _) k) f.leaves in
-        then_asked s f.same l (λ before clean. (
+        then_asked s f.same l f.stop (λ before clean. (
           s.facts_hold before,
           ap (λ rs. first_refusal (checks rs)) (sym (s.same before)) ∙ f.answer clean k,
         ))

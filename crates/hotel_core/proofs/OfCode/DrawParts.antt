@@ -1,6 +1,6 @@
 -- A draw as a part of a step.
-use Rattle.std.proofs.Common.{ℕ, ◌≡◌, Bool, true, false, Some, None, Result, Ok, Err, IsErrAnd, List, refl, ap, sym}
-use Rattle.std.proofs.Common.{◌∙◌, arith, subst, option_map, inr}
+use Rattle.std.proofs.Common.{ℕ, ◌≡◌, Bool, true, false, Option, Some, None, Result, Ok, Err, IsErrAnd, List, refl, ap}
+use Rattle.std.proofs.Common.{sym, ◌∙◌, arith, subst, option_map, inl, inr}
 use Rattle.hotel_core.proofs.Names.{false≢true, Stream, since_then, Draw, Draws, fault_in}
 use Rattle.keycard_rules.proofs.Sinces.{stays_then}
 use Rattle.keycard_rules.specs.Leaves.{Leaves}
@@ -12,7 +12,8 @@ use Rattle.hotel_core.proofs.Names.{Ghosts as BooksOf}
 use Rattle.keycard_rules.specs.Draw.{MovedAtMost}
 use Rattle.keycard_rules.specs.{declared.draw.DrawFault.DrawFault, declared.kept.Kept.Ghosts as KeptOf}
 use Rattle.keycard_rules.specs.declared.draw.DrawFault.TheVariants as fault
-use Rattle.hotel_core.proofs.OfCode.Parts.{SoFar, passed_on, stayed}
+use Rattle.hotel_core.specs.{Books.Changes.ChangesAfter, Refinement.StepOnRows.IsMadeWith}
+use Rattle.hotel_core.proofs.OfCode.Parts.{SoFar, passed_on, stayed, stops_from}
 use Rattle.hotel_core.proofs.OfCode.Counting.{untold}
 use Rattle.keycard_rules.proofs.CallsTogether.{counted_none, counted_told}
 
@@ -45,17 +46,18 @@ pub draws : {S : Type 0} {K : KeptOf S} {B : BooksOf S} {is_kept : S → S → T
     → ((a b : S) → is_kept a b → B.rows b ≡ B.rows a) → ((a : S) → issued a ≡ codes_in (B.rows a))
     → (K.is_honest new → Draws (issued old) source found rest)
     → (K.is_clean new → is_kept old new)
-    → Leaves K old (fault_in found) new
+    → Leaves K old (fault_in found) new → K.leaves_no_more old new
     → (K.never_fails → fault_in found ≡ None)
     → DrawsCode K B old new source rest result
 draws {K = K} {B = B} {old = old} {new = new} {source = source} {rest = rest} found result e kept_rows issued_are d k
-    l sure = subst (λ r. DrawsCode K B old new source rest r) (sym e) (record {
+    l stop sure = subst (λ r. DrawsCode K B old new source rest r) (sym e) (record {
       answer = λ clean. drew found _ source rest
           (subst (λ codes. Draws codes source found rest) (issued_are old) (d (K.clean_honest new clean)));
       same = λ clean. kept_rows old new (k clean);
       moved = λ honest k. failed_moves found _ source rest k
           (subst (λ codes. Draws codes source found rest) (issued_are old) (d honest));
       leaves = subst (λ told. Leaves K old told new) (told_by_draw found) l;
+      stop = stop;
       sure = λ n. sym (told_by_draw found) ∙ sure n;
     })
 
@@ -112,6 +114,7 @@ undrawn {K = K} {B = B} {start = start} {old = old} {new = new} {source = source
           );
       counted = λ honest w why. counted_told (failure_in (Refused e)) why _ _ _
           (s.counted (d.leaves.since.was_honest honest) why) (d.leaves.counted honest why);
+      stop = inl (K.no_more_trans _ _ _ s.stop d.stop);
     })
 
 made_after : (b : Bool) (o : Outcome Change) (draw : Draw) (code : ℕ) (reply_with : ℕ → Reply)
@@ -130,17 +133,30 @@ made_after false o draw code reply_with change_with rows mid later source rest a
   moved ∙ ap (λ x. past x.examined source) (sym e),
 )
 
+-- where a code was drawn, the step says the change that is made with it
+drawn_made : (change : Change) (o : Outcome Change) (draw : Draw) (code : ℕ) (reply_with : ℕ → Reply)
+    (change_with : ℕ → Change)
+    → o ≡ by_draw draw reply_with change_with → draw.code ≡ Some code
+    → IsMadeWith change (accepted (reply_with code) (change_with code)) → IsMadeWith change o
+drawn_made change o draw code reply_with change_with e c made_so =
+    let with_code : Option ℕ → Outcome Change = λ found. record {
+      reply = said_of found (Refused NoFreshCode) reply_with;
+      happens = option_map change_with found;
+      examined = draw.examined;
+    } in
+    subst (λ x. IsMadeWith change x) (ap with_code (sym c) ∙ sym e) made_so
+
 -- a code was drawn, and the change with it ended the step
 pub drawn_ends : {S : Type 0} {K : KeptOf S} {B : BooksOf S} {v : Bool} {facts : Rows → Type 0}
     {start old mid new : S} {source rest : Stream} {code : ℕ} {outcome : Rows → Outcome Change} {answer : Reply}
-    (reply_with : ℕ → Reply) (change_with : ℕ → Change)
+    → ChangesAfter K B.rows B.leaves_change → (reply_with : ℕ → Reply) (change_with : ℕ → Change)
     → SoFar K B v facts start old → DrawsCode K B old mid source rest (Ok code)
     → StepsAs K B (λ _. accepted (reply_with code) (change_with code)) mid new rest rest answer
     → (facts (B.rows start)
     → outcome (B.rows start) ≡ by_draw (draw_from (codes_in (B.rows start)) (words 64 source)) reply_with change_with)
     → StepsAs K B outcome start new source rest answer
 drawn_ends {K = K} {B = B} {start = start} {old = old} {mid = mid} {new = new} {source = source} {rest = rest}
-    {code = code} {outcome = outcome} {answer = answer} reply_with change_with s d t h = record {
+    {code = code} {outcome = outcome} {answer = answer} after reply_with change_with s d t h = record {
       goes = λ clean.
           let then = t.since.was_clean clean in
           let before = d.leaves.since.was_clean then in
@@ -173,4 +189,15 @@ drawn_ends {K = K} {B = B} {start = start} {old = old} {mid = mid} {new = new} {
           (counted_none why _ _ _ (s.counted (d.leaves.since.was_honest then) why) (d.leaves.counted then why))
           (t.counted honest (λ then. subst AreWhole (sym (d.same then ∙ s.same (d.leaves.since.was_clean then)))
           (w (s.since.was_clean (d.leaves.since.was_clean then)))) why);
+      stop = stops_from K B outcome (λ _. accepted (reply_with code) (change_with code)) start mid new after
+          (λ then. s.since.was_clean (d.leaves.since.was_clean then))
+          (λ then. d.same then ∙ s.same (d.leaves.since.was_clean then)) (K.no_more_trans _ _ _ s.stop d.stop)
+          (λ honest clean. d.leaves.vouched (t.since.was_honest honest) refl)
+          (λ change then made_so.
+          let before = d.leaves.since.was_clean then in
+          drawn_made change (outcome (B.rows start)) (draw_from (codes_in (B.rows start)) (words 64 source)) code
+          reply_with change_with (h (s.facts_hold before))
+          (ap (λ rs. (draw_from (codes_in rs) (words 64 source)).code) (sym (s.same before)) ∙ (d.answer then).0)
+          made_so)
+          t.stop;
     }

@@ -1,5 +1,9 @@
 -- What happened, also where books failed for good.
-use Rattle.std.proofs.Common.{◌≡◌, ◌⊎◌, Bool, true, false, inl, inr, refl, sym, ◌∙◌, subst, arith}
+use Rattle.std.proofs.Common.{◌≡◌, ◌⊎◌, Bool, true, false, inl, inr, refl, ap, sym, ◌∙◌, subst, arith}
+use Rattle.hotel_core.specs.{Refinement.StepOnRows.IsMadeWith, Refinement.StepOnRows.StopsIn}
+use Rattle.hotel_core.specs.{Books.Stepped.StopsStep}
+use Rattle.hotel_model.specs.Leads.{Leads}
+use Rattle.hotel_core.proofs.Names.{Change, Outcome, Rows, answered, grown, made, made_by, past}
 use Rattle.hotel_core.proofs.Names.{Stream, words, Command, Reply, History, rows_of, Reached, Steps, StepsIf}
 use Rattle.hotel_core.proofs.Names.{IsCommand, IsReply, is_failed, outcome_on, GoesIf, StepsAs, Assured}
 use Rattle.hotel_core.proofs.Names.{Ghosts as BooksOf}
@@ -50,6 +54,36 @@ step_went {K = K} {B = B} {old = old} {new = new} h s s' command reply n r t hon
             let went = steps_lift h (B.rows old) s command reply (B.rows old) s' (reached, stands clean) n r
             (subst (λ b. GoesIf b o (B.rows old) s reply (B.rows old) s') (sym k) (refl, m)) in
             (went.0, went.1.0, (λ now. same k now ∙ went.1.1), went.2, assured went.0 went.1.0)
+
+-- a stop in a step leaves nothing new, or the change of the model's answer
+pub step_stops : {S : Type 0} {K : KeptOf S} {B : BooksOf S} {old new : S} (s : Stream) {s' : Stream}
+    (command : Command) {reply : Reply}
+    → IsCommand command → StepsAs K B (λ rows. outcome_on rows (words 64 s) command) old new s s' reply
+    → StopsStep K B old s command new
+step_stops {K = K} {B = B} {old = old} {new = new} s command n t = by t.stop
+  where
+    rows : Rows
+    rows = B.rows old
+
+    o : Outcome Change
+    o = outcome_on rows (words 64 s) command
+
+    leads : (change : Change) → IsMadeWith change o
+        → Leads rows (λ h h'. h' ≡ grown h (answered h s command).happens) (made change rows)
+    leads change is h stands =
+        let later : Rows = made change rows in
+        let rest = past o.examined s in
+        let went = steps_lift h rows s command o.reply later rest stands n is.1
+        (subst (λ b. GoesIf b o rows s o.reply later rest) (sym is.2)
+        (refl, ap (λ x. made_by x rows) (sym is.0), refl)) in
+        let stepped : StepsIf false h s command o.reply went.0 rest =
+        subst (λ b. StepsIf b h s command o.reply went.0 rest) is.2 went.2 in
+        (went.0, went.1, stepped.1, assured went.0 went.1.0)
+
+    by : StopsIn K B (λ rows. outcome_on rows (words 64 s) command) old new → StopsStep K B old s command new
+    by (inl none) = inl none
+    by (inr (change, stop, made_with)) =
+        inr (change, stop, λ honest clean. leads change (made_with honest clean))
 
 -- the same, where the reply is what was given
 pub step_happened : {S : Type 0} {K : KeptOf S} {B : BooksOf S} {old new : S} {s s' : Stream} {given : Reply}

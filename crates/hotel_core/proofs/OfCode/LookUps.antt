@@ -21,6 +21,7 @@ module _ {S A : Type 0} {K : KeptOf S} {B : BooksOf S} {old new : S}
     since = l.looks.leaves.since;
     vouched = λ honest k. absurd (false≢true (sym k ∙ faults fault));
     stays = l.looks.leaves.stays;
+    stop = l.looks.stop;
     counted = λ honest whole. subst (λ told. Counts (λ why. one_of why told) (K.failures old) (K.failures new))
         (sym (tells fault)) (l.looks.leaves.counted honest);
   }
@@ -36,6 +37,7 @@ module _ {S A : Type 0} {K : KeptOf S} {B : BooksOf S} {old new : S}
     since = l.looks.leaves.since;
     vouched = λ honest k. l.looks.leaves.vouched honest refl;
     stays = l.looks.leaves.stays;
+    stop = l.looks.stop;
     counted = λ honest whole. l.looks.leaves.counted honest;
   }
 
@@ -65,6 +67,7 @@ module _ {S A : Type 0} {K : KeptOf S} {B : BooksOf S} {old new : S}
         since = l.looks.leaves.since;
         vouched = λ honest _. l.looks.leaves.vouched honest refl;
         stays = l.looks.leaves.stays;
+        stop = l.looks.stop;
         counted = λ honest whole cause. none_more _ cause _ _ (untold (Refused why) k)
             (counted_none cause _ _ _ refl (l.looks.leaves.counted honest cause));
       })
@@ -86,6 +89,7 @@ module _ {S A : Type 0} {K : KeptOf S} {B : BooksOf S} {old new : S}
         since = l.looks.leaves.since;
         vouched = λ honest k. absurd (false≢true (sym k));
         stays = l.looks.leaves.stays;
+        stop = l.looks.stop;
         counted = λ honest whole.
             let before = l.looks.leaves.since.was_clean (l.looks.leaves.vouched honest refl) in
             absurd (false≢true (subst IsSome (sym (l.answer honest)) (whole refl before)));

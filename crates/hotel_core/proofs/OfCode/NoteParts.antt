@@ -9,7 +9,7 @@ use Rattle.hotel_core.proofs.Names.{is_fit_on, present_fit_on, reported_on, outc
 use Rattle.hotel_core.proofs.Names.{StepsAs, Outcome, said, refused, needs, unless, is_failed, Ghosts as BooksOf}
 use Rattle.keycard_rules.proofs.Drawing.{past-zero}
 use Rattle.hotel_model.specs.declared.command.Command.TheVariants as command
-use Rattle.hotel_core.proofs.OfCode.Parts.{SoFar, passed_on, refuses}
+use Rattle.hotel_core.proofs.OfCode.Parts.{SoFar, stays_so, passed_on, refuses}
 use Rattle.hotel_core.proofs.OfCode.Counting.{none_more, untold}
 use Rattle.hotel_core.specs.Refinement.NextNote.{next_checked}
 use Rattle.hotel_core.proofs.Names.{IsUntaken, Refusal, reply_of}
@@ -46,10 +46,11 @@ excluded {source = source} s h = record {
   goes = λ clean. (s.same clean, (0, omega arith, sym (past-zero source)));
   since = s.since;
   vouched = λ honest k. absurd (false≢true (sym k));
-  stays = s.stays;
+  stays = stays_so s;
   moved = λ honest k. inl refl;
   counted = λ honest w why.
       let clean = s.vouched refl honest in absurd (h (w (s.since.was_clean clean)) (s.facts_hold clean));
+  stop = inl s.stop;
 }
 
 -- an answer that changes nothing, where the checks come to it
@@ -63,9 +64,10 @@ says {B = B} {start = start} {now = now} {outcome = outcome} {source = source} a
       (h (s.facts_hold clean)) (s.same clean);
   since = s.since;
   vouched = λ honest _. s.vouched refl honest;
-  stays = s.stays;
+  stays = stays_so s;
   moved = λ honest e. absurd (false≢true (sym k ∙ e));
   counted = λ honest w why. none_more _ why _ _ (untold answer k) (s.counted honest why);
+  stop = inl s.stop;
 }
   where
     said_at : (b : Bool) (answer : Reply) (o : Outcome Change) (rows later : Rows) (source : Stream)

@@ -7,32 +7,38 @@ use Rattle.hotel_core.proofs.Names.{refused, accepted, unless, made, GoesIf, Goe
 use Rattle.keycard_rules.proofs.{Sinces.stays_then, CallsTogether.counted_told, CallsTogether.counted_none}
 use Rattle.hotel_core.proofs.OfCode.Counting.{faults, none_more, tells, untold}
 use Rattle.keycard_rules.specs.{Leaves.Leaves, Leaves.StaysClean}
+use Rattle.hotel_core.specs.{Books.Changes.ChangesAfter, Refinement.StepOnRows.StopsIn}
+use Rattle.hotel_core.specs.Refinement.StepOnRows.{IsMadeWith}
+use Rattle.hotel_model.specs.Ranges.{IsReply}
 use Rattle.hotel_core.proofs.Names.{AnyRows, failure_in, reply_of, refusal_of, first_refusal, Ghosts as BooksOf}
 use Rattle.keycard_rules.proofs.Drawing.{past-zero}
 use Rattle.keycard_rules.specs.Draw.{MovedAtMost}
 use Rattle.keycard_rules.specs.declared.kept.Kept.{Ghosts as KeptOf}
 
 -- From the state start to now no row changed, and this is known of the rows at the start, if the state is clean now;
--- no failure was counted; and where v is true the books were asked, and it is clean now if it is honest.
+-- no failure was counted; a stop leaves nothing new; and where v is true the books were asked, and it is clean now if
+-- it is honest.
 pub record SoFar {S : Type 0} (K : KeptOf S) (B : BooksOf S) (v : Bool) (facts : Rows → Type 0)
     (start now : S) : Type 0 where
   pub facts_hold : K.is_clean now → facts (B.rows start)
   pub same : K.is_clean now → B.rows now ≡ B.rows start
   pub since : Since K start now
   pub vouched : v ≡ true → K.is_honest now → K.is_clean now
-  pub stays : K.is_honest now → StaysClean K start now
+  pub stays : K.is_honest now → K.is_clean start → K.is_clean now
   pub counted : K.is_honest now → (why : LookFault) → K.failures now why ≡ K.failures start why
+  pub stop : K.leaves_no_more start now
 
 -- at the start this is known
 pub given : {S : Type 0} {K : KeptOf S} {B : BooksOf S} (facts : Rows → Type 0) {start : S}
     → (K.is_clean start → facts (B.rows start)) → SoFar K B false facts start start
-given facts h = record {
+given {K = K} facts {start = start} h = record {
   facts_hold = h;
   same = λ _. refl;
   since = since_refl;
   vouched = λ e. absurd (false≢true e);
-  stays = λ _ clean. inl clean;
+  stays = λ _ clean. clean;
   counted = λ honest why. refl;
+  stop = K.no_more_refl start;
 }
 
 -- at the start nothing is known
@@ -44,23 +50,29 @@ pub at_now : {S : Type 0} {K : KeptOf S} {B : BooksOf S} {v : Bool} {facts : Row
     → SoFar K B v facts start now → K.is_clean now → facts (B.rows now)
 at_now {facts = facts} s clean = subst facts (sym (s.same clean)) (s.facts_hold clean)
 
+-- what was clean at the start is so now
+pub stays_so : {S : Type 0} {K : KeptOf S} {B : BooksOf S} {v : Bool} {facts : Rows → Type 0} {start now : S}
+    → SoFar K B v facts start now → K.is_honest now → StaysClean K start now
+stays_so s honest clean = inl (s.stays honest clean)
+
 -- what stayed clean up to a call stays so after it
 pub stayed : {S : Type 0} {K : KeptOf S} {B : BooksOf S} {v : Bool} {facts : Rows → Type 0} {start old new : S}
     → SoFar K B v facts start old → Since K old new → (K.is_honest new → StaysClean K old new)
     → K.is_honest new → StaysClean K start new
-stayed s since stays honest = stays_then (s.stays (since.was_honest honest)) since (stays honest) s.since
+stayed s since stays honest = stays_then (stays_so s (since.was_honest honest)) since (stays honest) s.since
 
 -- something more is known, by a call that reported no failure
 pub then_asked : {S : Type 0} {K : KeptOf S} {B : BooksOf S} {v : Bool} {facts more : Rows → Type 0} {start old new : S}
     → SoFar K B v facts start old → (K.is_clean new → B.rows new ≡ B.rows old) → Leaves K old None new
-    → (K.is_clean old → K.is_clean new → more (B.rows start)) → SoFar K B true more start new
-then_asked s same l known = record {
+    → K.leaves_no_more old new → (K.is_clean old → K.is_clean new → more (B.rows start)) → SoFar K B true more start new
+then_asked {K = K} s same l stop known = record {
   facts_hold = λ clean. known (l.since.was_clean clean) clean;
   same = λ clean. same clean ∙ s.same (l.since.was_clean clean);
   since = since_then s.since l.since;
   vouched = λ _ honest. l.vouched honest refl;
-  stays = stayed s l.since l.stays;
+  stays = λ honest _. l.vouched honest refl;
   counted = λ honest why. counted_none why _ _ _ (s.counted (l.since.was_honest honest) why) (l.counted honest why);
+  stop = K.no_more_trans _ _ _ s.stop stop;
 }
 
 -- what a search leaves that found something
@@ -79,7 +91,7 @@ pub then_found : {S A : Type 0} {K : KeptOf S} {B : BooksOf S} {v : Bool} {facts
     {are_whole : Rows → Type 0} {why : Refusal} {wanted : Rows → Option A} {start old new : S} {a : A}
     → SoFar K B v facts start old → Finds K B are_whole why wanted old new (Ok a)
     → SoFar K B true (λ rs. facts rs × (wanted rs ≡ Some a)) start new
-then_found {wanted = wanted} s f = then_asked s f.same (leaves_found f)
+then_found {wanted = wanted} s f = then_asked s f.same (leaves_found f) f.stop
     (λ before clean. (s.facts_hold before, ap wanted (sym (s.same before)) ∙ f.answer clean))
 
 goes_at : (b : Bool) (o : Outcome Change) (rows later : Rows) (source : Stream) (why : Refusal)
@@ -115,6 +127,7 @@ stopped_by {K = K} {B = B} {are_whole = are_whole} {wanted = wanted} {start = st
       counted = λ honest w why. counted_told (failure_in (Refused e)) why _ _ _
           (s.counted (f.since.was_honest honest) why) (f.counted honest (λ k before. subst are_whole
           (sym (s.same before)) (whole (w (s.since.was_clean before)) (s.facts_hold before))) why);
+      stop = inl (K.no_more_trans _ _ _ s.stop f.stop);
     }
 
 -- the reply of a refusal that was passed on
@@ -163,9 +176,10 @@ refuses {B = B} {start = start} {now = now} {outcome = outcome} {source = source
       (λ _. h (s.facts_hold clean)) (s.same clean);
   since = s.since;
   vouched = λ honest _. s.vouched refl honest;
-  stays = s.stays;
+  stays = stays_so s;
   moved = λ honest e. absurd (false≢true (sym k ∙ e));
   counted = λ honest w cause. none_more _ cause _ _ (untold (Refused why) k) (s.counted honest cause);
+  stop = inl s.stop;
 }
 
 -- where the source moved by what a step examines, it did by what an equal one does
@@ -177,14 +191,31 @@ moved_as : (mid was : Type 0) (n m : ℕ) (source rest : Stream)
 moved_as mid was n m source rest h (inl e) = inl e
 moved_as mid was n m source rest h (inr (c, k)) = let d = h c in inr (d.0, subst (λ x. MovedAtMost x source rest) d.1 k)
 
+-- what the end of a step says of a stop, it says of one from the start, where nothing new was left before it
+pub stops_from : {S : Type 0} (K : KeptOf S) (B : BooksOf S) (outcome last : Rows → Outcome Change) (start mid new : S)
+    → ChangesAfter K B.rows B.leaves_change → (K.is_clean mid → K.is_clean start)
+    → (K.is_clean mid → B.rows mid ≡ B.rows start) → K.leaves_no_more start mid
+    → (K.is_honest new → K.is_clean start → K.is_clean mid)
+    → ((change : Change) → K.is_clean mid → IsMadeWith change (last (B.rows mid))
+    → IsMadeWith change (outcome (B.rows start)))
+    → StopsIn K B last mid new → StopsIn K B outcome start new
+stops_from K B outcome last start mid new after was same before still as_last (inl none) =
+    inl (K.no_more_trans start mid new before none)
+stops_from K B outcome last start mid new after was same before still as_last (inr (change, stop, made)) = inr (
+  change,
+  after change start mid new was same before stop,
+  λ honest clean. let then = still honest clean in as_last change then (made honest then),
+)
+
 -- the step goes on as one that ends it
 pub ends : {S : Type 0} {K : KeptOf S} {B : BooksOf S} {v : Bool} {facts : Rows → Type 0} {start old new : S}
     {outcome last : Rows → Outcome Change} {source rest : Stream} {answer : Reply}
-    → SoFar K B v facts start old → StepsAs K B last old new source rest answer
+    → ChangesAfter K B.rows B.leaves_change → SoFar K B v facts start old
+    → StepsAs K B last old new source rest answer
     → (facts (B.rows start) → outcome (B.rows start) ≡ last (B.rows start))
     → StepsAs K B outcome start new source rest answer
 ends {K = K} {B = B} {start = start} {old = old} {new = new} {outcome = outcome} {last = last} {source = source}
-    {rest = rest} {answer = answer} s t h = record {
+    {rest = rest} {answer = answer} after s t h = record {
       goes = λ clean.
           let before = t.since.was_clean clean in
           let g : Goes (last (B.rows start)) (B.rows start) source answer (B.rows new) rest =
@@ -202,6 +233,10 @@ ends {K = K} {B = B} {start = start} {old = old} {new = new} {outcome = outcome}
           )) (t.moved honest k);
       counted = λ honest w why. counted_told (failure_in answer) why _ _ _ (s.counted (t.since.was_honest honest) why)
           (t.counted honest (λ before. subst AreWhole (sym (s.same before)) (w (s.since.was_clean before))) why);
+      stop = stops_from K B outcome last start old new after s.since.was_clean s.same s.stop
+          (λ honest clean. s.stays (t.since.was_honest honest) clean)
+          (λ change then made_so. subst (λ o. IsMadeWith change o)
+          (ap last (s.same then) ∙ sym (h (s.facts_hold then))) made_so) t.stop;
     }
 
 pub only : {A : Type 0} {x y : A} → Some x ≡ Some y → x ≡ y
@@ -215,9 +250,10 @@ made_at false answer change rows later source k same = (refl, same, sym (past-ze
 -- the change was made
 pub makes : {S : Type 0} {K : KeptOf S} {B : BooksOf S} {old new : S} (answer : Reply)
     (change : Change) (source : Stream)
-    → is_failed answer ≡ false → (K.is_clean new → B.rows new ≡ made change (B.rows old))
-    → Leaves K old None new → StepsAs K B (λ _. accepted answer change) old new source source answer
-makes {K = K} {B = B} {old = old} {new = new} answer change source k m l = record {
+    → IsReply answer → is_failed answer ≡ false → (K.is_clean new → B.rows new ≡ made change (B.rows old))
+    → Leaves K old None new → B.leaves_change change old new
+    → StepsAs K B (λ _. accepted answer change) old new source source answer
+makes {K = K} {B = B} {old = old} {new = new} answer change source r k m l stop = record {
   goes = λ clean. made_at (is_failed answer) answer change (B.rows old) (B.rows new) source k (m clean);
   since = l.since;
   vouched = λ honest _. l.vouched honest refl;
@@ -225,23 +261,26 @@ makes {K = K} {B = B} {old = old} {new = new} answer change source k m l = recor
   moved = λ honest e. absurd (false≢true (sym k ∙ e));
   counted = λ honest whole. subst (λ told. Counts (λ why. one_of why told) (K.failures old) (K.failures new))
       (sym (untold answer k)) (l.counted honest);
+  stop = inr (change, stop, λ honest clean. (refl, r, k));
 }
 
 -- a change that was not made
-pub fails : {S : Type 0} {K : KeptOf S} {B : BooksOf S} {old new : S} (o : Outcome Change) (fault : LookFault)
-    (why : Refusal) (source : Stream)
-    → why ≡ refusal_of fault → (K.is_clean new → B.rows new ≡ B.rows old)
-    → Leaves K old (Some fault) new → StepsAs K B (λ _. o) old new source source (Refused why)
-fails {K = K} {B = B} {old = old} {new = new} o fault why source e m l =
-    subst (λ r. StepsAs K B (λ _. o) old new source source (Refused r)) (sym e) (record {
-      goes = λ clean. goes_at (is_failed (Refused (refusal_of fault))) o (B.rows old) (B.rows new) source
-          (refusal_of fault) (λ k. absurd (false≢true (sym k ∙ faults fault))) (m clean);
+pub fails : {S : Type 0} {K : KeptOf S} {B : BooksOf S} {old new : S} (answer : Reply) (change : Change)
+    (fault : LookFault) (why : Refusal) (source : Stream)
+    → IsReply answer → is_failed answer ≡ false → why ≡ refusal_of fault → (K.is_clean new → B.rows new ≡ B.rows old)
+    → Leaves K old (Some fault) new → B.leaves_change change old new
+    → StepsAs K B (λ _. accepted answer change) old new source source (Refused why)
+fails {K = K} {B = B} {old = old} {new = new} answer change fault why source range k e m l stop =
+    subst (λ r. StepsAs K B (λ _. accepted answer change) old new source source (Refused r)) (sym e) (record {
+      goes = λ clean. goes_at (is_failed (Refused (refusal_of fault))) (accepted answer change) (B.rows old)
+          (B.rows new) source (refusal_of fault) (λ k. absurd (false≢true (sym k ∙ faults fault))) (m clean);
       since = l.since;
       vouched = λ honest k. absurd (false≢true (sym k ∙ faults fault));
       stays = l.stays;
       moved = λ honest k. inl refl;
       counted = λ honest whole. subst (λ told. Counts (λ why. one_of why told) (K.failures old) (K.failures new))
           (sym (tells fault)) (l.counted honest);
+      stop = inr (change, stop, λ honest clean. (refl, range, k));
     })
 
 -- a refusal of the checks, passed on

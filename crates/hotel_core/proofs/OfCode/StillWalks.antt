@@ -1,5 +1,5 @@
 -- A walk over books that it leaves as they are, and that never fails.
-use Rattle.std.proofs.Common.{◌≡◌, Bool, Option, Some, None, List, Result, inl, refl, sym, subst, arith}
+use Rattle.std.proofs.Common.{◌≡◌, Bool, Option, None, List, Result, inl, refl, sym, subst, arith}
 use Rattle.keycard_rules.specs.{declared.kept.Kept.Ghosts as KeptOf, declared.issued.LookFault.LookFault}
 use Rattle.keycard_rules.specs.Leaves.{Looks}
 use Rattle.hotel_core.proofs.Names.{Hands, failure_of}
@@ -9,8 +9,8 @@ use Rattle.hotel_core.specs.declared.books.walks.WalkFault.{WalkFault}
 
 -- an answer that needed nothing but books that are clean
 still_looks : {B : Type 0} (K : KeptOf B) (takes_memory : Bool) (b : B)
-    → K.is_clean b → K.leaves_no_more b b → Looks K takes_memory b None b
-still_looks K takes_memory b clean stop = record {
+    → K.is_clean b → Looks K takes_memory b None b
+still_looks K takes_memory b clean = record {
   leaves = record {
     since = record {
       was_clean = λ c. c;
@@ -25,16 +25,16 @@ still_looks K takes_memory b clean stop = record {
   rose = tt;
   kept = λ c. K.kept_refl b;
   cause = λ honest failed. cc;
-  stop = stop;
+  stop = K.no_more_refl b;
   sure = λ never none. refl;
 }
 
 pub still_walks : {B S R : Type 0} (K : KeptOf B) (takes_memory : Bool) (after after_stop : S → R → S → Type 0)
     (rows : List R) (b : B) (sink end : S) (result : Result (Unit {0}) WalkFault)
-    → K.is_clean b → K.leaves_no_more b b → failure_of result ≡ None → Hands after after_stop rows sink end result
+    → K.is_clean b → failure_of result ≡ None → Hands after after_stop rows sink end result
     → WalksOver K takes_memory after after_stop rows b b sink end result
-still_walks K takes_memory after after_stop rows b sink end result clean stop sure hands = record {
+still_walks K takes_memory after after_stop rows b sink end result clean sure hands = record {
   hands = (rows, hands, λ honest. refl);
   looks = subst (λ (told : Option LookFault). Looks K takes_memory b told b) (sym sure)
-      (still_looks K takes_memory b clean stop);
+      (still_looks K takes_memory b clean);
 }

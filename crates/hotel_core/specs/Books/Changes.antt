@@ -10,6 +10,12 @@ abbrev pub rows_after : Result (Unit {0}) LookFault → Change → Rows → Rows
 rows_after (Ok done) change rows = made change rows
 rows_after (Err why) change rows = rows
 
+-- A change from the state b to c, before which a look-up, or nothing, went from a to b and left no row changed: a stop
+-- leaves what the books say of this change from a.
+abbrev pub ChangesAfter : {S : Type 0} → KeptOf S → (S → Rows) → (Change → S → S → Type 0) → Type 0
+ChangesAfter {S = S} K rows leaves_change = (change : Change) (a b c : S) → (K.is_clean b → K.is_clean a)
+    → (K.is_clean b → rows b ≡ rows a) → K.leaves_no_more a b → leaves_change change b c → leaves_change change a c
+
 -- A change from the state old to new is made whole, or not at all. It leaves what any call does; the store fails for a
 -- cause of its own; a stop leaves what the books say of a change; and what never fails doesn't, if no memory is taken.
 pub record Makes {S : Type 0} (K : KeptOf S) (rows : S → Rows) (leaves_change change_fails : Change → S → S → Type 0)

@@ -48,7 +48,7 @@ Found why wanted (Ok a) = wanted ≡ Some a
 Found why wanted (Err other) = is_failed (reply.Refused other) ≡ false → (wanted ≡ None) × (other ≡ why)
 
 -- A search from the state old to new, which changes no row and leaves what a call does; a failure that it reports is
--- counted, for whole rows, and no other one.
+-- counted, for whole rows, and no other one; a stop leaves nothing new.
 pub record Finds {S A : Type 0} (K : KeptOf S) (B : BooksOf S) (are_whole : Rows → Type 0) (why : Refusal)
     (wanted : Rows → Option A) (old new : S) (result : Result A Refusal) : Type 0 where
   pub answer : K.is_clean new → Found why (wanted (B.rows old)) result
@@ -58,6 +58,7 @@ pub record Finds {S A : Type 0} (K : KeptOf S) (B : BooksOf S) (are_whole : Rows
   pub stays : K.is_honest new → StaysClean K old new
   pub counted : K.is_honest new → (has_failed result ≡ true → K.is_clean old → are_whole (B.rows old))
       → Counts (λ why. one_of why (failure_at result)) (K.failures old) (K.failures new)
+  pub stop : K.leaves_no_more old new
 
 -- all rows are whole enough
 abbrev pub AnyRows : Rows → Type 0
@@ -81,7 +82,7 @@ abbrev pub Drew : Draw → Stream → Stream → Result ℕ Refusal → Type 0
 Drew draw source rest (Ok code) = (draw.code ≡ Some code) × (rest ≡ past draw.examined source)
 Drew draw source rest (Err why) = DrewNone (is_failed (reply.Refused why)) draw source rest why
 
--- A draw over books, which changes no row.
+-- A draw over books, which changes no row; a stop leaves nothing new.
 pub record DrawsCode {S : Type 0} (K : KeptOf S) (B : BooksOf S) (old new : S) (source rest : Stream)
     (result : Result ℕ Refusal) : Type 0 where
   pub answer : K.is_clean new → Drew (draw_from (codes_in (B.rows old)) (words MOST_WORDS source)) source rest result
@@ -89,6 +90,7 @@ pub record DrawsCode {S : Type 0} (K : KeptOf S) (B : BooksOf S) (old new : S) (
   pub moved : K.is_honest new → has_failed result ≡ true
       → MovedAtMost (draw_from (codes_in (B.rows old)) (words MOST_WORDS source)).examined source rest
   pub leaves : Leaves K old (failure_at result) new
+  pub stop : K.leaves_no_more old new
   pub sure : K.never_fails → failure_at result ≡ None
 
 -- the first refusal of these checks

@@ -11,9 +11,11 @@ abbrev pub FoundChecked : List (Option Refusal) → Result (Unit {0}) Refusal �
 FoundChecked checks (Ok done) = first_refusal checks ≡ None
 FoundChecked checks (Err why) = is_failed (reply.Refused why) ≡ false → first_refusal checks ≡ Some why
 
--- Checks of the books from the state old to new, which change no row and leave what a call does.
+-- Checks of the books from the state old to new, which change no row and leave what a call does; a stop leaves nothing
+-- new.
 pub record FindsChecked {S : Type 0} (K : KeptOf S) (B : BooksOf S) (checks : Rows → List (Option Refusal))
     (old new : S) (result : Result (Unit {0}) Refusal) : Type 0 where
   pub answer : K.is_clean new → FoundChecked (checks (B.rows old)) result
   pub same : K.is_clean new → B.rows new ≡ B.rows old
   pub leaves : Leaves K old (failure_at result) new
+  pub stop : K.leaves_no_more old new

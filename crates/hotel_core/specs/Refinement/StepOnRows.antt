@@ -1,5 +1,5 @@
 -- One step over books: it goes as the outcome says, or it fails and changes nothing.
-use Rattle.std.specs.Prelude.{◌⊎◌, ◌≡◌, true, false}
+use Rattle.std.specs.Prelude.{◌⊎◌, ◌≡◌, true, false, Some}
 use Rattle.keycard_rules.specs.{Draw.MovedAtMost, Draw.words, Rise.Counts, Rise.one_of}
 use Rattle.keycard_rules.specs.declared.draw.TheConstants.{MOST_WORDS}
 use Rattle.keycard_rules.specs.{Since.Since, Leaves.StaysClean}
@@ -7,15 +7,26 @@ use Rattle.rand_core.specs.Stream.{Stream}
 use Rattle.hotel_model.specs.{declared.command.Command.Command, declared.change.Change.Change}
 use Rattle.hotel_model.specs.{declared.reply.Reply.Reply, Rows.Rows}
 use Rattle.hotel_model.specs.{Refinement.GoesOnRows.Goes, Refinement.GoesOnRows.AreWhole, Outcome.Outcome}
-use Rattle.hotel_model.specs.{Refinement.OnRows.outcome_on, Run.is_failed}
+use Rattle.hotel_model.specs.{Refinement.OnRows.outcome_on, Run.is_failed, Ranges.IsReply}
 use Rattle.hotel_core.specs.Books.Failures.{failure_in}
 use Rattle.keycard_rules.specs.declared.kept.Kept.{Ghosts as KeptOf}
 use Rattle.hotel_core.specs.declared.books.Books.{Ghosts as BooksOf}
 
+-- this change happens, and the reply is in its ranges
+abbrev pub IsMadeWith : Change → Outcome Change → Type 0
+IsMadeWith change o = (o.happens ≡ Some change) × IsReply o.reply × (is_failed o.reply ≡ false)
+
+-- A stop in a part of a step, or after it, from the state old to new, leaves nothing new, or what the books say of one
+-- change: the one that the outcome says, where the state was clean and is honest at the end.
+abbrev pub StopsIn : {S : Type 0} → KeptOf S → BooksOf S → (Rows → Outcome Change) → (old new : S) → Type 0
+StopsIn K B outcome old new = K.leaves_no_more old new
+    ⊎ ((change : Change) × B.leaves_change change old new
+    × (K.is_honest new → K.is_clean old → IsMadeWith change (outcome (B.rows old))))
+
 -- A part of a step from the state old to new, with the source moved to rest, where the outcome says what comes of it.
 -- Where the state is honest at its end, an answer that isn't failed says that it is clean, and a failed one left the
 -- source, or moved it by no more than the outcome over a clean state. A failure that it reports is counted, for whole
--- rows, and no other one.
+-- rows, and no other one. A stop leaves nothing new, or the outcome's change.
 pub record StepsAs {S : Type 0} (K : KeptOf S) (B : BooksOf S) (outcome : Rows → Outcome Change) (old new : S)
     (source rest : Stream) (answer : Reply) : Type 0 where
   pub goes : K.is_clean new → Goes (outcome (B.rows old)) (B.rows old) source answer (B.rows new) rest
@@ -26,6 +37,7 @@ pub record StepsAs {S : Type 0} (K : KeptOf S) (B : BooksOf S) (outcome : Rows �
       ⊎ (K.is_clean old × MovedAtMost (outcome (B.rows old)).examined source rest)
   pub counted : K.is_honest new → (K.is_clean old → AreWhole (B.rows old))
       → Counts (λ why. one_of why (failure_in answer)) (K.failures old) (K.failures new)
+  pub stop : StopsIn K B outcome old new
 
 -- The same of a part that draws nothing: whatever the source, it stays where it is.
 abbrev pub StepsWithoutWords : {S : Type 0} → KeptOf S → BooksOf S → (Rows → Outcome Change) → (old new : S) → Reply

@@ -1,10 +1,11 @@
 -- A registered party's last card has the newest link of its room.
-use Rattle.std.proofs.Common.{ℕ, ◌≡◌, ◌-◌, Bool, true, false, Option, Some, None, refl, ap, sym, ◌∙◌, length, ◌==◌}
+use Rattle.std.proofs.Common.{ℕ, ◌≡◌, ◌-◌, Bool, true, false, Option, Some, None, ap, sym, ◌∙◌, length, ◌==◌}
 use Rattle.std.proofs.Common.{is_some}
 use Rattle.hotel_model.proofs.Names.{Link, when, said_of, Issue, Refitted, CheckOut, History, start, ◌▷◌, link_to}
 use Rattle.hotel_model.proofs.Names.{newest_link, link_of_party, registered, other_than, issued, rows_of, room_of}
 use Rattle.hotel_model.proofs.Names.{no_link, codes_of, said_code_at, home_link_on, last_link_on, Reached}
-use Rattle.hotel_model.proofs.{OfTables.Tests.eq_self, OfTables.Grown.may_follow, Invariants.CardParties.not_taken_here}
+use Rattle.hotel_model.proofs.{OfTables.Tests.eq_self, OfTables.Tests.some_there, OfTables.Grown.may_follow}
+use Rattle.hotel_model.proofs.{Invariants.CardParties.not_taken_here}
 use Rattle.hotel_model.proofs.{Invariants.Homes.stays_on}
 use Rattle.hotel_model.proofs.{Invariants.InHouse.registered_in_house, Invariants.InHouseLinks.in_house_has_link}
 use Rattle.hotel_model.proofs.{Invariants.OpenLocks.there_by_link, Invariants.CodesFound.newest_found}
@@ -42,15 +43,11 @@ has_newest (h ▷ Refitted room fit code) ok r p e =
     (not_taken_here h room r p (may_follow h (Refitted room fit code) ok).1 e) ∙ has_newest h ok.0 r p e
 has_newest (h ▷ _) ok r p e = has_newest h ok.0 r p e
 
-some_link : (o : Option Link) → is_some o ≡ true → (link : Link) × (o ≡ Some link)
-some_link (Some link) e = (link, refl)
-some_link None e = cc
-
 -- a party in house has a link, and it is the newest of its room
 pub home_has_newest : (h : History) → Reached h → (party room : ℕ) → room_of h party ≡ Some room
     → (link : Link) × (link_of_party h party ≡ Some link) × (newest_link h room ≡ Some link)
 home_has_newest h ok party room e =
-    let l = some_link (link_of_party h party) (in_house_has_link h ok party (ap is_some e)) in
+    let l = some_there (link_of_party h party) (in_house_has_link h ok party (ap is_some e)) in
     (l.0, l.1, has_newest h ok room party ((registered_in_house h ok room party).1 e) ∙ l.1)
 
 -- the link of a room's last two codes is that of a party that is in house there

@@ -3,7 +3,7 @@ use Rattle.std.proofs.Common.{ℕ, ◌≡◌, Bool, true, false, cond, Option, S
 use Rattle.std.proofs.Common.{ap, sym, ◌∙◌, subst, arith, ◌==◌, ◌||◌, is_some, nat_cmp, Ordering, Less, Equal, Greater}
 use Rattle.hotel_model.proofs.Names.{match_ordering, is_at, insert_entry, keys_of, exact_unsigned, nat_tests, is_one_of}
 use Rattle.hotel_model.proofs.Names.{at_number}
-use Rattle.hotel_model.proofs.OfTables.Tests.{eq_from, eq_self, same_bool, equal_tested}
+use Rattle.hotel_model.proofs.OfTables.Tests.{eq_from, eq_self, same_bool, equal_tested, some_there}
 
 pub same_number : (q k : ℕ) → is_at (nat_cmp q) k ≡ true → q ≡ k
 same_number q k h = exact_unsigned q k (equal_tested (nat_cmp q k) h)
@@ -100,10 +100,6 @@ key_inserted es k v q =
 none_there : {X : Type 0} (o : Option X) → is_some o ≡ false → o ≡ None
 none_there None e = refl
 none_there (Some x) e = cc
-
-some_there : {X : Type 0} (o : Option X) → is_some o ≡ true → (x : X) × (o ≡ Some x)
-some_there None e = cc
-some_there (Some x) e = (x, refl)
 
 -- what is no key has no row
 pub no_key : {X : Type 0} (es : List (ℕ × X)) (q : ℕ) → is_one_of q (keys_of es) ≡ false → at_number es q ≡ None

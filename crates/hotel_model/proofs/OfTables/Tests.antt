@@ -1,9 +1,14 @@
 -- Tests of numbers, and what they tell.
 use Rattle.std.proofs.Common.{ℕ, ◌≡◌, Bool, true, false, ◌⊎◌, inl, inr, Result, Ok, Err, OnOk, refl, sym, ◌∙◌, arith}
-use Rattle.std.proofs.Common.{◌≤◌, ◌<◌, nat_le, nat_lt, not, is_eq, Ordering, Less, Equal, Greater}
+use Rattle.std.proofs.Common.{◌≤◌, ◌<◌, nat_le, nat_lt, not, is_eq, Ordering, Less, Equal, Greater, Option, Some, None}
+use Rattle.std.proofs.Common.{is_some}
 use Rattle.std.specs.Prelude.{◌==◌, ◌&&◌, ◌||◌}
 use Rattle.std.proofs.lemmas.Bool.{false≢true}
 use Rattle.std.proofs.lemmas.Bool.Decides.{nat_tests}
+
+pub some_there : {X : Type 0} (o : Option X) → is_some o ≡ true → (x : X) × (o ≡ Some x)
+some_there None e = cc
+some_there (Some x) e = (x, refl)
 
 pub eq_from : (a b : ℕ) → (a == b) ≡ true → a ≡ b
 eq_from a b h = grind (arith, nat_tests)

@@ -1,5 +1,5 @@
 -- The rows after a party left for good, and after it was given a card of a new code at a room.
-use Rattle.std.proofs.Common.{ℕ, ◌≡◌, true, false, Option, Some, None, List, refl, ap, sym, ◌∙◌, length, ◌==◌, is_some}
+use Rattle.std.proofs.Common.{ℕ, ◌≡◌, true, false, Option, Some, None, List, refl, ap, sym, ◌∙◌, length, ◌==◌}
 use Rattle.std.proofs.Common.{nat_cmp}
 use Rattle.hotel_model.proofs.Names.{insert_entry, RoomRow, when, and_last, said_of, Issue, CheckOut, History, ◌▷◌}
 use Rattle.hotel_model.proofs.Names.{issued, all_issued, registered, secured, rooms, room_row, rows_of, is_room}
@@ -10,15 +10,11 @@ use Rattle.hotel_model.proofs.{OfTables.Numbered.true_is_not_false, OfTables.Roo
 use Rattle.hotel_model.proofs.{RowsAfter.RowsIssue.came_to, RowsAfter.RowsIssue.codes_said}
 use Rattle.hotel_model.proofs.{Invariants.Homes.itself_leaves, Invariants.Homes.not_leaving}
 use Rattle.hotel_model.proofs.{Invariants.Homes.others_stay, Invariants.Homes.stays_on, Invariants.InHouse.homes_match}
-use Rattle.hotel_model.proofs.{OfTables.Tests.eq_self}
-
-some_home : (o : Option ℕ) → is_some o ≡ true → (room : ℕ) × (o ≡ Some room)
-some_home (Some room) h = (room, refl)
-some_home None h = cc
+use Rattle.hotel_model.proofs.{OfTables.Tests.eq_self, OfTables.Tests.some_there}
 
 -- the room of a party in house
 pub home_there : (h : History) (party : ℕ) → is_in_house h party ≡ true → (room : ℕ) × (room_of h party ≡ Some room)
-home_there h party t = some_home (room_of h party) t
+home_there h party t = some_there (room_of h party) t
 
 two_homes : {a b : ℕ} {o : Option ℕ} → o ≡ Some a → o ≡ Some b → a ≡ b
 two_homes e f = cc

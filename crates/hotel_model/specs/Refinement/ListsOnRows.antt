@@ -106,7 +106,7 @@ cards_inside_on rows = filter_map (inside_row_on rows) rows.inside
 abbrev pub bookings_on : Rows → List Stay
 bookings_on rows = filter is_booking (values_of rows.stays)
 
--- how many bookings of a kind for so many nights from a day on would be accepted, one after the other
+-- how many bookings of a kind for so many nights from a day on wouldn't be refused for these nights, one after another
 abbrev pub free_on : Rows → List ℕ → ℕ → ℕ → ℕ
 free_on rows kind d n = if are_ahead rows.day d n
     then rooms_of_kind rows.rooms kind - greatest (nights_taken (values_of rows.stays) kind) d n else 0

@@ -1,5 +1,5 @@
--- Columns that are none of a stay.
-use Rattle.std.proofs.Common.{◌≡◌, ◌&&◌, ◌∙◌, Bool, true, false, Result, Ok, Err, IfErr, ap, refl}
+-- Tests of columns that fail.
+use Rattle.std.proofs.Common.{◌≡◌, ◌&&◌, Bool, true, false, Result, Ok, Err, IfErr, ap, refl}
 use Rattle.keycard_rules.specs.declared.issued.LookFault.{LookFault}
 use Rattle.keycard_rules.specs.declared.issued.LookFault.TheVariants.{Store}
 

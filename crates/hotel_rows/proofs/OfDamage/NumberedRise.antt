@@ -1,5 +1,5 @@
 -- Numbers that count up are in order.
-use Rattle.std.proofs.Common.{ℕ, ◌≡◌, ◌+◌, ◌<◌, ◌==◌, ◌&&◌, Bool, true, false, List, [], ◌∷◌, nat_cmp, refl, ap, arith}
+use Rattle.std.proofs.Common.{ℕ, ◌≡◌, ◌+◌, ◌<◌, ◌==◌, true, List, [], ◌∷◌, nat_cmp, refl, arith}
 use Rattle.std.specs.Ordering.{is_lt}
 use Rattle.std.proofs.lemmas.Bool.Decides.{nat_tests}
 use Rattle.hotel_model.specs.SoundRooms.{are_in_order, count_up}
@@ -17,8 +17,3 @@ counts_rise n (a ∷ b ∷ ks) all =
     let low : a < b = omega (arith, first, second) in
     let less : is_lt (nat_cmp a b) ≡ true = grind (arith, nat_tests) in
     both (is_lt (nat_cmp a b)) (are_in_order nat_cmp (b ∷ ks)) less (counts_rise (n + 1) (b ∷ ks) p.1)
-
--- numbers that don't count up
-pub uncounted : (a c : Bool) → false ≡ (a && false && c)
-uncounted true c = refl
-uncounted false c = refl

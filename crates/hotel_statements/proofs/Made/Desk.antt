@@ -43,10 +43,10 @@ abbrev pub Same : Trees → Trees → Type 0
 Same a b = AllByRecursion (λ (t : Table). b t.tree ≡ a t.tree) desk_schema.tables
 
 -- the tables of the first version have the same rows in both
-abbrev pub SameFront : Trees → Trees → Type 0
-SameFront a b = KeepsRows first_schema.tables a b
+abbrev pub SameFirstTables : Trees → Trees → Type 0
+SameFirstTables a b = KeepsRows first_schema.tables a b
 
-pub same_tables : {version : Version} (a b : Trees) → SameFront a b → AreTablesOf version a
+pub same_tables : {version : Version} (a b : Trees) → SameFirstTables a b → AreTablesOf version a
     → IsFitTable version (b fit_tree)
     → AreTablesOf version b
 same_tables a b same was fits = record {
@@ -67,7 +67,7 @@ same_tables a b same was fits = record {
   fit = fits;
 }
 
-pub same_bare : (a b : Trees) → SameFront a b → bare_rows_in b ≡ bare_rows_in a
+pub same_bare : (a b : Trees) → SameFirstTables a b → bare_rows_in b ≡ bare_rows_in a
 same_bare a b same =
     let meta : b meta_tree ≡ a meta_tree = same.0 in
     let kind : b kind_tree ≡ a kind_tree = same.1.0 in
@@ -82,8 +82,8 @@ same_bare a b same =
 pub same_fits : (a b : Trees) → b fit_tree ≡ a fit_tree → fits_in b ≡ fits_in a
 same_fits a b same = ap (in_key_order (by_key pair_cmp) (λ r. fit_of (fit_columns r))) same
 
-pub front_of : (a b : Trees) → Same a b → SameFront a b × (b fit_tree ≡ a fit_tree)
-front_of a b same =
+pub first_of_same : (a b : Trees) → Same a b → SameFirstTables a b × (b fit_tree ≡ a fit_tree)
+first_of_same a b same =
     let last = same.1.1.1.1 in (
       (same.0, (same.1.0, (same.1.1.0, (same.1.1.1.0, (last.0, (last.1.0, (last.1.1.0, (last.1.1.1.0, tt)))))))),
       last.1.1.1.1.0,
@@ -92,9 +92,9 @@ front_of a b same =
 -- the rows are those without the fits, joined with them
 pub same_desk : (a b : Trees) → Same a b → AreTables a → AreTables b × (rows_in b ≡ rows_in a)
 same_desk a b same was =
-    let front = front_of a b same in (
-      same_tables a b front.0 was (subst AreFits (sym front.1) was.fit),
-      ap₂ joined_with (same_fits a b front.1) (same_bare a b front.0),
+    let parts = first_of_same a b same in (
+      same_tables a b parts.0 was (subst AreFits (sym parts.1) was.fit),
+      ap₂ joined_with (same_fits a b parts.1) (same_bare a b parts.0),
     )
 
 -- ---- one table written

@@ -24,7 +24,8 @@ use Rattle.hotel_statements.proofs.Keyed.{column_equals, key_total}
 use Rattle.hotel_statements.proofs.Keys.{and_true}
 use Rattle.hotel_statements.proofs.Perm.{put_fresh, every_shuffled}
 use Rattle.hotel_statements.proofs.Statements.Changes as changes
-use Rattle.hotel_statements.proofs.Made.Desk.{Changed, same_desk, same_bare, same_fits, front_of, fits_set, version_set}
+use Rattle.hotel_statements.proofs.Made.Desk.{Changed, same_desk, same_bare, same_fits, first_of_same, fits_set}
+use Rattle.hotel_statements.proofs.Made.Desk.{version_set}
 use Rattle.hotel_statements.proofs.Made.Alone.{alone, fit_free}
 use Rattle.hotel_statements.proofs.Made.Deletes.{test}
 use Rattle.hotel_statements.proofs.Made.Entries.{changed_at}
@@ -41,7 +42,7 @@ has_fits : {tree : ℕ} {rows : List Row} {fits : FitEntries} (old new : State) 
     × (fits_in (with_tree old.now.trees tree rows) ≡ fits) → HasFits fits old new
 has_fits {tree} {rows} old new shown did sound ids set =
     let db = with_tree old.now.trees tree rows in
-    let front = front_of db new.now.trees did.trees in
+    let parts = first_of_same db new.now.trees did.trees in
     record {
       desk = record {
         was_open = shown.was_open;
@@ -53,10 +54,10 @@ has_fits {tree} {rows} old new shown did sound ids set =
           tables = (same_desk db new.now.trees did.trees set.0).0;
         };
         sound = sound;
-        bare_rows_are = same_bare db new.now.trees front.0 ∙ set.1;
+        bare_rows_are = same_bare db new.now.trees parts.0 ∙ set.1;
       };
-      fits_are = same_fits db new.now.trees front.1 ∙ set.2;
-      numbered = subst (AllByRecursion HasId) (sym front.1) ids;
+      fits_are = same_fits db new.now.trees parts.1 ∙ set.2;
+      numbered = subst (AllByRecursion HasId) (sym parts.1) ids;
     }
 
 -- ---- the version of meta

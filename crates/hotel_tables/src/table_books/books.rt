@@ -2,7 +2,7 @@
 ghost use Rattle.std.specs.Prelude.{refl};
 ghost use Rattle.sqlite.specs.Held.{state};
 ghost use Rattle.hotel_statements.specs.Tables.{rows_in};
-ghost use Rattle.hotel_tables.specs.Applied.{LeavesChange};
+ghost use Rattle.hotel_tables.specs.{Applied.LeavesChange, StopLaws.change_after};
 ghost use Rattle.hotel_tables.specs.Causes.{ChangeFails};
 
 use crate::table_books::TableBooks;
@@ -163,6 +163,8 @@ impl<S: Alter> Books for TableBooks<S> {
     }
 
     ghost kept_rows = { λ a b h. h };
+
+    ghost change_after = { λ change a b c was same before stop. change_after change _ _ _ was same before stop };
 
     ghost issued_are = { λ a. refl };
 }

@@ -1,5 +1,6 @@
 use Rattle.hotel_model.specs.declared.command.Command.TheVariants as command
 use Rattle.hotel_core.proofs.{OfCode.FailuresCounted.step_leaves, OfCode.Happened.step_happened}
+use Rattle.hotel_core.proofs.{OfCode.Happened.step_stops}
 use Rattle.std.proofs.Common.{[]}
 use Rattle.rand_core.specs.Stream.{Stream}
 use Rattle.hotel_core.proofs.{Names.false≢true, OfCode.NoteReplies.taken_reply}
@@ -25,3 +26,7 @@ returns-clause-noted g c = λ source.
 pub returns-clause-note : goal.returns-clause-note
 returns-clause-note g c = λ honest.
     rw c.reply_of-reply.ensures (taken_reply _ _ (c.take_note-taken.ensures silent) honest)
+
+pub returns-clause-stop : goal.returns-clause-stop
+returns-clause-stop g c = λ source.
+    step_stops source (command.Reported c.args.note.now) c.known_note.ensures (c.take_note-taken.ensures source)

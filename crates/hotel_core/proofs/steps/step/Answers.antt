@@ -1,9 +1,9 @@
 use Rattle.hotel_core.proofs.{OfCode.FailuresCounted.step_leaves, OfCode.Counting.untold}
-use Rattle.hotel_core.proofs.{OfCode.Happened.step_happened}
+use Rattle.hotel_core.proofs.{OfCode.Happened.step_happened, OfCode.Happened.step_stops}
 use Rattle.hotel_core.proofs.steps.step.Goals as goal
 
-pub returns : goal.returns
-returns g c =
+pub returns-clause-stepped : goal.returns-clause-stepped
+returns-clause-stepped g c =
     let out = c.carry_out-outcome.ensures in
     let is = c.reply_of-reply.ensures in
     record {
@@ -14,3 +14,6 @@ returns g c =
       range = c.known_reply.ensures;
       sure = λ never takes. rw is (untold _ (out.sure never takes));
     }
+
+pub returns-clause-stop : goal.returns-clause-stop
+returns-clause-stop g c = step_stops _ c.args.command.now c.known_command.ensures c.carry_out-outcome.ensures.steps

@@ -1,7 +1,7 @@
 use Rattle.std.proofs.Common.{◌≤◌, ◌∙◌, true≢false, sym, ap, arith}
 use Rattle.std.proofs.lemmas.Bool.Decides.{nat_tests}
-use Rattle.hotel_statements.specs.SameSchema.{same_front}
-use Rattle.hotel_tables.proofs.MemoryDesk.{front_is_nine, nine_is_taken, nine_has}
+use Rattle.hotel_statements.specs.SameSchema.{same_prefix}
+use Rattle.hotel_tables.proofs.MemoryDesk.{prefix_is_nine, nine_is_taken, nine_has}
 use Rattle.hotel_tables.proofs.desk_schema.our_indexes.Goals as goal
 use Rattle.hotel_tables.proofs.desk_schema.our_indexes.Goals.{then-indexes-lt-KEYS-via-then-indexes-lt-KEYS}
 use Rattle.hotel_tables.proofs.desk_schema.our_indexes.Goals.{then-indexes-lt-KEYS-via-else-indexes-lt-KEYS+then-indexes}
@@ -18,17 +18,17 @@ returns-then-indexes-lt-KEYS-clause-none g c = λ _ count is.
           let more = w.if-indexes.true in absurd (grind (arith, nat_tests, more, high))
     ]
 
-pub returns-else-same_front-clause-none : goal.returns-else-same_front-clause-none
-returns-else-same_front-clause-none g c = λ _ count is.
+pub returns-else-same_prefix-clause-none : goal.returns-else-same_prefix-clause-none
+returns-else-same_prefix-clause-none g c = λ _ count is.
     let taken = nine_is_taken _ _ _ _ c.schema-schema.ensures.value c.schema.ensures.value c.requires count is in
-    let here = ap (λ n. same_front 9 n c.schema-schema.result.now c.schema.result.now) c.len-indexes.ensures in
-    true≢false (sym (c.same_front.ensures ∙ here ∙ taken) ∙ c.if-same_front.false)
+    let here = ap (λ n. same_prefix 9 n c.schema-schema.result.now c.schema.result.now) c.len-indexes.ensures in
+    true≢false (sym (c.same_prefix.ensures ∙ here ∙ taken) ∙ c.if-same_prefix.false)
 
-pub returns-then-same_front-clause-some : goal.returns-then-same_front-clause-some
-returns-then-same_front-clause-some g c =
+pub returns-then-same_prefix-clause-some : goal.returns-then-same_prefix-clause-some
+returns-then-same_prefix-clause-some g c =
     let less = c.if-indexes-lt-KEYS.false in
     let more = c.if-indexes.false in
     let low : 7 ≤ c.len-indexes.result = grind (arith, nat_tests, less) in
     let high : c.len-indexes.result ≤ 10 = grind (arith, nat_tests, more) in
-    front_is_nine _ _ _ _ c.len-indexes.result c.schema-schema.ensures.value c.schema.ensures.value c.requires low high
-    (sym c.same_front.ensures ∙ c.if-same_front.true)
+    prefix_is_nine _ _ _ _ c.len-indexes.result c.schema-schema.ensures.value c.schema.ensures.value c.requires low high
+    (sym c.same_prefix.ensures ∙ c.if-same_prefix.true)

@@ -15,6 +15,7 @@ loop-init g c = record {
   stays = λ honest clean. inl clean;
   counted = λ honest why. refl;
   kept = λ h. g.I.Kept.kept_refl _;
+  stop = g.I.Kept.no_more_refl _;
   so_far = λ h. so_far_none _ _;
 }
 
@@ -70,6 +71,7 @@ loop-preserved g c = record {
   kept = λ clean.
       g.I.Kept.kept_trans _ _ _ (c.loop.invariant.kept (c.is_issued.ensures.looks.leaves.since.was_clean clean))
       (c.is_issued.ensures.looks.kept clean);
+  stop = g.I.Kept.no_more_trans _ _ _ c.loop.invariant.stop c.is_issued.ensures.looks.stop;
   so_far = λ honest.
       let clean = c.in-Ok-true.ensures.looks.leaves.vouched honest refl in
       let so_far = c.loop.invariant.so_far (c.is_issued.ensures.looks.leaves.since.was_honest honest) in

@@ -16,5 +16,6 @@ invariant-loop g l =
       stays : is_honest l.issued → StaysClean g.I.Kept l.fn.issued l.issued;
       counted : is_honest l.issued → Counts (λ why. 0) (g.I.Kept.failures l.fn.issued) (g.I.Kept.failures l.issued);
       kept : is_clean l.issued → g.I.Kept.is_kept l.fn.issued l.issued;
+      stop : g.I.Kept.leaves_no_more l.fn.issued l.issued;
       so_far : is_honest l.issued → SoFar (issued l.fn.issued) (stream l.fn.source) l.counter (stream l.source);
     }

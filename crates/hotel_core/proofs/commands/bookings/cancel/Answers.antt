@@ -35,5 +35,6 @@ pub returns : goal.returns
 unfolding outcome_on
 returns g c = λ source.
     let booked : is_booked_state c.in_ok-stay.stay.state ≡ true = cc in
-    ends (then_found (then_found begun c.in_ok-today.ensures.finds) c.in_ok-stay.ensures) (c.make.ensures.steps source)
+    ends g.met.B.Books.change_after
+    (then_found (then_found begun c.in_ok-today.ensures.finds) c.in_ok-stay.ensures) (c.make.ensures.steps source)
     (λ k. rw (k.0.1, k.1, booked) refl)

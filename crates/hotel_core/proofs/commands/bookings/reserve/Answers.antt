@@ -118,7 +118,8 @@ returns g c = λ source.
     let span : c.in-Some.depart - c.args.arrive ≡ c.args.nights = omega (arith, leaving.0) in
     let free : c.in_ok-night.field-0 ≡ None = cc in
     let last : c.in-Some.depart ≡ c.args.arrive + c.args.nights = omega (arith, leaving.0) in
-    ends (then_found (then_found (then_found (then_found (then_found begun c.in_ok-today.ensures.finds)
+    ends g.met.B.Books.change_after
+    (then_found (then_found (then_found (then_found (then_found begun c.in_ok-today.ensures.finds)
     c.in_ok-is_kind.ensures) c.in_ok-night.ensures) c.in_ok-party.ensures) c.in_ok-guest.ensures)
     (c.make.ensures.steps source) (λ k. let full = rw span at (only k.0.0.1) in
     rw (k.0.0.0.0.1, only k.0.0.0.1, c.if-not-branch.false, past, late, full, free, k.0.1, number_is _ _ k.0.1)

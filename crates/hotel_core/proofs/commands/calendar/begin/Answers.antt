@@ -27,5 +27,5 @@ pub returns-clause-steps : goal.returns-clause-steps
 unfolding outcome_on
 returns-clause-steps g c = λ source.
     let unset : is_some c.in_ok-day_if_set.field-0 ≡ false = cc in
-    ends (then_found begun c.in_ok-day_if_set.ensures.finds) (c.make.ensures.steps source)
+    ends g.met.B.Books.change_after (then_found begun c.in_ok-day_if_set.ensures.finds) (c.make.ensures.steps source)
     (λ k. rw (only k.1, unset) refl)

@@ -33,5 +33,5 @@ unfolding outcome_on
 returns-clause-steps g c = λ source.
     let next = is_day (c.in_ok-day.day + 1) c.in-Some.next c.in-Some.ensures in
     let early : nat_lt c.in_ok-day.day 36524 ≡ true = grind (arith, nat_tests, next.1) in
-    ends (then_found begun c.in_ok-day.ensures.finds) (c.make.ensures.steps source)
+    ends g.met.B.Books.change_after (then_found begun c.in_ok-day.ensures.finds) (c.make.ensures.steps source)
     (λ k. rw (k.1, early) (ap (λ (n : ℕ). accepted (reply.DayIs n) (change.DayTo n)) (sym next.0)))

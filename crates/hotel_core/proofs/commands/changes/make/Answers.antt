@@ -1,6 +1,5 @@
 use Rattle.hotel_core.proofs.{OfCode.Parts.makes, OfCode.Parts.fails}
 use Rattle.hotel_model.proofs.RowsAfter.FitsAfter.{fits_after}
-use Rattle.hotel_model.specs.Outcome.{accepted}
 use Rattle.hotel_core.proofs.commands.changes.make.Goals as goal
 
 pub apply-requires : goal.apply-requires
@@ -10,9 +9,10 @@ apply-requires g c = λ clean.
 
 pub returns-in-Ok-clause-steps : goal.returns-in-Ok-clause-steps
 returns-in-Ok-clause-steps g c = λ source.
-    makes c.args.reply c.args.change source c.requires.is_answer c.in-Ok.ensures.whole c.in-Ok.ensures.leaves
+    makes c.args.reply c.args.change source c.known_reply.ensures c.requires.is_answer c.in-Ok.ensures.whole
+    c.in-Ok.ensures.leaves c.in-Ok.ensures.stop
 
 pub returns-in-Err-clause-steps : goal.returns-in-Err-clause-steps
 returns-in-Err-clause-steps g c = λ source.
-    fails (accepted c.args.reply c.args.change) c.in-Err.fault c.refusal_of.result source c.refusal_of.ensures
-    c.in-Err.ensures.whole c.in-Err.ensures.leaves
+    fails c.args.reply c.args.change c.in-Err.fault c.refusal_of.result source c.known_reply.ensures
+    c.requires.is_answer c.refusal_of.ensures c.in-Err.ensures.whole c.in-Err.ensures.leaves c.in-Err.ensures.stop

@@ -45,7 +45,8 @@ open-requires-clause-outcome g c =
 pub returns : goal.returns
 returns g c = λ source.
     let opens : is_some (turn c.in_ok-held.held c.args.link.now) ≡ true = sym c.opens.ensures ∙ c.if-not-opens.false in
-    ends (then_found (then_passed (given (IsUntaken c.args.note.now c.args.row.now) c.requires.untaken)
+    ends g.met.B.Books.change_after
+    (then_found (then_passed (given (IsUntaken c.args.note.now c.args.row.now) c.requires.untaken)
     c.in_ok-noted_card.ensures) (rw (room_is c.note.view_is) at c.in_ok-held.ensures))
     (c.open.ensures source)
     (λ k. bars_pass (bars_of_card (g.B.Books.rows c.args.books.now) c.args.number c.args.link.now) _ _ k.0.1

@@ -41,7 +41,8 @@ make-requires-clause-answered g c =
 pub returns : goal.returns
 returns g c = λ source.
     let insides = c.comes-insides.ensures in
-    ends (then_found (then_found (then_found (given (Known c.args.note.now c.args.row.now c.args.number c.args.link.now)
+    ends g.met.B.Books.change_after
+    (then_found (then_found (then_found (given (Known c.args.note.now c.args.row.now c.args.number c.args.link.now)
     c.requires.known) c.in_ok-lock_place.ensures) (rw (room_is c.note.view_is) at c.in_ok-secured.ensures))
     (rw (room_is c.note.view_is) at c.in_ok-is_inside.ensures))
     (c.make.ensures.steps source) (λ k. rw (k.0.0.0.0.0, k.0.0.1, ← only k.0.1, insides, only k.1, c.note.view_is) refl)

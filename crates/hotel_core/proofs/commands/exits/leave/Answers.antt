@@ -35,7 +35,8 @@ make-requires-clause-answered g c =
 
 pub returns : goal.returns
 returns g c = λ source.
-    ends (then_found (then_passed (given (IsUntaken c.args.note.now c.args.row.now) c.requires.untaken)
+    ends g.met.B.Books.change_after
+    (then_found (then_passed (given (IsUntaken c.args.note.now c.args.row.now) c.requires.untaken)
     c.in_ok-noted_card.ensures) (rw (room_is c.note.view_is) at c.in_ok-is_inside.ensures))
     (c.make.ensures.steps source)
     (λ k. bars_pass (bars_of_card (g.B.Books.rows c.args.books.now) c.args.number c.args.link.now) _ _ k.0.1

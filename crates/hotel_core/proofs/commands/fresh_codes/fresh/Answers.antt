@@ -5,4 +5,4 @@ pub returns : goal.returns
 returns g c =
     let d = c.draw_fresh-drawn.ensures in
     draws c.draw_fresh-drawn.result c.drawn_or.result c.drawn_or.ensures g.met.B.Books.kept_rows
-    g.met.B.Books.issued_are d.drawn d.kept d.leaves d.sure
+    g.met.B.Books.issued_are d.drawn d.kept d.leaves d.stop d.sure

@@ -53,7 +53,8 @@ issue-requires-clause-outcome g c =
 pub returns : goal.returns
 unfolding outcome_on
 returns g c =
-    ends (then_found (then_found (then_found begun c.in_ok-day.ensures.finds) c.in_ok-row.ensures) c.in_ok-stay.ensures)
+    ends g.met.B.Books.change_after
+    (then_found (then_found (then_found begun c.in_ok-day.ensures.finds) c.in_ok-row.ensures) c.in_ok-stay.ensures)
     c.issue.ensures
     (λ k. rw (k.0.0.1, k.0.1, k.1)
     (bars_pass (bars_to_check_in c.in_ok-day.day c.in_ok-row.row c.in_ok-stay.stay) _ _ c.in_ok-may_check_in.ensures))

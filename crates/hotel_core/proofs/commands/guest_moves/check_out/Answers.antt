@@ -44,5 +44,6 @@ pub returns : goal.returns
 unfolding outcome_on
 returns g c = λ source.
     let home : room_of_state c.in_ok-stay.stay.state ≡ Some c.in-Some.room = cc in
-    ends (then_found (then_found (then_found begun c.in_ok-today.ensures.finds) c.in_ok-stay.ensures)
+    ends g.met.B.Books.change_after
+    (then_found (then_found (then_found begun c.in_ok-today.ensures.finds) c.in_ok-stay.ensures)
     c.in_ok-row_of.ensures) (c.make.ensures.steps source) (λ k. rw (k.0.0.1, k.0.1, home) refl)

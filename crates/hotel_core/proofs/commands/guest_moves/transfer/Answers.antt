@@ -67,7 +67,8 @@ pub returns : goal.returns
 unfolding outcome_on
 returns g c =
     let home : room_of_state c.in_ok-stay.stay.state ≡ Some c.in-Some.home = cc in
-    ends (then_found (then_found (then_found begun c.in_ok-today.ensures.finds) c.in_ok-row.ensures)
+    ends g.met.B.Books.change_after
+    (then_found (then_found (then_found begun c.in_ok-today.ensures.finds) c.in_ok-row.ensures)
     c.in_ok-stay.ensures) c.issue.ensures
     (λ k. rw (k.0.0.1, k.0.1, k.1, home)
     (bars_pass (bars_to_transfer c.args.party c.in_ok-row.row c.in_ok-stay.stay) _ _ c.in_ok-may_transfer.ensures))

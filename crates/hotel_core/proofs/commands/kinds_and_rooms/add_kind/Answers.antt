@@ -34,5 +34,5 @@ pub returns : goal.returns
 unfolding outcome_on
 returns g c = λ source.
     let there = c.if-branch.false in
-    ends (then_found (then_found begun c.in_ok-today.ensures.finds) c.in_ok-is_kind.ensures)
+    ends g.met.B.Books.change_after (then_found (then_found begun c.in_ok-today.ensures.finds) c.in_ok-is_kind.ensures)
     (c.make.ensures.steps source) (λ k. rw (k.0.1, only k.1, there) refl)

@@ -67,7 +67,8 @@ pub returns : goal.returns
 unfolding outcome_on
 returns g c =
     let there : is_some c.in_ok-room_if_there.field-0 ≡ false = cc in
-    drawn_ends (λ code. reply.RoomAdded code) (λ code. change.Room c.args.room c.args.kind.now code)
+    drawn_ends g.met.B.Books.change_after
+    (λ code. reply.RoomAdded code) (λ code. change.Room c.args.room c.args.kind.now code)
     (then_found (then_found (then_found begun c.in_ok-today.ensures.finds) c.in_ok-is_kind.ensures)
     c.in_ok-room_if_there.ensures) c.in_ok-code.ensures (c.make.ensures.steps _)
     (λ k. rw (k.0.0.1, only k.0.1, c.if-not-branch.false, only k.1, there) refl)

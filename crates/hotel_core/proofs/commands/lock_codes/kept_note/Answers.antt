@@ -22,6 +22,7 @@ returns-then-is_past g c =
       vouched = λ honest _. c.requires.vouched honest;
       stays = λ honest clean. inl clean;
       counted = λ honest w why. none_more None why _ _ refl refl;
+      stop = g.B.Kept.no_more_refl _;
     }
 
 pub returns : goal.returns

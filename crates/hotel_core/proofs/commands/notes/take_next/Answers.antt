@@ -12,7 +12,8 @@ enter-requires-clause-outcome g c = λ clean.
 
 pub returns-in-Entered : goal.returns-in-Entered
 returns-in-Entered g c = λ source.
-    ends (given (IsUntaken c.args.note.now c.args.row.now) c.requires.untaken) (c.enter.ensures source)
+    ends g.met.B.Books.change_after
+    (given (IsUntaken c.args.note.now c.args.row.now) c.requires.untaken) (c.enter.ensures source)
     (λ k. next_told (g.B.Books.rows c.args.books.now) c.args.note.now c.args.row.now _ c.requires.next k.0
     (sym c.in-Entered.is ∙ act_is c.note.view_is))
 
@@ -23,7 +24,8 @@ leave-requires-clause-outcome g c = λ clean.
 
 pub returns-in-Left : goal.returns-in-Left
 returns-in-Left g c = λ source.
-    ends (given (IsUntaken c.args.note.now c.args.row.now) c.requires.untaken) (c.leave.ensures source)
+    ends g.met.B.Books.change_after
+    (given (IsUntaken c.args.note.now c.args.row.now) c.requires.untaken) (c.leave.ensures source)
     (λ k. next_told (g.B.Books.rows c.args.books.now) c.args.note.now c.args.row.now _ c.requires.next k.0
     (sym c.in-Left.is ∙ act_is c.note.view_is))
 
@@ -34,6 +36,7 @@ recode-requires-clause-outcome g c = λ clean.
 
 pub returns-in-Recoded : goal.returns-in-Recoded
 returns-in-Recoded g c = λ source.
-    ends (given (IsUntaken c.args.note.now c.args.row.now) c.requires.untaken) (c.recode.ensures source)
+    ends g.met.B.Books.change_after
+    (given (IsUntaken c.args.note.now c.args.row.now) c.requires.untaken) (c.recode.ensures source)
     (λ k. next_told (g.B.Books.rows c.args.books.now) c.args.note.now c.args.row.now _ c.requires.next k.0
     (sym c.in-Recoded.is ∙ act_is c.note.view_is))

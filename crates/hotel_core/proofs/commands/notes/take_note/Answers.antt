@@ -81,7 +81,7 @@ returns-in_err-check_next-in-None g c = λ source.
 
 pub returns-in_ok-check_next-in-None : goal.returns-in_ok-check_next-in-None
 returns-in_ok-check_next-in-None g c = λ source.
-    ends (then_found (then_found (then_found begun c.in_ok-today.ensures.finds)
+    ends g.met.B.Books.change_after (then_found (then_found (then_found begun c.in_ok-today.ensures.finds)
     (rw (room_is c.note.view_is) at c.in_ok-row.ensures)) c.in_ok-kept.ensures)
     (c.take_next.ensures source) (λ k. reported_there _ _ _ _ _ None k.0.0.1 k.0.1
     (sym c.is_fit.ensures ∙ c.if-not-is_fit.false) (only k.1 ∙ c.in-None.is))

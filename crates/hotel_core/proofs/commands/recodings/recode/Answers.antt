@@ -53,6 +53,7 @@ returns g c = λ source.
     let later : ((c.in_ok-awaited.awaited.room == c.args.note.now.room)
     && nat_lt c.args.row.now.lock_place c.in_ok-awaited.awaited.place) ≡ true =
     rw (room_is c.note.view_is) at (sym c.is_awaited.ensures ∙ c.if-not-is_awaited.false) in
-    ends (then_found (then_found (given (IsUntaken c.args.note.now c.args.row.now) c.requires.untaken)
+    ends g.met.B.Books.change_after
+    (then_found (then_found (given (IsUntaken c.args.note.now c.args.row.now) c.requires.untaken)
     (rw (room_is c.note.view_is) at c.in_ok-held.ensures)) c.in_ok-awaited.ensures)
     (c.make.ensures.steps source) (λ k. rw (k.0.0.0, k.0.1, same, k.1, later, c.note.view_is) refl)

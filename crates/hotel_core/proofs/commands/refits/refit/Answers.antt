@@ -67,7 +67,8 @@ unfolding outcome_on
 returns g c =
     let free : is_some c.in_ok-row.row.party ≡ false = cc in
     let left = is_left c.in_ok-row.row.fit c.in-Some.fit _ c.next.ensures c.in-Some.is in
-    drawn_ends (λ code. reply.Refitted code c.in-Some.fit) (λ code. change.Refit c.args.room code c.in-Some.fit)
+    drawn_ends g.met.B.Books.change_after
+    (λ code. reply.Refitted code c.in-Some.fit) (λ code. change.Refit c.args.room code c.in-Some.fit)
     (then_found (then_found begun c.in_ok-today.ensures.finds) c.in_ok-row.ensures)
     c.in_ok-code.ensures (c.make.ensures.steps _)
     (λ k. rw (k.0.1, k.1, free, left.0) (ap (λ n. by_draw

@@ -47,7 +47,7 @@ make-requires-clause-answered g c =
 pub returns : goal.returns
 unfolding outcome_on
 returns g c =
-    drawn_ends (λ code. reply.Issued
+    drawn_ends g.met.B.Books.change_after (λ code. reply.Issued
     (card_of c.in_ok-number.number c.args.party (linked c.in_ok-old_code.old_code code))) (λ code. change.Issue
     (card_of c.in_ok-number.number c.args.party (linked c.in_ok-old_code.old_code code)) c.args.room c.args.leaves)
     (then_found (then_found (given (λ rs. room_at rs c.args.room ≡ Some c.args.row.now) c.requires.there)

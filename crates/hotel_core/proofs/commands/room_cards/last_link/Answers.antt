@@ -9,4 +9,7 @@ returns-in_err-new_code g c = record {
   vouched = search rules;
   stays = search rules;
   counted = search rules;
+  stop = g.B.Kept.no_more_trans _ _ _
+      (g.B.Kept.no_more_trans _ _ _ c.in_ok-row.ensures.stop c.in_ok-old_code.ensures.stop)
+      c.in_err-new_code.ensures.stop;
 }

@@ -1,15 +1,14 @@
-use Rattle.std.proofs.Common.{◌≡◌, ◌&&◌, ◌∙◌, true, false, ap, length, nat_cmp, nat_le, rules, sym}
+use Rattle.std.proofs.Common.{◌≡◌, ◌∙◌, true, false, length, nat_cmp, nat_le, rules, sym}
 use Rattle.keycard_rules.specs.declared.numbers.TheConstants.{LAST_NUMBER}
 use Rattle.hotel_model.specs.SoundRooms.{are_in_order, count_up}
-use Rattle.hotel_rows.proofs.OfDamage.NumberedRise.{counts_rise, uncounted}
+use Rattle.hotel_rows.proofs.{OfCounts.Untold.amid_fails, OfDamage.NumberedRise.counts_rise}
 use Rattle.hotel_rows.proofs.damage.numbers.are_numbered.Goals as goal
 
 pub returns-then-not-count_from_one : goal.returns-then-not-count_from_one
 returns-then-not-count_from_one c =
     let keys = c.args.keys.now in
     let fails : count_up 1 keys ≡ false = sym c.count_from_one.ensures ∙ c.if-not-count_from_one.true in
-    uncounted (are_in_order nat_cmp keys) _
-    ∙ ap (λ z. are_in_order nat_cmp keys && z && nat_le (length keys) LAST_NUMBER) (sym fails)
+    sym (amid_fails (are_in_order nat_cmp keys) (count_up 1 keys) (nat_le (length keys) LAST_NUMBER) fails)
 
 pub returns : goal.returns
 returns c =

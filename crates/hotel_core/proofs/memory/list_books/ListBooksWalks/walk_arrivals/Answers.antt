@@ -7,4 +7,4 @@ pub returns : goal.returns
 returns g c =
     let hands : Hands g.S.Sink.after g.S.Sink.after_stop (arrivals_on c.args.self.now.rows c.args.day) c.args.sink.now
     c.walk_arrivals.new.sink c.walk_arrivals.result = search rules in
-    still_walks _ _ _ _ _ _ _ _ _ tt tt c.walk_arrivals.ensures.sure hands
+    still_walks _ _ _ _ _ _ _ _ _ tt c.walk_arrivals.ensures.sure hands

@@ -7,4 +7,4 @@ pub returns : goal.returns
 returns g c =
     let hands : Hands g.S.Sink.after g.S.Sink.after_stop (notes_at c.args.self.now.rows.notes c.args.room)
     c.args.sink.now c.walk_audit.new.sink c.walk_audit.result = search rules in
-    still_walks _ _ _ _ _ _ _ _ _ tt tt c.walk_audit.ensures.sure hands
+    still_walks _ _ _ _ _ _ _ _ _ tt c.walk_audit.ensures.sure hands

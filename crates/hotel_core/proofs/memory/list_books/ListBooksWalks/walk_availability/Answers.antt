@@ -8,4 +8,4 @@ pub returns : goal.returns
 returns g c =
     let hands : Hands g.S.Sink.after g.S.Sink.after_stop (availability_on c.args.self.now.rows c.args.day c.args.nights)
     c.args.sink.now c.walk_availability.new.sink c.walk_availability.result = search rules in
-    still_walks _ _ _ _ _ _ _ _ _ tt tt c.walk_availability.ensures.sure hands
+    still_walks _ _ _ _ _ _ _ _ _ tt c.walk_availability.ensures.sure hands

@@ -8,4 +8,4 @@ pub returns : goal.returns
 returns g c =
     let hands : Hands g.S.Sink.after g.S.Sink.after_stop (cards_given_on c.args.self.now.rows c.args.party)
     c.args.sink.now c.walk_cards_given.new.sink c.walk_cards_given.result = search rules in
-    still_walks _ _ _ _ _ _ _ _ _ tt tt c.walk_cards_given.ensures.sure hands
+    still_walks _ _ _ _ _ _ _ _ _ tt c.walk_cards_given.ensures.sure hands

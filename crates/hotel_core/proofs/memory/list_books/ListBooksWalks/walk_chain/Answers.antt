@@ -7,4 +7,4 @@ pub returns : goal.returns
 returns g c =
     let hands : Hands g.S.Sink.after g.S.Sink.after_stop (chain_on c.args.self.now.rows c.args.room) c.args.sink.now
     c.walk_chain.new.sink c.walk_chain.result = search rules in
-    still_walks _ _ _ _ _ _ _ _ _ tt tt c.walk_chain.ensures.sure hands
+    still_walks _ _ _ _ _ _ _ _ _ tt c.walk_chain.ensures.sure hands

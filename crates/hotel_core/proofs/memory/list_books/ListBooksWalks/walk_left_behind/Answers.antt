@@ -7,4 +7,4 @@ pub returns : goal.returns
 returns g c =
     let hands : Hands g.S.Sink.after g.S.Sink.after_stop (left_behind_on c.args.self.now.rows) c.args.sink.now
     c.walk_left_behind.new.sink c.walk_left_behind.result = search rules in
-    still_walks _ _ _ _ _ _ _ _ _ tt tt c.walk_left_behind.ensures.sure hands
+    still_walks _ _ _ _ _ _ _ _ _ tt c.walk_left_behind.ensures.sure hands

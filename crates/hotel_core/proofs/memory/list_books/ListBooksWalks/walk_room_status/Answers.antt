@@ -8,4 +8,4 @@ pub returns : goal.returns
 returns g c =
     let hands : Hands g.S.Sink.after g.S.Sink.after_stop (room_status_on c.args.self.now.rows) c.args.sink.now
     c.walk_room_status.new.sink c.walk_room_status.result = search rules in
-    still_walks _ _ _ _ _ _ _ _ _ tt tt c.walk_room_status.ensures.sure hands
+    still_walks _ _ _ _ _ _ _ _ _ tt c.walk_room_status.ensures.sure hands
