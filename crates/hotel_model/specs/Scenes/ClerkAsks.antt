@@ -1,15 +1,20 @@
--- The scenario "clerk-asks": what day it is, what is free, what is booked, how the rooms stand and who is inside.
+-- The scenario "clerk-asks": what day it is, what is free, what is booked, how the rooms stand and who is inside; whose
+-- a card is, and which notes of the locks were taken.
 use Rattle.std.specs.Prelude.{List, [], ◌∷◌, Some, None, true, false, codes}
 use Rattle.keycard_rules.specs.declared.note.TheConstants.{LAST_DAY}
 use Rattle.hotel_nights.specs.declared.stay.StayState.TheVariants.{Booked}
 use Rattle.hotel_model.specs.Scenes.Words.{may, a0, a1, a2, DBL, SGL, begin, add_kind, add_room, reserve, check_in}
 use Rattle.hotel_model.specs.Scenes.Words.{check_out, next_day, entered, begun, kind_added, room_code, party, card, day}
-use Rattle.hotel_model.specs.Scenes.Words.{taken, checked_out, status, free}
-use Rattle.hotel_model.specs.Scenes.Lines.{Line, ◌⇒◌, BusinessDay, RoomStatus, Inside, Bookings, Availability, Holds}
+use Rattle.hotel_model.specs.Scenes.Words.{taken, checked_out, status, free, card_of, lock_noted}
+use Rattle.hotel_model.specs.Scenes.Lines.{Line, ◌⇒◌, BusinessDay, RoomStatus, Inside, Bookings, Availability, Cards}
+use Rattle.hotel_model.specs.Scenes.Lines.{OneCard, Locks, Holds}
 
 abbrev pub lines : List Line
 lines =
     BusinessDay []
+    ∷ Cards 1 []
+    ∷ OneCard 1 []
+    ∷ Locks []
     ∷ begin (may 1) ⇒ begun
     ∷ BusinessDay (may 1 ∷ [])
     ∷ add_kind DBL ⇒ kind_added
@@ -31,13 +36,20 @@ lines =
     } ∷ [])
     ∷ next_day ⇒ day (may 2)
     ∷ check_in 1 101 ⇒ card 1 1 a0 a1
+    ∷ OneCard 1 (record { card = card_of 1 1 a0 a1; guest = codes "Ann" } ∷ [])
+    ∷ OneCard 2 []
+    ∷ Cards 1 (card_of 1 1 a0 a1 ∷ [])
+    ∷ Cards 2 []
+    ∷ Locks (lock_noted 101 1 0 None ∷ [])
     ∷ Bookings []
     ∷ Availability (may 2) 1 (free DBL 1 0 ∷ free SGL 0 0 ∷ [])
     ∷ RoomStatus (status 101 (Some 1) false 1 ∷ [])
     ∷ entered 101 1 1 a0 a1 (may 2, 54000) ⇒ taken
     ∷ RoomStatus (status 101 (Some 1) true 0 ∷ [])
     ∷ Inside (record { room = 101; card = 1; party = 1 } ∷ [])
+    ∷ Locks (lock_noted 101 1 1 (Some (may 2, 54000)) ∷ [])
     ∷ check_out 1 ⇒ checked_out
+    ∷ OneCard 1 (record { card = card_of 1 1 a0 a1; guest = codes "Ann" } ∷ [])
     ∷ RoomStatus (status 101 None true 0 ∷ [])
     ∷ Inside (record { room = 101; card = 1; party = 1 } ∷ [])
     ∷ []

@@ -6,6 +6,7 @@ use Rattle.hotel_model.specs.declared.reply.Reply.TheVariants as reply
 use Rattle.hotel_model.specs.declared.reply.Refusal.{Refusal}
 use Rattle.hotel_model.specs.declared.reply.Refusal.TheVariants.{NoFreshCode}
 use Rattle.keycard_rules.specs.declared.draw.TheConstants.{MOST_WORDS}
+use Rattle.keycard_rules.specs.declared.card.Card.{Card}
 use Rattle.keycard_rules.specs.Note.{Note}
 use Rattle.hotel_nights.specs.declared.stay.Stay.{Stay}
 use Rattle.hotel_model.specs.declared.list_rows.ChainRow.{ChainRow}
@@ -14,13 +15,15 @@ use Rattle.hotel_model.specs.declared.list_rows.BehindRow.{BehindRow}
 use Rattle.hotel_model.specs.declared.list_rows.StatusRow.{StatusRow}
 use Rattle.hotel_model.specs.declared.list_rows.InsideRow.{InsideRow}
 use Rattle.hotel_model.specs.declared.list_rows.FreeRow.{FreeRow}
+use Rattle.hotel_model.specs.declared.list_rows.CardRow.{CardRow}
+use Rattle.hotel_model.specs.declared.list_rows.LockRow.{LockRow}
 use Rattle.hotel_model.specs.Rows.{no_rows}
 use Rattle.hotel_model.specs.Event.{Event}
 use Rattle.hotel_model.specs.History.{History, start}
 use Rattle.hotel_model.specs.Outcome.{Outcome, grown, refused}
 use Rattle.hotel_model.specs.Answer.{answer_to}
 use Rattle.hotel_model.specs.Lists.{arrivals, in_house, chain, left_behind, business_day, room_status, cards_inside}
-use Rattle.hotel_model.specs.Lists.{bookings, availability}
+use Rattle.hotel_model.specs.Lists.{bookings, availability, cards_given, card_rows, locks}
 use Rattle.hotel_model.specs.Notes.{notes}
 use Rattle.hotel_model.specs.Cases.{is_room}
 use Rattle.hotel_model.specs.Scenes.Kept.{rows_made, rows_read, always_kept}
@@ -41,6 +44,9 @@ pub data Line : Type 0 where
   Inside : List InsideRow → Line
   Bookings : List Stay → Line
   Availability : (day nights : ℕ) → List FreeRow → Line
+  Cards : (party : ℕ) → List Card → Line
+  OneCard : (number : ℕ) → List CardRow → Line
+  Locks : List LockRow → Line
   -- the list of a room's codes, where the room isn't there
   NoChain : (room : ℕ) → Line
 
@@ -79,6 +85,9 @@ play h ahead (Inside _ ∷ lines) = first_line (Inside (cards_inside h)) (play h
 play h ahead (Bookings _ ∷ lines) = first_line (Bookings (bookings h)) (play h ahead lines)
 play h ahead (Availability day nights _ ∷ lines) =
     first_line (Availability day nights (availability h day nights)) (play h ahead lines)
+play h ahead (Cards party _ ∷ lines) = first_line (Cards party (cards_given h party)) (play h ahead lines)
+play h ahead (OneCard number _ ∷ lines) = first_line (OneCard number (card_rows h number)) (play h ahead lines)
+play h ahead (Locks _ ∷ lines) = first_line (Locks (locks h)) (play h ahead lines)
 play h ahead (NoChain room ∷ lines) = first_line (chain_line (is_room h room) room (chain h room)) (play h ahead lines)
 
 -- the words that give these codes, and then the code that comes for ever

@@ -1,6 +1,7 @@
 -- The words of the scenes: commands and replies in the order of a script's words, days, codes, guests and the rows of
 -- lists.
 use Rattle.std.specs.Prelude.{ℕ, Bool, List, Option, ◌+◌, codes}
+use Rattle.keycard_rules.specs.declared.card.Card.{Card}
 use Rattle.keycard_rules.specs.declared.card.Link.{Link}
 use Rattle.keycard_rules.specs.Note.{Note}
 use Rattle.keycard_rules.specs.declared.note.Act.{Act}
@@ -16,6 +17,7 @@ use Rattle.hotel_model.specs.declared.list_rows.CodeState.TheVariants.{Passed, H
 use Rattle.hotel_model.specs.declared.list_rows.HouseRow.{HouseRow}
 use Rattle.hotel_model.specs.declared.list_rows.StatusRow.{StatusRow}
 use Rattle.hotel_model.specs.declared.list_rows.FreeRow.{FreeRow}
+use Rattle.hotel_model.specs.declared.list_rows.LockRow.{LockRow}
 
 -- ---- values
 
@@ -161,8 +163,11 @@ party number = reply.Reserved number
 abbrev pub cancelled : Reply
 cancelled = reply.Cancelled
 
+abbrev pub card_of : ℕ → ℕ → ℕ → ℕ → Card
+card_of number its_party old new = record { number = number; party = its_party; link = link old new }
+
 abbrev pub card : ℕ → ℕ → ℕ → ℕ → Reply
-card number its_party old new = reply.Issued (record { number = number; party = its_party; link = link old new })
+card number its_party old new = reply.Issued (card_of number its_party old new)
 
 abbrev pub checked_out : Reply
 checked_out = reply.CheckedOut
@@ -206,3 +211,7 @@ status room its_party secured codes_awaited =
 -- a kind with so many rooms, free for so many bookings
 abbrev pub free : List ℕ → ℕ → ℕ → FreeRow
 free kind rooms bookings = record { kind = kind; rooms = rooms; free = bookings }
+
+-- the present lock of a room, so many of whose notes were taken, the last of this moment
+abbrev pub lock_noted : ℕ → ℕ → ℕ → Option Moment → LockRow
+lock_noted room fit count at = record { room = room; fit = fit; count = count; at = at }
