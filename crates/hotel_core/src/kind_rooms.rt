@@ -78,8 +78,6 @@ impl KindRooms {
         ensures same { is_there self.old kind ≡ true → self.new ≡ self.old }
         ensures kinds { is_there self.old kind ≡ false →
             OnOk result (keys_of self.new ≡ insert_key (slice_cmp nat_cmp) (keys_of self.old) kind) }
-        ensures there { OnOk result (is_there self.new kind ≡ true) }
-        ensures others { (k : List ℕ) → is_there self.old k ≡ true → is_there self.new k ≡ true }
         ensures rooms { (k : List ℕ) → rooms_in self.new k ≡ rooms_in self.old k }
         ensures err { OnErr result (self.new ≡ self.old) }
         ensures sure { is_there self.old kind ≡ true → IsOk result }

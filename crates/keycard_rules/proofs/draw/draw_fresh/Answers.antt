@@ -1,7 +1,7 @@
 use Rattle.std.proofs.Common.{◌≡◌, ℕ, refl, inl, sym, ap, ◌∙◌, arith, ◌+◌, Some}
 use Rattle.keycard_rules.specs.Draw.{Draw}
 use Rattle.keycard_rules.proofs.Drawing.{past-zero, past-next, so_far_none, so_far_more, found, examines, moved_on}
-use Rattle.keycard_rules.proofs.Drawing.{no_more, answer_at, draw_is, drawn-none}
+use Rattle.keycard_rules.proofs.Drawing.{no_more, answer_at, draw_is}
 use Rattle.keycard_rules.proofs.Sinces.{risen_later, since_refl, since_then, stays_then}
 use Rattle.keycard_rules.specs.declared.issued.LookFault.TheVariants as look
 use Rattle.keycard_rules.proofs.CallsTogether.{counted_none}
@@ -85,11 +85,6 @@ pub returns-clause-drawn : goal.returns-clause-drawn
 returns-clause-drawn g c = λ honest.
     let d = no_more _ _ _ _ (c.loop.invariant.so_far honest) c.loop-test.false in
     draw_is _ _ _ _ _ d ((c.loop.invariant.so_far honest).moved)
-
-pub returns-clause-none_fresh : goal.returns-clause-none_fresh
-returns-clause-none_fresh g c = λ honest is.
-    let d = no_more _ _ _ _ (c.loop.invariant.so_far honest) c.loop-test.false in
-    drawn-none _ _ (ap (λ (x : Draw). x.code) d)
 
 pub returns-in-Ok-false-clause-moved : goal.returns-in-Ok-false-clause-moved
 returns-in-Ok-false-clause-moved g c =
