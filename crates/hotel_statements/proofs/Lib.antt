@@ -1,4 +1,5 @@
 pub mod Answers
+pub mod InOrder
 pub mod Perm
 pub mod Joins
 mod Keys

@@ -1,5 +1,5 @@
 -- What the rows of a table are, where its plain rows are such as the books write.
-use Rattle.std.proofs.Common.{◌≡◌, sym, ap, subst, ◌∙◌, List, [], ◌∷◌, map, true, Less, Ordering, is_eq}
+use Rattle.std.proofs.Common.{◌≡◌, sym, ap, subst, ◌∙◌, List, [], ◌∷◌, map, true, false, Less, Ordering, is_eq}
 use Rattle.std.specs.List.{AllByRecursion}
 use Rattle.std.specs.List.Sorted.{IsPermutation}
 use Rattle.std.specs.Cmp.{IsTotalOrder}
@@ -44,6 +44,26 @@ module _ {L X : Type 0} (cmp : X → X → Ordering) (total : IsTotalOrder cmp) 
   abbrev pub IsGood : L → Type 0
   IsGood l = (shown l ≡ written (entry l)) × (of (shown l) ≡ entry l)
 
+  -- what the rows say is what the plain rows stand for
+  entries_are : (plain_rows : List L) (rows : List Row) → ArePlainRows columns shown plain_rows rows
+      → AllByRecursion IsGood plain_rows → IsPermutation (map (λ r. of (columns r)) rows) (map entry plain_rows)
+  entries_are plain_rows rows same all =
+      let first : IsPermutation (map of (map columns rows)) (map of (map shown plain_rows)) =
+      IsPermutation-map of _ _ same in
+      let moved : IsPermutation (map (λ r. of (columns r)) rows) (map of (map shown plain_rows)) =
+      subst (λ xs. IsPermutation xs (map of (map shown plain_rows))) (map-map of columns rows) first in
+      subst (λ ys. IsPermutation (map (λ r. of (columns r)) rows) ys)
+      (map-map of shown plain_rows ∙ map_all (λ l. of (shown l)) entry plain_rows
+      (all_weaker IsGood _ (λ l good. good.1) plain_rows all)) moved
+
+  -- no two plain rows of a table have one key
+  pub plain_apart : (plain_rows : List L) (rows : List Row) → IsTable cmp columns of written rows
+      → ArePlainRows columns shown plain_rows rows → AllByRecursion IsGood plain_rows
+      → IsAscending (λ a b. is_eq (cmp (entry a) (entry b)) ≡ false) plain_rows
+  plain_apart plain_rows rows t same all =
+      ascending_from_map _ entry plain_rows
+      (apart_permuted cmp total _ _ (entries_are plain_rows rows same all) t.apart)
+
   pub read_back : (plain_rows : List L) (rows : List Row)
       → ArePlainRows columns shown plain_rows rows → AllByRecursion IsGood plain_rows
       → IsAscending (λ a b. cmp a b ≡ Less) (map entry plain_rows)
@@ -53,14 +73,7 @@ module _ {L X : Type 0} (cmp : X → X → Ordering) (total : IsTotalOrder cmp) 
       (every_shuffled (λ v. v ≡ written (of v)) (map shown plain_rows) (map columns rows) (IsPermutation-sym _ _ same)
       (all_map _ shown plain_rows
       (all_weaker IsGood _ (λ l good. good.0 ∙ ap written (sym good.1)) plain_rows all))) in
-      let first : IsPermutation (map of (map columns rows)) (map of (map shown plain_rows)) =
-      IsPermutation-map of _ _ same in
-      let moved : IsPermutation (map (λ r. of (columns r)) rows) (map of (map shown plain_rows)) =
-      subst (λ xs. IsPermutation xs (map of (map shown plain_rows))) (map-map of columns rows) first in
-      let mapped : IsPermutation (map (λ r. of (columns r)) rows) (map entry plain_rows) =
-      subst (λ ys. IsPermutation (map (λ r. of (columns r)) rows) ys)
-      (map-map of shown plain_rows ∙ map_all (λ l. of (shown l)) entry plain_rows
-      (all_weaker IsGood _ (λ l good. good.1) plain_rows all)) moved in
+      let mapped = entries_are plain_rows rows same all in
       let apart : AreApart cmp (map entry plain_rows) =
       ascending_weaker _ _ (λ a b less. ap is_eq less) (map entry plain_rows) up in
       let own = apart_permuted cmp total _ _ (IsPermutation-sym _ _ mapped) apart in (

@@ -4,7 +4,7 @@ use Rattle.std.specs.Prelude.{string_bytes}
 use Rattle.std.specs.Ordering.{nat_cmp, int_cmp, ordering_then}
 use Rattle.std.specs.declared.cmp.Ordering.{Ordering}
 use Rattle.std.specs.Cmp.Lexicographic.{slice_cmp}
-use Rattle.std.specs.List.Sorted.{IsPermutation}
+use Rattle.std.specs.List.Sorted.{IsPermutation, IsSorted}
 use Rattle.sqlite_value.specs.declared.value.Value.{Value}
 use Rattle.sqlite_value.specs.declared.value.Value.TheVariants.{Null, Int, Text}
 use Rattle.sqlite.specs.Order.{Row, column}
@@ -83,6 +83,9 @@ first_eight r =
 
 -- ---- the order of the keys, as they are stored
 
+abbrev pub meta_order : PlainMeta → PlainMeta → Ordering
+meta_order a b = int_cmp a.id b.id
+
 abbrev pub kind_order : PlainKind → PlainKind → Ordering
 kind_order a b = slice_cmp nat_cmp (string_bytes a.kind) (string_bytes b.kind)
 
@@ -100,6 +103,9 @@ card_order a b = int_cmp a.number b.number
 
 abbrev pub inside_order : PlainInside → PlainInside → Ordering
 inside_order a b = ordering_then (int_cmp a.room b.room) (int_cmp a.card b.card)
+
+abbrev pub numbered_order : NumberedInside → NumberedInside → Ordering
+numbered_order a b = inside_order a.plain b.plain
 
 abbrev pub note_order : PlainNote → PlainNote → Ordering
 note_order a b = ordering_then (int_cmp a.room b.room) (int_cmp a.n b.n)
@@ -149,3 +155,8 @@ fit_natural l = is_natural l.room && is_natural l.fit && is_natural l.place && i
 -- the plain rows are those of the tree, in some order
 abbrev pub ArePlainRows : {L : Type 0} → (Row → Row) → (L → Row) → List L → List Row → Type 0
 ArePlainRows columns shown plain_rows rows = IsPermutation (map columns rows) (map shown plain_rows)
+
+-- and they are in the order of their keys
+abbrev pub AreRowsInOrder : {L : Type 0} → (Row → Row) → (L → Row) → (L → L → Ordering) → List L → List Row → Type 0
+AreRowsInOrder columns shown order plain_rows rows =
+    ArePlainRows columns shown plain_rows rows × IsSorted order plain_rows

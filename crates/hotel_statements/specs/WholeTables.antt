@@ -1,7 +1,7 @@
 -- What is read of whole tables, and what the reading promises.
 use Rattle.std.specs.Prelude.{◌≡◌, ◌⊎◌, ◌++◌, ℕ, false, List, [], map, Option, Some, None, Result, IfOk, OnOk, IsTrue}
 use Rattle.std.specs.Prelude.{Vec}
-use Rattle.std.specs.List.Sorted.{IsPermutation}
+use Rattle.std.specs.declared.cmp.Ordering.{Ordering}
 use Rattle.std.specs.declared.alloc.Global.{Global}
 use Rattle.sqlite.specs.Order.{Row}
 use Rattle.sqlite.specs.Tree.{Trees}
@@ -28,7 +28,9 @@ use Rattle.hotel_statements.specs.Schema.{HasTablesOf}
 use Rattle.hotel_statements.specs.Columns.{meta_columns, kind_columns, room_columns, stay_columns, code_columns}
 use Rattle.hotel_statements.specs.Columns.{card_columns, note_columns, fit_columns}
 use Rattle.hotel_statements.specs.PlainRows.{meta_shown, kind_shown, room_shown, stay_shown, code_shown, card_shown}
-use Rattle.hotel_statements.specs.PlainRows.{numbered_columns, numbered_shown, note_shown, fit_shown, ArePlainRows}
+use Rattle.hotel_statements.specs.PlainRows.{numbered_columns, numbered_shown, note_shown, fit_shown, AreRowsInOrder}
+use Rattle.hotel_statements.specs.PlainRows.{meta_order, kind_order, room_order, stay_order, code_order, card_order}
+use Rattle.hotel_statements.specs.PlainRows.{numbered_order, note_order, fit_order}
 use Rattle.hotel_statements.specs.LookUps.{AsksOf, FailsIn, HasCause, LeavesNoMore}
 use Rattle.hotel_statements.specs.Texts as text
 use Rattle.hotel_statements.specs.Books.{IsKept, KeepsRows}
@@ -38,13 +40,14 @@ pub record IsOurs (version : Version) (s : State) : Type 0 where
   pub autocommit : s.in_transaction ≡ false
   pub tables : IsKept s → HasTablesOf version s.now.schema × (s.now ≡ s.committed)
 
--- The text reads a whole table of a desk of a version, whatever indexes it has: to it that is a query, whose answer has
--- the columns of the tree's rows, in some order.
-pub record IsWhole (version : Version) (text : List ℕ) (tree : ℕ) (columns cut : Row → Row) : Type 0 where
+-- The text reads a whole table of a desk of a version, whatever indexes it has: to it that is a query. Plain rows that
+-- show the columns of its answer are those of the tree, in the order of their keys.
+pub record IsWhole {L : Type 0} (version : Version) (text : List ℕ) (tree : ℕ) (columns cut : Row → Row)
+    (shown : L → Row) (order : L → L → Ordering) : Type 0 where
   pub query : Query
   pub asks : (schema : Schema) → HasTablesOf version schema → AsksOf schema text query
-  pub answers : (db : Trees) (rows : List Row) → IsAnswer query (overlay db []) [] rows
-      → IsPermutation (map columns (db tree)) (map cut rows)
+  pub answers : (db : Trees) (rows : List Row) (plain_rows : List L) → IsAnswer query (overlay db []) [] rows
+      → map shown plain_rows ≡ map cut rows → AreRowsInOrder columns shown order plain_rows (db tree)
 
 -- a row that begins with the columns of a plain row
 abbrev pub BeginsAs : {L : Type 0} → (L → Row) → Row → Type 0
@@ -82,24 +85,24 @@ MayRead version Fails Says old new result = ReadsIf (IsKept old) version Fails S
 abbrev pub AreFirst : (Vec PlainMeta Global × Vec PlainKind Global) × (Vec PlainRoom Global × Vec PlainStay Global)
     → Trees → Type 0
 AreFirst r db =
-    (ArePlainRows meta_columns meta_shown r.0.0.items (db meta_tree)
-    × ArePlainRows kind_columns kind_shown r.0.1.items (db kind_tree))
-    × (ArePlainRows room_columns room_shown r.1.0.items (db room_tree)
-    × ArePlainRows stay_columns stay_shown r.1.1.items (db stay_tree))
+    (AreRowsInOrder meta_columns meta_shown meta_order r.0.0.items (db meta_tree)
+    × AreRowsInOrder kind_columns kind_shown kind_order r.0.1.items (db kind_tree))
+    × (AreRowsInOrder room_columns room_shown room_order r.1.0.items (db room_tree)
+    × AreRowsInOrder stay_columns stay_shown stay_order r.1.1.items (db stay_tree))
 
 abbrev pub AreLast : (Vec PlainCode Global × Vec PlainCard Global) × (Vec NumberedInside Global × Vec PlainNote Global)
     → Trees → Type 0
 AreLast r db =
-    (ArePlainRows code_columns code_shown r.0.0.items (db code_tree)
-    × ArePlainRows card_columns card_shown r.0.1.items (db card_tree))
-    × (ArePlainRows numbered_columns numbered_shown r.1.0.items (db inside_tree)
-    × ArePlainRows note_columns note_shown r.1.1.items (db note_tree))
+    (AreRowsInOrder code_columns code_shown code_order r.0.0.items (db code_tree)
+    × AreRowsInOrder card_columns card_shown card_order r.0.1.items (db card_tree))
+    × (AreRowsInOrder numbered_columns numbered_shown numbered_order r.1.0.items (db inside_tree)
+    × AreRowsInOrder note_columns note_shown note_order r.1.1.items (db note_tree))
 
 -- the rows of the fits, which the first version doesn't have
 abbrev pub AreFitRows : Version → Option (Vec PlainFit Global) → Trees → Type 0
 AreFitRows First fits db = fits ≡ None
 AreFitRows Second None db = ⊥
-AreFitRows Second (Some fits) db = ArePlainRows fit_columns fit_shown fits.items (db fit_tree)
+AreFitRows Second (Some fits) db = AreRowsInOrder fit_columns fit_shown fit_order fits.items (db fit_tree)
 
 -- the rows of all tables of a version
 abbrev pub AreTablesRead : Version → WholeTables → Trees → Type 0

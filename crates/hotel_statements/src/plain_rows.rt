@@ -15,7 +15,6 @@ use hotel_rows::{
     PlainCard, PlainCode, PlainFit, PlainInside, PlainKind, PlainNote, PlainRoom, PlainStay,
 };
 use sqlite::{Error, ErrorCode, Row};
-use std::cmp::Ordering;
 
 /// A row of a table as plain data.
 pub(crate) trait PlainRow: Sized {
@@ -32,6 +31,9 @@ pub(crate) trait PlainRow: Sized {
 
     ghost cut: { SqlRow → SqlRow };
 
+    /// The order of the keys, in which the statement shows the rows.
+    ghost order: { Self → Self → Order };
+
     fn statement() -> &'static str
         ensures { result.now ≡ statement };
 
@@ -41,16 +43,10 @@ pub(crate) trait PlainRow: Sized {
             → shown l ++ more ≢ row.now) };
 }
 
-/// A row of a table by its key, and whether its numbers are such as the books write.
+/// Whether a row's numbers are such as the books write.
 pub trait Plain: Sized {
-    /// The order of the keys.
-    ghost order: { Self → Self → Order };
-
     /// No number of it is below 0.
     ghost natural: { Self → Bool };
-
-    fn compare(&self, other: &Self) -> Ordering
-        ensures { result ≡ order self.now other.now };
 
     fn is_natural(&self) -> bool
         ensures { result ≡ natural self.now };
@@ -98,6 +94,8 @@ impl PlainRow for PlainMeta {
 
     ghost cut = { plain.first_three };
 
+    ghost order = { plain.meta_order };
+
     fn statement() -> &'static str {
         READ_META
     }
@@ -122,6 +120,8 @@ impl PlainRow for PlainKind {
 
     ghost cut = { plain.first_one };
 
+    ghost order = { plain.kind_order };
+
     fn statement() -> &'static str {
         READ_KIND
     }
@@ -141,6 +141,8 @@ impl PlainRow for PlainRoom {
     ghost shown = { plain.room_shown };
 
     ghost cut = { plain.first_seven };
+
+    ghost order = { plain.room_order };
 
     fn statement() -> &'static str {
         READ_ROOM
@@ -170,6 +172,8 @@ impl PlainRow for PlainStay {
 
     ghost cut = { plain.first_seven };
 
+    ghost order = { plain.stay_order };
+
     fn statement() -> &'static str {
         READ_STAY
     }
@@ -198,6 +202,8 @@ impl PlainRow for PlainCode {
 
     ghost cut = { plain.first_three };
 
+    ghost order = { plain.code_order };
+
     fn statement() -> &'static str {
         READ_CODE
     }
@@ -221,6 +227,8 @@ impl PlainRow for PlainCard {
     ghost shown = { plain.card_shown };
 
     ghost cut = { plain.first_four };
+
+    ghost order = { plain.card_order };
 
     fn statement() -> &'static str {
         READ_CARD
@@ -247,6 +255,8 @@ impl PlainRow for NumberedInside {
 
     ghost cut = { plain.first_three };
 
+    ghost order = { plain.numbered_order };
+
     fn statement() -> &'static str {
         READ_INSIDE
     }
@@ -272,6 +282,8 @@ impl PlainRow for PlainNote {
     ghost shown = { plain.note_shown };
 
     ghost cut = { plain.first_eight };
+
+    ghost order = { plain.note_order };
 
     fn statement() -> &'static str {
         READ_NOTE
@@ -302,6 +314,8 @@ impl PlainRow for PlainFit {
 
     ghost cut = { plain.first_four };
 
+    ghost order = { plain.fit_order };
+
     fn statement() -> &'static str {
         READ_FIT
     }
@@ -317,13 +331,7 @@ impl PlainRow for PlainFit {
 }
 
 impl Plain for PlainKind {
-    ghost order = { plain.kind_order };
-
     ghost natural = { plain.kind_natural };
-
-    fn compare(&self, other: &PlainKind) -> Ordering {
-        self.kind.as_bytes().cmp(other.kind.as_bytes())
-    }
 
     fn is_natural(&self) -> bool {
         true
@@ -331,13 +339,7 @@ impl Plain for PlainKind {
 }
 
 impl Plain for PlainRoom {
-    ghost order = { plain.room_order };
-
     ghost natural = { plain.room_natural };
-
-    fn compare(&self, other: &PlainRoom) -> Ordering {
-        self.room.cmp(&other.room)
-    }
 
     fn is_natural(&self) -> bool {
         is_natural(self.room)
@@ -350,13 +352,7 @@ impl Plain for PlainRoom {
 }
 
 impl Plain for PlainStay {
-    ghost order = { plain.stay_order };
-
     ghost natural = { plain.stay_natural };
-
-    fn compare(&self, other: &PlainStay) -> Ordering {
-        self.party.cmp(&other.party)
-    }
 
     fn is_natural(&self) -> bool {
         is_natural(self.party)
@@ -368,13 +364,7 @@ impl Plain for PlainStay {
 }
 
 impl Plain for PlainCode {
-    ghost order = { plain.code_order };
-
     ghost natural = { plain.code_natural };
-
-    fn compare(&self, other: &PlainCode) -> Ordering {
-        self.code.cmp(&other.code)
-    }
 
     fn is_natural(&self) -> bool {
         is_natural(self.code) && is_natural(self.room) && is_natural(self.place)
@@ -382,13 +372,7 @@ impl Plain for PlainCode {
 }
 
 impl Plain for PlainCard {
-    ghost order = { plain.card_order };
-
     ghost natural = { plain.card_natural };
-
-    fn compare(&self, other: &PlainCard) -> Ordering {
-        self.number.cmp(&other.number)
-    }
 
     fn is_natural(&self) -> bool {
         is_natural(self.number)
@@ -399,13 +383,7 @@ impl Plain for PlainCard {
 }
 
 impl Plain for PlainInside {
-    ghost order = { plain.inside_order };
-
     ghost natural = { plain.inside_natural };
-
-    fn compare(&self, other: &PlainInside) -> Ordering {
-        (self.room, self.card).cmp(&(other.room, other.card))
-    }
 
     fn is_natural(&self) -> bool {
         is_natural(self.room) && is_natural(self.card)
@@ -413,13 +391,7 @@ impl Plain for PlainInside {
 }
 
 impl Plain for PlainNote {
-    ghost order = { plain.note_order };
-
     ghost natural = { plain.note_natural };
-
-    fn compare(&self, other: &PlainNote) -> Ordering {
-        (self.room, self.n).cmp(&(other.room, other.n))
-    }
 
     fn is_natural(&self) -> bool {
         is_natural(self.room)
@@ -434,13 +406,7 @@ impl Plain for PlainNote {
 }
 
 impl Plain for PlainFit {
-    ghost order = { plain.fit_order };
-
     ghost natural = { plain.fit_natural };
-
-    fn compare(&self, other: &PlainFit) -> Ordering {
-        (self.room, self.fit).cmp(&(other.room, other.fit))
-    }
 
     fn is_natural(&self) -> bool {
         is_natural(self.room)

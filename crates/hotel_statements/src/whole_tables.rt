@@ -1,14 +1,12 @@
 //! The tables, read whole.
 ghost use Rattle.std.specs.Prelude.{◌≡◌, ◌≢◌, ◌⊎◌, ◌++◌, [], ◌∷◌, map, IfErr, OnOk};
 ghost use Rattle.std.specs.List.{list_all};
-ghost use Rattle.std.specs.Ordering.{is_lt};
 ghost use Rattle.sqlite.specs.Held.{state};
-ghost use Rattle.hotel_model.specs.SoundRooms.{are_in_order};
 ghost use Rattle.hotel_statements.specs.WholeTables.{IsOurs, IsWhole, ReadsPart, ReadsTo, MayRead};
 ghost use Rattle.hotel_statements.specs.WholeTables.{AreFirst, AreLast, AreFitRows, AreTablesRead};
 ghost use Rattle.hotel_statements.specs.WholeTables.{BeginsAs, TableFails};
 ghost use Rattle.hotel_statements.specs.WholeTables.{FirstFail, LastFail, FitRowsFail};
-ghost use Rattle.hotel_statements.specs.PlainRows.{ArePlainRows};
+ghost use Rattle.hotel_statements.specs.PlainRows.{AreRowsInOrder};
 
 use crate::from_row::fault_of;
 use crate::plain_rows::{NumberedInside, Plain, PlainMeta, PlainRow};
@@ -42,9 +40,11 @@ fn read_table<S: Alter, L: PlainRow + Drop>(
     version: Version,
 ) -> Result<Vec<L>, LookFault>
     requires ours { IsOurs version (state S.Store conn.old) }
-    requires whole { IsWhole version L.PlainRow.statement L.PlainRow.tree L.PlainRow.columns L.PlainRow.cut }
+    requires whole { IsWhole version L.PlainRow.statement L.PlainRow.tree L.PlainRow.columns L.PlainRow.cut
+        L.PlainRow.shown L.PlainRow.order }
     ensures { ReadsPart version (TableFails L.PlainRow.statement L.PlainRow.shown)
-        (λ plain_rows db. ArePlainRows L.PlainRow.columns L.PlainRow.shown plain_rows.items (db L.PlainRow.tree))
+        (λ plain_rows db. AreRowsInOrder L.PlainRow.columns L.PlainRow.shown L.PlainRow.order plain_rows.items
+        (db L.PlainRow.tree))
         (state S.Store conn.old) (state S.Store conn.new) result }
 {
     let mut plain_rows = Vec::new(alloc);
@@ -70,37 +70,21 @@ fn read_two<S: Alter, A: PlainRow + Drop, B: PlainRow + Drop>(
     version: Version,
 ) -> Result<(Vec<A>, Vec<B>), LookFault>
     requires ours { IsOurs version (state S.Store conn.old) }
-    requires first { IsWhole version A.PlainRow.statement A.PlainRow.tree A.PlainRow.columns A.PlainRow.cut }
-    requires second { IsWhole version B.PlainRow.statement B.PlainRow.tree B.PlainRow.columns B.PlainRow.cut }
+    requires first { IsWhole version A.PlainRow.statement A.PlainRow.tree A.PlainRow.columns A.PlainRow.cut
+        A.PlainRow.shown A.PlainRow.order }
+    requires second { IsWhole version B.PlainRow.statement B.PlainRow.tree B.PlainRow.columns B.PlainRow.cut
+        B.PlainRow.shown B.PlainRow.order }
     ensures { ReadsPart version
         (λ old new. TableFails A.PlainRow.statement A.PlainRow.shown old new
         ⊎ TableFails B.PlainRow.statement B.PlainRow.shown old new)
         (λ two db.
-        ArePlainRows A.PlainRow.columns A.PlainRow.shown two.0.items (db A.PlainRow.tree)
-        × ArePlainRows B.PlainRow.columns B.PlainRow.shown two.1.items (db B.PlainRow.tree))
+        AreRowsInOrder A.PlainRow.columns A.PlainRow.shown A.PlainRow.order two.0.items (db A.PlainRow.tree)
+        × AreRowsInOrder B.PlainRow.columns B.PlainRow.shown B.PlainRow.order two.1.items (db B.PlainRow.tree))
         (state S.Store conn.old) (state S.Store conn.new) result }
 {
     let first = read_table(alloc, conn, version)?;
     let second = read_table(alloc, conn, version)?;
     Ok((first, second))
-}
-
-fn comes_before<L: Plain>(a: &L, b: &L) -> bool
-    ensures { result ≡ is_lt (L.Plain.order a.now b.now) }
-{
-    L::compare(a, b).is_lt()
-}
-
-/// Whether each row's key comes before the next one's.
-pub fn rise<L: Plain>(plain_rows: &[L]) -> bool
-    ensures { result ≡ are_in_order L.Plain.order plain_rows.now }
-{
-    for i in 1..plain_rows.len() {
-        if !comes_before(&plain_rows[i - 1], &plain_rows[i]) {
-            return false;
-        }
-    }
-    true
 }
 
 /// Whether no number of any row is below 0.

@@ -66,19 +66,20 @@ use Rattle.hotel_statements.specs.Tables.{metas_in, fits_in, bare_rooms_in, bare
 use Rattle.hotel_tables.specs.TableBooks.{IsCounted}
 use Rattle.hotel_statements.specs.PlainRows.{maybe, meta_shown, kind_shown, room_shown, stay_shown, code_shown}
 use Rattle.hotel_statements.specs.PlainRows.{card_shown, inside_shown, numbered_shown, numbered_columns, note_shown}
-use Rattle.hotel_statements.specs.PlainRows.{fit_shown, ArePlainRows}
+use Rattle.hotel_statements.specs.PlainRows.{fit_shown, ArePlainRows, AreRowsInOrder, inside_order, numbered_order}
 use Rattle.hotel_statements.specs.PlainRows.{may_be_natural, room_natural, stay_natural, code_natural, card_natural}
 use Rattle.hotel_statements.specs.PlainRows.{inside_natural, note_natural, fit_natural}
 use Rattle.hotel_statements.specs.WholeTables.{ReadsTo, AreFitRows, AreTablesRead}
 use Rattle.hotel_statements.specs.Upgrade.{AreRoomsFor}
-use Rattle.hotel_tables.specs.Opening.{AreStoredAs, AreStored, AreApartInside, IsMetaRow, IsFound, LacksRow, HasMetaRow}
-use Rattle.hotel_tables.specs.Opening.{FaultFits, FailsToRead, Opens, all_rise, fits_natural, all_natural, id_inside}
+use Rattle.hotel_tables.specs.Opening.{AreStored, AreApartInside, IsMetaRow, IsFound, LacksRow, HasMetaRow}
+use Rattle.hotel_tables.specs.Opening.{FaultFits, FailsToRead, Opens, fits_natural, all_natural, id_inside}
 use Rattle.hotel_tables.specs.Opening.{plain_inside, fault_for, rooms_for}
 use Rattle.hotel_rows.specs.Counts.{IsCountedOf}
 use Rattle.hotel_rows.specs.Joined.{with_fit, under_fit, joined_with, initial_fits, FitEntries}
 use Rattle.hotel_rows.proofs.OfCounts.{counted_rooms, named_kind}
 use Rattle.hotel_rows.proofs.OfJoined.{keys_with_fit, keys_under_fit}
 use Rattle.hotel_statements.proofs.Answers.{fused}
+use Rattle.hotel_statements.proofs.InOrder.{chain_of, sorted_of, chain_mapped}
 use Rattle.hotel_statements.proofs.Keyed.{key_total}
 use Rattle.hotel_statements.proofs.Perm.{every_shuffled, apart_permuted, sort_rises}
 use Rattle.hotel_statements.proofs.ReadBack.{read_back, tested_keys, tested_order}
@@ -126,9 +127,8 @@ one_row n day (r ∷ []) e =
 one_row n day (r ∷ q ∷ rows) e = absurd (let w = ap length e in omega (arith, w))
 
 -- stored rows have that of meta
-pub stored_meta : {in_order : Bool} {version : Version} (s : Stored) (db : Trees) → AreStoredAs in_order version s db
-    → HasMetaRow version db
-stored_meta {in_order} {version} s db stored =
+pub stored_meta : {version : Version} (s : Stored) (db : Trees) → AreStored version s db → HasMetaRow version db
+stored_meta {version} s db stored =
     one_row (number_of_version version) (maybe s.day) (db meta_tree) stored.meta
 
 -- and so have those that were read
@@ -137,7 +137,7 @@ meta_only : (of : Version) (t : WholeTables) (db : Trees) (plain : PlainMeta) �
     → map meta_columns (db meta_tree) ≡ (Int (pos 1) ∷ Int (pos (number_of_version of)) ∷ maybe plain.day ∷ []) ∷ []
 meta_only of t db plain read meta =
     let one : IsPermutation (map meta_columns (db meta_tree)) (meta_shown plain ∷ []) =
-    subst (λ ls. ArePlainRows meta_columns meta_shown ls (db meta_tree)) meta.0 read.0.0.0 in
+    subst (λ ls. ArePlainRows meta_columns meta_shown ls (db meta_tree)) meta.0 read.0.0.0.0 in
     let only : map meta_columns (db meta_tree) ≡ meta_shown plain ∷ [] =
     one_permutation (meta_shown plain) _ (IsPermutation-sym _ _ one) in
     only ∙ ap (λ n. (Int n ∷ Int plain.version ∷ maybe plain.day ∷ []) ∷ []) meta.1
@@ -223,7 +223,7 @@ plain_rows_of : (plain_rows : List NumberedInside)
 plain_rows_of [] = refl
 plain_rows_of (l ∷ plain_rows) = ap (λ vs. inside_shown l.plain ∷ vs) (plain_rows_of plain_rows)
 
-pub inside_plain_rows : (plain_rows : List NumberedInside) (rows : List Row)
+inside_plain_rows : (plain_rows : List NumberedInside) (rows : List Row)
     → ArePlainRows numbered_columns numbered_shown plain_rows rows
     → ArePlainRows inside_columns inside_shown (map plain_inside plain_rows) rows
 inside_plain_rows plain_rows rows same =
@@ -231,10 +231,18 @@ inside_plain_rows plain_rows rows same =
     (subst (λ xs. IsPermutation xs (map last_two (map numbered_shown plain_rows)))
     (fused last_two numbered_columns rows) (IsPermutation-map last_two _ _ same))
 
-pub stored_are : {in_order : Bool} {of : Version} (t : WholeTables) (db : Trees) (plain : PlainMeta)
-    (inside : Vec PlainInside Global) → AreTablesRead of t db → IsMetaRow of t.meta.items plain
-    → inside.items ≡ map plain_inside t.inside.items
-    → let s : Stored = record {
+inside_in_order : (plain_rows : List NumberedInside) (rows : List Row)
+    → AreRowsInOrder numbered_columns numbered_shown numbered_order plain_rows rows
+    → AreRowsInOrder inside_columns inside_shown inside_order (map plain_inside plain_rows) rows
+inside_in_order plain_rows rows are = (
+  inside_plain_rows plain_rows rows are.0,
+  sorted_of inside_order (map plain_inside plain_rows)
+      (chain_mapped inside_order plain_inside plain_rows (chain_of numbered_order plain_rows are.1)),
+)
+
+pub stored_are : {of : Version} (t : WholeTables) (db : Trees) (plain : PlainMeta) (inside : Vec PlainInside Global)
+    → AreTablesRead of t db → IsMetaRow of t.meta.items plain → inside.items ≡ map plain_inside t.inside.items
+    → AreStored of (record {
       day = plain.day;
       kind = t.kinds;
       room = t.rooms;
@@ -244,9 +252,8 @@ pub stored_are : {in_order : Bool} {of : Version} (t : WholeTables) (db : Trees)
       inside = inside;
       note = t.notes;
       fit = t.fits;
-    } in
-    all_rise s ≡ in_order → AreStoredAs in_order of s db
-stored_are {in_order} {of} t db plain inside read meta same up = record {
+    }) db
+stored_are {of} t db plain inside read meta same = record {
   meta = meta_only of t db plain read meta;
   kinds = read.0.0.1;
   rooms = read.0.1.0;
@@ -254,21 +261,20 @@ stored_are {in_order} {of} t db plain inside read meta same up = record {
   codes = read.1.0.0.0;
   cards = read.1.0.0.1;
   inside =
-      subst (λ ls. ArePlainRows inside_columns inside_shown ls (db inside_tree)) (sym same)
-      (inside_plain_rows t.inside.items (db inside_tree) read.1.0.1.0);
+      subst (λ ls. AreRowsInOrder inside_columns inside_shown inside_order ls (db inside_tree)) (sym same)
+      (inside_in_order t.inside.items (db inside_tree) read.1.0.1.0);
   notes = read.1.0.1.1;
   fits = read.1.1;
-  rise = up;
 }
 
 -- ---- the tables
 
-each : {L : Type 0} (test : L → Bool) (P : L → Type 0) → ((l : L) → test l ≡ true → P l) → (ls : List L)
+pub each : {L : Type 0} (test : L → Bool) (P : L → Type 0) → ((l : L) → test l ≡ true → P l) → (ls : List L)
     → list_all test ls ≡ true → AllByRecursion P ls
 each test P f [] h = tt
 each test P f (l ∷ ls) h = let a = and_true (test l) (list_all test ls) h in (f l a.0, each test P f ls a.1)
 
-each_two : {L : Type 0} (test also : L → Bool) (P : L → Type 0) → ((l : L) → test l ≡ true → also l ≡ true → P l)
+pub each_two : {L : Type 0} (test also : L → Bool) (P : L → Type 0) → ((l : L) → test l ≡ true → also l ≡ true → P l)
     → (ls : List L) → list_all test ls ≡ true → list_all also ls ≡ true
     → AllByRecursion P ls
 each_two test also P f [] h k = tt
@@ -277,7 +283,7 @@ each_two test also P f (l ∷ ls) h k =
     let b = and_true (also l) (list_all also ls) k in
     (f l a.0 b.0, each_two test also P f ls a.1 b.1)
 
-all_kinds : (ls : List PlainKind)
+pub all_kinds : (ls : List PlainKind)
     → AllByRecursion (λ l. (kind_shown l ≡ kind_written (kind_text l)) × (kind_of (kind_shown l) ≡ kind_text l)) ls
 all_kinds [] = tt
 all_kinds (l ∷ ls) = (kind_good l, all_kinds ls)
@@ -325,7 +331,7 @@ are_fits First rooms (Some fits) db are here natural up =
 are_fits Second rooms None db are here natural up = absurd are
 are_fits Second rooms (Some fits) db are here natural up =
     read_back (by_key pair_cmp) (key_total pair_cmp_total) fit_columns fit_of fit_written fit_shown fit_entry
-    fits.items (db fit_tree) are
+    fits.items (db fit_tree) are.0
     (each fit_natural _ fit_good fits.items natural) (rising pair_cmp_total fit_entry fits.items up)
 
 -- ---- the whole of the tables
@@ -380,29 +386,29 @@ are_desk {version} s db a ids keys columns natural =
     read_back (by_key nat_cmp) (key_total nat_cmp_total) meta_columns meta_of meta_written meta_shown entry
     (plain ∷ []) (db meta_tree) meta_plain (meta_good plain refl refl n.day, tt) (tt, tt) in
     let kind = read_back (slice_cmp nat_cmp) nat_list_cmp_total kind_columns kind_of kind_written kind_shown kind_text
-    s.kind.items (db kind_tree) a.kinds (all_kinds s.kind.items)
+    s.kind.items (db kind_tree) a.kinds.0 (all_kinds s.kind.items)
     (tested_order (slice_cmp nat_cmp) nat_list_cmp_total (map kind_text s.kind.items) k.kinds) in
     let room = read_back (by_key nat_cmp) (key_total nat_cmp_total) room_columns room_of room_written room_shown
-    room_entry s.room.items (db room_tree) a.rooms
+    room_entry s.room.items (db room_tree) a.rooms.0
     (each_two room_natural damage.are_room_columns _ room_good s.room.items n.rooms f1.0)
     (rising nat_cmp_total room_entry s.room.items
     (ap (are_in_order nat_cmp) (sym (keys_with_fit (fits_of s) (map room_entry s.room.items))) ∙ k.rooms)) in
     let stay = read_back (by_key nat_cmp) (key_total nat_cmp_total) stay_columns stay_of stay_written stay_shown
-    stay_entry s.stay.items (db stay_tree) a.stays
+    stay_entry s.stay.items (db stay_tree) a.stays.0
     (each_two stay_natural damage.are_stay_columns _ stay_good s.stay.items n.stays f1.1)
     (rising nat_cmp_total stay_entry s.stay.items k.stays) in
     let code = read_back (by_key nat_cmp) (key_total nat_cmp_total) code_columns code_of code_written code_shown
-    code_entry s.code.items (db code_tree) a.codes
+    code_entry s.code.items (db code_tree) a.codes.0
     (each code_natural _ code_good s.code.items n.codes) (rising nat_cmp_total code_entry s.code.items k.codes) in
     let card = read_back (by_key nat_cmp) (key_total nat_cmp_total) card_columns card_of card_written card_shown
-    card_entry s.card.items (db card_tree) a.cards
+    card_entry s.card.items (db card_tree) a.cards.0
     (each card_natural _ card_good s.card.items n.cards) (rising nat_cmp_total card_entry s.card.items k.cards) in
     let inside = read_back pair_cmp pair_cmp_total inside_columns inside_of inside_written inside_shown inside_pair
-    s.inside.items (db inside_tree) a.inside
+    s.inside.items (db inside_tree) a.inside.0
     (each inside_natural _ inside_good s.inside.items n.inside)
     (tested_order pair_cmp pair_cmp_total (map inside_pair s.inside.items) k.inside) in
     let note = read_back (by_key pair_cmp) (key_total pair_cmp_total) note_columns note_of note_written note_shown
-    note_entry s.note.items (db note_tree) a.notes
+    note_entry s.note.items (db note_tree) a.notes.0
     (each_two note_natural damage.are_note_columns _ note_good s.note.items n.notes f2.1)
     (rising pair_cmp_total note_entry s.note.items
     (ap (are_in_order pair_cmp) (sym (keys_under_fit (fits_of s) (map note_entry s.note.items))) ∙ k.notes)) in

@@ -2,24 +2,24 @@
 -- where these are sound no table is damaged.
 use Rattle.std.proofs.Common.{◌≡◌, ℕ, ℤ, pos, negsuc, Bool, true, false, cond, ◌&&◌, not, refl, sym, ap, subst, ◌∙◌}
 use Rattle.std.proofs.Common.{List, [], ◌∷◌, map, length, Option, None, Some, Ordering, Less, Equal, Greater}
-use Rattle.std.proofs.Common.{nat_cmp, is_lt, arith, inl, inr, Vec}
+use Rattle.std.proofs.Common.{nat_cmp, is_eq, is_lt, true≢false, arith, inl, inr, Vec}
 use Rattle.std.specs.Prelude.{nat_le, nat_lt, ◌==◌, is_some}
 use Rattle.std.specs.List.{AllByRecursion, list_all}
-use Rattle.std.specs.List.Sorted.{IsPermutation}
-use Rattle.std.specs.Ordering.{int_cmp, ordering_then}
-use Rattle.std.specs.Cmp.{nat_cmp_is}
+use Rattle.std.specs.List.Sorted.{IsPermutation, IsSorted}
+use Rattle.std.specs.Ordering.{int_cmp, ordering_reverse, ordering_then}
+use Rattle.std.specs.Cmp.{IsTotalOrder, nat_cmp_is}
 use Rattle.std.specs.Cmp.Lexicographic.{slice_cmp}
 use Rattle.std.specs.Map.{keys_of}
 use Rattle.std.specs.declared.alloc.Global.{Global}
 use Rattle.std.proofs.lemmas.Bool.{cases_Bool, false≢true, ltb-true, ltb-false}
-use Rattle.std.proofs.lemmas.Cmp.{nat_cmp_total}
+use Rattle.std.proofs.lemmas.Cmp.{nat_cmp_total, nat_list_cmp_total}
 use Rattle.sqlite_value.specs.declared.value.Value.{Value}
 use Rattle.sqlite_value.specs.declared.value.Value.TheVariants.{Null, Int}
 use Rattle.sqlite_rules.specs.Edit.{id_in}
 use Rattle.sqlite.specs.Order.{Row, column}
-use Rattle.sqlite.specs.Tree.{Trees}
+use Rattle.sqlite.specs.Tree.{Trees, IsAscending}
 use Rattle.sqlite.proofs.Callers.{one_permutation}
-use Rattle.sqlite_keyed.proofs.ListLemmas.{all_map, all_unmap}
+use Rattle.sqlite_keyed.proofs.ListLemmas.{all_map, all_unmap, ascending_weaker}
 use Rattle.sqlite_keyed.proofs.SortLemmas.{IsPermutation-sort_by}
 use Rattle.keycard_rules.specs.declared.note.Act.{Act}
 use Rattle.keycard_rules.specs.declared.note.Act.TheVariants.{Entered, Left, Recoded}
@@ -29,6 +29,7 @@ use Rattle.hotel_model.specs.Words.{pair_cmp}
 use Rattle.hotel_model.specs.Stays.{room_of_state}
 use Rattle.hotel_model.specs.Sound.{IsSound, keys_in_order}
 use Rattle.hotel_model.specs.SoundRooms.{are_in_order}
+use Rattle.hotel_model.proofs.OfTables.Pairs.{pair_cmp_total}
 use Rattle.hotel_model.proofs.OfTables.Tests.{and_true}
 use Rattle.hotel_model.proofs.OfTables.RowTests.{both}
 use Rattle.hotel_rows.specs.declared.stored.PlainKind.{PlainKind}
@@ -42,10 +43,11 @@ use Rattle.hotel_rows.specs.declared.stored.PlainFit.{PlainFit}
 use Rattle.hotel_rows.specs.declared.stored.Stored.{Stored}
 use Rattle.hotel_rows.specs.declared.open_fault.OpenFault.{OpenFault}
 use Rattle.hotel_rows.specs.declared.open_fault.OpenFault.TheVariants as fault
-use Rattle.hotel_statements.specs.Trees.{meta_tree, room_tree, stay_tree, code_tree, card_tree, inside_tree, note_tree}
+use Rattle.hotel_statements.specs.Trees.{meta_tree, kind_tree, room_tree, stay_tree, code_tree, card_tree, inside_tree, note_tree}
 use Rattle.hotel_statements.specs.Trees.{fit_tree}
 use Rattle.hotel_statements.specs.Values.{int, maybe_int}
 use Rattle.hotel_statements.specs.Columns.{meta_columns, meta_of, meta_written, room_columns, room_of, room_written}
+use Rattle.hotel_statements.specs.Columns.{kind_columns, kind_of, kind_written}
 use Rattle.hotel_statements.specs.Columns.{bit_of, stay_columns, stay_of, stay_written, state_number}
 use Rattle.hotel_statements.specs.Columns.{code_columns, code_of, code_written, card_columns, card_of, card_written}
 use Rattle.hotel_statements.specs.Columns.{inside_columns, inside_of, inside_written, note_columns, note_of}
@@ -62,15 +64,19 @@ use Rattle.hotel_statements.specs.WholeTables.{AreFitRows}
 use Rattle.hotel_statements.specs.PlainRows.{maybe, is_natural, may_be_natural, room_shown, room_natural, stay_shown}
 use Rattle.hotel_statements.specs.PlainRows.{stay_natural, code_shown, code_natural, card_shown, card_natural}
 use Rattle.hotel_statements.specs.PlainRows.{inside_shown, inside_natural, note_shown, note_natural, fit_shown}
-use Rattle.hotel_statements.specs.PlainRows.{fit_natural, ArePlainRows}
+use Rattle.hotel_statements.specs.PlainRows.{kind_shown, fit_natural, ArePlainRows}
 use Rattle.hotel_statements.specs.PlainRows.{kind_natural, kind_order, room_order, stay_order, code_order, card_order}
 use Rattle.hotel_statements.specs.PlainRows.{inside_order, note_order, fit_order}
-use Rattle.hotel_tables.specs.Opening.{AreStored, HasMetaRow, FaultFits, IsOfCall, fits_rise, fits_natural}
+use Rattle.hotel_tables.specs.Opening.{AreStored, HasMetaRow, FaultFits, IsOfCall, fits_natural}
 use Rattle.hotel_tables.specs.Opening.{all_natural}
 use Rattle.hotel_tables.specs.Reopening.{ReadUndamaged}
 use Rattle.hotel_statements.proofs.Keyed.{key_total}
+use Rattle.hotel_statements.proofs.InOrder.{IsChain, chain_of}
+use Rattle.hotel_statements.proofs.Naturals.{room_good, stay_good, code_good, card_good, inside_good, note_good}
+use Rattle.hotel_statements.proofs.Naturals.{fit_good}
 use Rattle.hotel_statements.proofs.Perm.{every_shuffled}
-use Rattle.hotel_tables.proofs.Opened.{are_desk, naturals, entries_of}
+use Rattle.hotel_statements.proofs.ReadBack.{plain_apart}
+use Rattle.hotel_tables.proofs.Opened.{are_desk, naturals, entries_of, each, each_two, all_kinds}
 use Rattle.hotel_statements.proofs.Answers.{fused}
 use Rattle.hotel_rows.proofs.OfJoined.{keys_with_fit, keys_under_fit}
 use Rattle.hotel_rows.proofs.OfDamage.Undamaged.{undamaged_is_sound}
@@ -217,7 +223,7 @@ fits_pass First (Some fits) db good are =
 fits_pass Second None db good are = absurd are
 fits_pass Second (Some fits) db good are =
     all_pass _ fit_natural fit_plain fits.items
-    (are_plain_rows fit_columns fit_of fit_written fit_shown fits.items (db fit_tree) good.good are)
+    (are_plain_rows fit_columns fit_of fit_written fit_shown fits.items (db fit_tree) good.good are.0)
 
 are_written : {version : Version} (s : Stored) (db : Trees) → AreTablesOf version db
     → AreStored version s db → AreWritten s
@@ -227,17 +233,17 @@ are_written {version} s db t a =
     let meta = (subst (AllByRecursion (λ (v : Row). v ≡ meta_written (meta_of v))) a.meta metas).0 in
     let day : may_be_natural s.day ≡ true = may_natural s.day _ (ap (λ (v : Row). column v 2) meta) in
     let rooms = are_plain_rows room_columns room_of room_written room_shown s.room.items (db room_tree) t.room.good
-    a.rooms in
+    a.rooms.0 in
     let stays = are_plain_rows stay_columns stay_of stay_written stay_shown s.stay.items (db stay_tree) t.stay.good
-    a.stays in
+    a.stays.0 in
     let codes = are_plain_rows code_columns code_of code_written code_shown s.code.items (db code_tree) t.code.good
-    a.codes in
+    a.codes.0 in
     let cards = are_plain_rows card_columns card_of card_written card_shown s.card.items (db card_tree) t.card.good
-    a.cards in
+    a.cards.0 in
     let inside = are_plain_rows inside_columns inside_of inside_written inside_shown s.inside.items (db inside_tree)
-    t.inside.good a.inside in
+    t.inside.good a.inside.0 in
     let notes = are_plain_rows note_columns note_of note_written note_shown s.note.items (db note_tree) t.note.good
-    a.notes in
+    a.notes.0 in
     let room = all_pass _ room_natural room_plain s.room.items rooms in
     let stay = all_pass _ stay_natural stay_plain s.stay.items stays in
     let code = all_pass _ code_natural code_plain s.code.items codes in
@@ -275,29 +281,38 @@ same_pairs : (a b c d : ℤ) → is_natural a ≡ true → is_natural b ≡ true
     → ordering_then (int_cmp a c) (int_cmp b d) ≡ pair_cmp (number_of a, number_of b) (number_of c, number_of d)
 same_pairs a b c d p q r s = λ i. ordering_then (same_order a c p r i) (same_order b d q s i)
 
-rise_by : {L K : Type 0} (order : L → L → Ordering) (cmp : K → K → Ordering) (key : L → K) (test : L → Bool)
-    → ((a b : L) → test a ≡ true → test b ≡ true → order a b ≡ cmp (key a) (key b))
-    → (ls : List L) → list_all test ls ≡ true → are_in_order order ls ≡ true → are_in_order cmp (map key ls) ≡ true
-rise_by order cmp key test same [] all up = refl
-rise_by order cmp key test same (a ∷ []) all up = refl
-rise_by order cmp key test same (a ∷ b ∷ ls) all up =
+below : (o : Ordering) → is_lt (ordering_reverse o) ≡ false → is_eq o ≡ false → is_lt o ≡ true
+below Less not_after apart = refl
+below Equal not_after apart = absurd (true≢false apart)
+below Greater not_after apart = absurd (true≢false not_after)
+
+rise_by : {L K : Type 0} (order : L → L → Ordering) (cmp : K → K → Ordering) (total : IsTotalOrder cmp) (key : L → K)
+    (test : L → Bool) → ((a b : L) → test a ≡ true → test b ≡ true → order a b ≡ cmp (key a) (key b))
+    → (ls : List L) → list_all test ls ≡ true → IsChain order ls
+    → IsAscending (λ a b. is_eq (cmp (key a) (key b)) ≡ false) ls → are_in_order cmp (map key ls) ≡ true
+rise_by order cmp total key test same [] all chain apart = refl
+rise_by order cmp total key test same (a ∷ []) all chain apart = refl
+rise_by order cmp total key test same (a ∷ b ∷ ls) all chain apart =
     let first = and_true (test a) (list_all test (b ∷ ls)) all in
     let second = and_true (test b) (list_all test ls) first.1 in
-    let parts = and_true (is_lt (order a b)) (are_in_order order (b ∷ ls)) up in
-    both _ _ (ap is_lt (sym (same a b first.0 second.0)) ∙ parts.0)
-    (rise_by order cmp key test same (b ∷ ls) first.1 parts.1)
+    let turned : ordering_reverse (cmp (key a) (key b)) ≡ order b a =
+    sym (total.antisymm (key b) (key a)) ∙ sym (same b a second.0 first.0) in
+    both _ _ (below (cmp (key a) (key b)) (ap is_lt turned ∙ chain.0) apart.0.0)
+    (rise_by order cmp total key test same (b ∷ ls) first.1 chain.1 apart.1)
 
 keys_are : {K V L : Type 0} (entry : L → K × V) (ls : List L) → keys_of (map entry ls) ≡ map (λ l. (entry l).0) ls
 keys_are entry [] = refl
 keys_are entry (l ∷ ls) = ap (λ ks. (entry l).0 ∷ ks) (keys_are entry ls)
 
-entries_rise : {L K V : Type 0} (order : L → L → Ordering) (cmp : K → K → Ordering)
+entries_rise : {L K V : Type 0} (order : L → L → Ordering) (cmp : K → K → Ordering) (total : IsTotalOrder cmp)
     (entry : L → K × V) (test : L → Bool)
     → ((a b : L) → test a ≡ true → test b ≡ true → order a b ≡ cmp (entry a).0 (entry b).0)
-    → (ls : List L) → list_all test ls ≡ true → are_in_order order ls ≡ true
+    → (ls : List L) → list_all test ls ≡ true → IsSorted order ls
+    → IsAscending (λ a b. is_eq (cmp (entry a).0 (entry b).0) ≡ false) ls
     → are_in_order cmp (keys_of (map entry ls)) ≡ true
-entries_rise order cmp entry test same ls all up =
-    ap (are_in_order cmp) (keys_are entry ls) ∙ rise_by order cmp (λ l. (entry l).0) test same ls all up
+entries_rise order cmp total entry test same ls all sorted apart =
+    ap (are_in_order cmp) (keys_are entry ls)
+    ∙ rise_by order cmp total (λ l. (entry l).0) test same ls all (chain_of order ls sorted) apart
 
 then_equal : (o : Ordering) → o ≡ ordering_then o Equal
 then_equal Less = refl
@@ -318,58 +333,77 @@ of_fit l h =
     let b = and_true _ (is_natural l.place) c.0 in
     and_true (is_natural l.room) (is_natural l.fit) b.0
 
-fit_keys_rise : (rooms : List PlainRoom) (fits : Option (Vec PlainFit Global))
-    → fits_natural fits ≡ true → fits_rise fits ≡ true
+fit_keys_rise : (version : Version) (rooms : List PlainRoom) (fits : Option (Vec PlainFit Global)) (db : Trees)
+    → IsFitTable version (db fit_tree) → AreFitRows version fits db → fits_natural fits ≡ true
     → are_in_order pair_cmp (map (λ (l : PlainRoom). (number_of l.room, 1)) rooms) ≡ true
     → are_in_order pair_cmp (keys_of (entries_of rooms fits)) ≡ true
-fit_keys_rise rooms None natural up first = begun_rise rooms first
-fit_keys_rise rooms (Some fits) natural up first =
-    entries_rise fit_order pair_cmp fit_entry fit_natural
+fit_keys_rise version rooms None db t are natural first = begun_rise rooms first
+fit_keys_rise First rooms (Some fits) db t are natural first =
+    absurd (let w : ◌≡◌ {A = Option (Vec PlainFit Global)} (Some fits) None = are in cc)
+fit_keys_rise Second rooms (Some fits) db t are natural first =
+    entries_rise fit_order pair_cmp pair_cmp_total fit_entry fit_natural
     (λ x y h k. let p = of_fit x h in let q = of_fit y k in same_pairs x.room x.fit y.room y.fit p.0 p.1 q.0 q.1)
-    fits.items natural up
+    fits.items natural are.1
+    (plain_apart (by_key pair_cmp) (key_total pair_cmp_total) fit_columns fit_of fit_written fit_shown fit_entry
+    fits.items (db fit_tree) t are.0 (each fit_natural _ fit_good fits.items natural))
 
-keys_rise : {version : Version} (s : Stored) (db : Trees) → AreStored version s db
-    → all_natural s ≡ true → keys_in_order (rows_of s) ≡ true
-keys_rise s db a natural =
+keys_rise : {version : Version} (s : Stored) (db : Trees) → AreTablesOf version db → AreStored version s db
+    → columns_fit s ≡ true → all_natural s ≡ true → keys_in_order (rows_of s) ≡ true
+keys_rise {version} s db t a columns natural =
     let n = naturals s natural in
-    let r7 = and_true _ (fits_rise s.fit) a.rise in
-    let r6 = and_true _ (are_in_order note_order s.note.items) r7.0 in
-    let r5 = and_true _ (are_in_order inside_order s.inside.items) r6.0 in
-    let r4 = and_true _ (are_in_order card_order s.card.items) r5.0 in
-    let r3 = and_true _ (are_in_order code_order s.code.items) r4.0 in
-    let r2 = and_true _ (are_in_order stay_order s.stay.items) r3.0 in
-    let r1 = and_true (are_in_order kind_order s.kind.items) (are_in_order room_order s.room.items) r2.0 in
-    let kinds = rise_by kind_order (slice_cmp nat_cmp) kind_text kind_natural (λ x y h k. refl) s.kind.items
-    (all_kinds s.kind.items) r1.0 in
-    let rooms = entries_rise room_order nat_cmp room_entry room_natural
-    (λ x y h k. same_order x.room y.room (of_room x h) (of_room y k)) s.room.items n.rooms r1.1 in
-    let stays = entries_rise stay_order nat_cmp stay_entry stay_natural
-    (λ x y h k. same_order x.party y.party (of_stay x h) (of_stay y k)) s.stay.items n.stays r2.1 in
-    let codes = entries_rise code_order nat_cmp code_entry code_natural
-    (λ x y h k. same_order x.code y.code (of_code x h) (of_code y k)) s.code.items n.codes r3.1 in
-    let cards = entries_rise card_order nat_cmp card_entry card_natural
-    (λ x y h k. same_order x.number y.number (of_card x h) (of_card y k)) s.card.items n.cards r4.1 in
-    let inside = rise_by inside_order pair_cmp inside_pair inside_natural
+    let f2 = and_true _ (list_all damage.are_note_columns s.note.items) columns in
+    let f1 =
+    and_true (list_all damage.are_room_columns s.room.items) (list_all damage.are_stay_columns s.stay.items) f2.0 in
+    let kinds = rise_by kind_order (slice_cmp nat_cmp) nat_list_cmp_total kind_text kind_natural (λ x y h k. refl)
+    s.kind.items (kinds_natural s.kind.items) (chain_of kind_order s.kind.items a.kinds.1)
+    (plain_apart (slice_cmp nat_cmp) nat_list_cmp_total kind_columns kind_of kind_written kind_shown kind_text
+    s.kind.items (db kind_tree) t.kind a.kinds.0 (all_kinds s.kind.items)) in
+    let rooms_apart = plain_apart (by_key nat_cmp) (key_total nat_cmp_total) room_columns room_of room_written room_shown
+    room_entry s.room.items (db room_tree) t.room a.rooms.0
+    (each_two room_natural damage.are_room_columns _ room_good s.room.items n.rooms f1.0) in
+    let rooms = entries_rise room_order nat_cmp nat_cmp_total room_entry room_natural
+    (λ x y h k. same_order x.room y.room (of_room x h) (of_room y k)) s.room.items n.rooms a.rooms.1 rooms_apart in
+    let stays = entries_rise stay_order nat_cmp nat_cmp_total stay_entry stay_natural
+    (λ x y h k. same_order x.party y.party (of_stay x h) (of_stay y k)) s.stay.items n.stays a.stays.1
+    (plain_apart (by_key nat_cmp) (key_total nat_cmp_total) stay_columns stay_of stay_written stay_shown stay_entry
+    s.stay.items (db stay_tree) t.stay a.stays.0
+    (each_two stay_natural damage.are_stay_columns _ stay_good s.stay.items n.stays f1.1)) in
+    let codes = entries_rise code_order nat_cmp nat_cmp_total code_entry code_natural
+    (λ x y h k. same_order x.code y.code (of_code x h) (of_code y k)) s.code.items n.codes a.codes.1
+    (plain_apart (by_key nat_cmp) (key_total nat_cmp_total) code_columns code_of code_written code_shown code_entry
+    s.code.items (db code_tree) t.code a.codes.0 (each code_natural _ code_good s.code.items n.codes)) in
+    let cards = entries_rise card_order nat_cmp nat_cmp_total card_entry card_natural
+    (λ x y h k. same_order x.number y.number (of_card x h) (of_card y k)) s.card.items n.cards a.cards.1
+    (plain_apart (by_key nat_cmp) (key_total nat_cmp_total) card_columns card_of card_written card_shown card_entry
+    s.card.items (db card_tree) t.card a.cards.0 (each card_natural _ card_good s.card.items n.cards)) in
+    let inside = rise_by inside_order pair_cmp pair_cmp_total inside_pair inside_natural
     (λ x y h k. let p = and_true (is_natural x.room) (is_natural x.card) h in let q = and_true (is_natural y.room)
     (is_natural y.card) k in same_pairs x.room x.card y.room y.card p.0 p.1 q.0 q.1)
-    s.inside.items n.inside r5.1 in
-    let notes = entries_rise note_order pair_cmp note_entry note_natural
+    s.inside.items n.inside (chain_of inside_order s.inside.items a.inside.1)
+    (plain_apart pair_cmp pair_cmp_total inside_columns inside_of inside_written inside_shown inside_pair s.inside.items
+    (db inside_tree) t.inside a.inside.0 (each inside_natural _ inside_good s.inside.items n.inside)) in
+    let notes = entries_rise note_order pair_cmp pair_cmp_total note_entry note_natural
     (λ x y h k. let p = of_note x h in let q = of_note y k in same_pairs x.room x.n y.room y.n p.0 p.1 q.0 q.1)
-    s.note.items n.notes r6.1 in
-    let began = rise_by room_order pair_cmp (λ (l : PlainRoom). (number_of l.room, 1)) room_natural
+    s.note.items n.notes a.notes.1
+    (plain_apart (by_key pair_cmp) (key_total pair_cmp_total) note_columns note_of note_written note_shown note_entry
+    s.note.items (db note_tree) t.note a.notes.0
+    (each_two note_natural damage.are_note_columns _ note_good s.note.items n.notes f2.1)) in
+    let began = rise_by room_order pair_cmp pair_cmp_total (λ (l : PlainRoom). (number_of l.room, 1)) room_natural
     (λ x y h k.
     then_equal (int_cmp x.room y.room)
     ∙ same_pairs x.room (pos 1) y.room (pos 1) (of_room x h) refl (of_room y k) refl)
-    s.room.items n.rooms r1.1 in
-    let fits = fit_keys_rise s.room.items s.fit n.fits r7.1 began in
+    s.room.items n.rooms (chain_of room_order s.room.items a.rooms.1)
+    (ascending_weaker _ _ (λ x y other. ap is_eq (sym (then_equal (nat_cmp (number_of x.room) (number_of y.room))))
+    ∙ other) s.room.items rooms_apart) in
+    let fits = fit_keys_rise version s.room.items s.fit db t.fit a.fits n.fits began in
     let joined_rooms = ap (are_in_order nat_cmp) (keys_with_fit (fits_of s) (map room_entry s.room.items)) ∙ rooms in
     let joined_notes = ap (are_in_order pair_cmp) (keys_under_fit (fits_of s) (map note_entry s.note.items)) ∙ notes in
     let first = both _ _ (both _ _ (both _ _ kinds joined_rooms) codes) stays in
     both _ _ (both _ _ (both _ _ (both _ _ first cards) inside) joined_notes) fits
   where
-    all_kinds : (ls : List PlainKind) → list_all kind_natural ls ≡ true
-    all_kinds [] = refl
-    all_kinds (l ∷ ls) = all_kinds ls
+    kinds_natural : (ls : List PlainKind) → list_all kind_natural ls ≡ true
+    kinds_natural [] = refl
+    kinds_natural (l ∷ ls) = kinds_natural ls
 
     of_room : (l : PlainRoom) → room_natural l ≡ true → is_natural l.room ≡ true
     of_room l h =
@@ -445,7 +479,7 @@ read_undamaged version db t = (
   has_row db t,
   λ s a.
       let w = are_written s db t a in
-      let desk = are_desk s db a (t.inside_numbered, t.inside_ids) (keys_rise s db a w.natural) w.fit w.natural in
+      let desk = are_desk s db a (t.inside_numbered, t.inside_ids) (keys_rise s db t a w.fit w.natural) w.fit w.natural in
       (sym desk.rows, λ sound. (undamaged_is_sound s).1 (subst IsSound desk.rows sound, w.fit)),
 )
 

@@ -15,7 +15,6 @@ use Rattle.keycard_rules.specs.declared.issued.LookFault.{LookFault}
 use Rattle.keycard_rules.specs.declared.issued.LookFault.TheVariants as look
 use Rattle.hotel_model.specs.Rows.{no_rows}
 use Rattle.hotel_model.specs.Sound.{IsSound}
-use Rattle.hotel_model.specs.SoundRooms.{are_in_order}
 use Rattle.hotel_rows.specs.declared.stored.Stored.{Stored}
 use Rattle.hotel_statements.specs.declared.plain_rows.PlainMeta.{PlainMeta}
 use Rattle.hotel_statements.specs.declared.plain_rows.NumberedInside.{NumberedInside}
@@ -24,9 +23,9 @@ use Rattle.hotel_statements.specs.Trees.{note_tree}
 use Rattle.hotel_statements.specs.Columns.{meta_columns, kind_columns, room_columns, stay_columns}
 use Rattle.hotel_statements.specs.Columns.{code_columns, card_columns, inside_columns, note_columns}
 use Rattle.hotel_statements.specs.PlainRows.{maybe, kind_shown, room_shown, stay_shown, code_shown, card_shown}
-use Rattle.hotel_statements.specs.PlainRows.{inside_shown, note_shown, ArePlainRows}
+use Rattle.hotel_statements.specs.PlainRows.{inside_shown, note_shown, AreRowsInOrder}
 use Rattle.hotel_statements.specs.PlainRows.{kind_order, room_order, stay_order, code_order, card_order, inside_order}
-use Rattle.hotel_statements.specs.PlainRows.{note_order, fit_order}
+use Rattle.hotel_statements.specs.PlainRows.{note_order}
 use Rattle.hotel_statements.specs.PlainRows.{may_be_natural, room_natural, stay_natural, code_natural, card_natural}
 use Rattle.hotel_statements.specs.PlainRows.{inside_natural, note_natural, fit_natural}
 use Rattle.hotel_rows.specs.declared.open_fault.OpenFault.{OpenFault}
@@ -53,23 +52,9 @@ use Rattle.hotel_statements.specs.Upgrade.{AreRoomsFor, IsWholeOf}
 use Rattle.hotel_tables.specs.Applied.{LeavesAll}
 use Rattle.hotel_tables.specs.TableBooks.{IsCounted}
 
--- the fits are in the order of their key, where there is a table of them
-abbrev pub fits_rise : Option (Vec PlainFit Global) → Bool
-fits_rise None = true
-fits_rise (Some fits) = are_in_order fit_order fits.items
-
 abbrev pub fits_natural : Option (Vec PlainFit Global) → Bool
 fits_natural None = true
 fits_natural (Some fits) = list_all fit_natural fits.items
-
--- each table is in the order of its key
-abbrev pub all_rise : Stored → Bool
-all_rise s =
-    are_in_order kind_order s.kind.items && are_in_order room_order s.room.items
-    && are_in_order stay_order s.stay.items && are_in_order code_order s.code.items
-    && are_in_order card_order s.card.items && are_in_order inside_order s.inside.items
-    && are_in_order note_order s.note.items
-    && fits_rise s.fit
 
 -- no number is below 0
 abbrev pub all_natural : Stored → Bool
@@ -94,24 +79,18 @@ id_inside l = l.id
 abbrev pub plain_inside : NumberedInside → PlainInside
 plain_inside l = l.plain
 
--- The plain rows are those of the tables of a version, and meta has its one row; whether each table is in the order of
--- its key.
-pub record AreStoredAs (in_order : Bool) (version : Version) (s : Stored) (db : Trees) : Type 0 where
+-- The plain rows are those of the tables of a version, in the order of their keys, and meta has its one row.
+pub record AreStored (version : Version) (s : Stored) (db : Trees) : Type 0 where
   pub meta : map meta_columns (db meta_tree)
       ≡ (Int (pos 1) ∷ Int (pos (number_of_version version)) ∷ maybe s.day ∷ []) ∷ []
-  pub kinds : ArePlainRows kind_columns kind_shown s.kind.items (db kind_tree)
-  pub rooms : ArePlainRows room_columns room_shown s.room.items (db room_tree)
-  pub stays : ArePlainRows stay_columns stay_shown s.stay.items (db stay_tree)
-  pub codes : ArePlainRows code_columns code_shown s.code.items (db code_tree)
-  pub cards : ArePlainRows card_columns card_shown s.card.items (db card_tree)
-  pub inside : ArePlainRows inside_columns inside_shown s.inside.items (db inside_tree)
-  pub notes : ArePlainRows note_columns note_shown s.note.items (db note_tree)
+  pub kinds : AreRowsInOrder kind_columns kind_shown kind_order s.kind.items (db kind_tree)
+  pub rooms : AreRowsInOrder room_columns room_shown room_order s.room.items (db room_tree)
+  pub stays : AreRowsInOrder stay_columns stay_shown stay_order s.stay.items (db stay_tree)
+  pub codes : AreRowsInOrder code_columns code_shown code_order s.code.items (db code_tree)
+  pub cards : AreRowsInOrder card_columns card_shown card_order s.card.items (db card_tree)
+  pub inside : AreRowsInOrder inside_columns inside_shown inside_order s.inside.items (db inside_tree)
+  pub notes : AreRowsInOrder note_columns note_shown note_order s.note.items (db note_tree)
   pub fits : AreFitRows version s.fit db
-  pub rise : all_rise s ≡ in_order
-
--- each is in the order of its key
-abbrev pub AreStored : Version → Stored → Trees → Type 0
-AreStored = AreStoredAs true
 
 -- the rows of those inside have numbers, no two the same
 abbrev pub AreApartInside : Trees → Type 0
@@ -124,12 +103,11 @@ HasMetaRow version db =
     × (column (meta_columns row) 1 ≡ Int (pos (number_of_version version)))
 
 -- What was read is nothing that a query shows of the tables of a version, or that the rules leave: two rows inside have
--- one number, a table isn't in the order of its key, or a number is below 0 though no table is damaged.
+-- one number, or a number is below 0 though no table is damaged.
 abbrev pub IsUnshown : Version → Trees → Type 0
 IsUnshown version db =
     ((t : WholeTables) × AreTablesRead version t db × (¬ AreApart int_cmp (map id_inside t.inside.items)))
-    ⊎ (((s : Stored) × AreStoredAs false version s db)
-    ⊎ ((s : Stored) × AreStored version s db × (first_damaged_of s ≡ None) × (all_natural s ≡ false)))
+    ⊎ ((s : Stored) × AreStored version s db × (first_damaged_of s ≡ None) × (all_natural s ≡ false))
 
 -- What a fault says of the tables of a version, where this is what it says of the calls: Store is reported where a call
 -- failed, or of rows that no query shows; and never of tables that lack the row of meta.

@@ -14,7 +14,7 @@ ghost use Rattle.hotel_statements.specs.Tables.{AreApart, number_of_version};
 ghost use Rattle.hotel_statements.specs.WholeTables.{IsOurs, AreTablesRead};
 ghost use Rattle.hotel_rows.specs.declared.open_fault.OpenFault.TheVariants.{NotADesk};
 ghost use Rattle.hotel_tables.specs.Opening.{AreStored, AreApartInside, IsMetaRow, IsFound, FaultFits, Opens, LacksRow};
-ghost use Rattle.hotel_tables.specs.Opening.{fits_rise, fits_natural, all_rise, all_natural, plain_inside, id_inside};
+ghost use Rattle.hotel_tables.specs.Opening.{fits_natural, all_natural, plain_inside, id_inside};
 ghost use Rattle.hotel_tables.specs.Opening.{fault_for, rooms_for};
 
 use hotel_rows::{
@@ -22,7 +22,7 @@ use hotel_rows::{
 };
 use hotel_statements::Version;
 use hotel_statements::plain_rows::{self, NumberedInside, PlainMeta};
-use hotel_statements::whole_tables::{self, WholeTables, read_tables, rise};
+use hotel_statements::whole_tables::{self, WholeTables, read_tables};
 use keycard_rules::{LookFault, Memory, RoomNo};
 use sqlite::{Alter, Connection};
 use std::alloc::Global;
@@ -107,16 +107,6 @@ fn plain_rows_inside(alloc: Global, inside: &[NumberedInside]) -> Result<Vec<Pla
     }
 }
 
-/// Whether the fits are in the order of their key, where there is a table of them.
-fn fits_rise(fits: &Option<Vec<PlainFit>>) -> bool
-    ensures { result ≡ fits_rise fits.now }
-{
-    match fits {
-        None => true,
-        Some(fits) => rise(fits),
-    }
-}
-
 fn fits_natural(fits: &Option<Vec<PlainFit>>) -> bool
     ensures { result ≡ fits_natural fits.now }
 {
@@ -124,20 +114,6 @@ fn fits_natural(fits: &Option<Vec<PlainFit>>) -> bool
         None => true,
         Some(fits) => whole_tables::all_natural(fits),
     }
-}
-
-/// Whether each table is in the order of its key.
-fn all_rise(stored: &Stored) -> bool
-    ensures { result ≡ all_rise stored.now }
-{
-    rise(&stored.kind)
-        && rise(&stored.room)
-        && rise(&stored.stay)
-        && rise(&stored.code)
-        && rise(&stored.card)
-        && rise(&stored.inside)
-        && rise(&stored.note)
-        && fits_rise(&stored.fit)
 }
 
 /// Whether no number is below 0.
@@ -154,9 +130,9 @@ fn all_natural(stored: &Stored) -> bool
         && fits_natural(&stored.fit)
 }
 
-/// The rows of the tables, where meta has its one row and each table is in the order of its key.
+/// The rows of the tables, where meta has its one row.
 ///
-/// Rows that aren't in order, which no query shows, are a failure of the store.
+/// Two rows inside of one number, which no query shows, are a failure of the store.
 fn stored_of(alloc: Global, tables: WholeTables, version: Version) -> Result<Stored, OpenFault>
     ensures ok { (db : Trees) → AreTablesRead version tables db
         → IfOk result (λ s. AreStored version s db × AreApartInside db) }
@@ -171,7 +147,7 @@ fn stored_of(alloc: Global, tables: WholeTables, version: Version) -> Result<Sto
     let Ok(inside) = plain_rows_inside(alloc, &tables.inside) else {
         return Err(OpenFault::Memory);
     };
-    let stored = Stored {
+    Ok(Stored {
         day: meta.day,
         kind: tables.kinds,
         room: tables.rooms,
@@ -181,11 +157,7 @@ fn stored_of(alloc: Global, tables: WholeTables, version: Version) -> Result<Sto
         inside,
         note: tables.notes,
         fit: tables.fits,
-    };
-    if !all_rise(&stored) {
-        return Err(OpenFault::Store);
-    }
-    Ok(stored)
+    })
 }
 
 pub(crate) fn open_fault(why: LookFault) -> OpenFault

@@ -1,12 +1,11 @@
 use Rattle.std.proofs.Common.{◌≡◌, ◌∙◌, refl, sym, ap, subst, map, ◌++◌, ◌∷◌, [], rules, Vec}
 use Rattle.std.specs.declared.alloc.Global.{Global}
 use Rattle.std.proofs.lemmas.List.{map-append}
-use Rattle.std.specs.List.Sorted.{IsPermutation}
 use Rattle.sqlite.specs.Held.{state}
 use Rattle.sqlite.specs.Given.{HasBegun}
 use Rattle.sqlite.specs.State.{HasCleanDisk, Survives, CommitsShowing}
 use Rattle.hotel_statements.specs.WholeTables.{BeginsAs}
-use Rattle.hotel_statements.specs.PlainRows.{ArePlainRows}
+use Rattle.hotel_statements.specs.PlainRows.{AreRowsInOrder}
 use Rattle.hotel_statements.proofs.Readings.{starts, refused, goes_on, left, ended, broken_off, cut, moved_to}
 use Rattle.hotel_statements.proofs.Unread.{err_is}
 use Rattle.hotel_statements.proofs.whole_tables.read_table.Goals as goal
@@ -53,8 +52,8 @@ returns-in_err-add_plain-in-Ok-Some g c =
     let done = left g.S.Store c.args.version g.L.PlainRow.statement whole.query whole.asks c.args.conn.now c.requires.ours
     c.rows.rows c.next.follows.lender-at-none _ c.next.follows.holds-at-none c.rows.invariant.1 c.in-Ok-Some.row
     (search rules) (BeginsAs g.L.PlainRow.shown)
-    (λ (plain_rows : Vec _ Global) db. ArePlainRows g.L.PlainRow.columns g.L.PlainRow.shown plain_rows.items
-    (db g.L.PlainRow.tree)) fault c.in_err-add_plain-in-Ok-Some.ensures.unread in
+    (λ (plain_rows : Vec _ Global) db. AreRowsInOrder g.L.PlainRow.columns g.L.PlainRow.shown
+    g.L.PlainRow.order plain_rows.items (db g.L.PlainRow.tree)) fault c.in_err-add_plain-in-Ok-Some.ensures.unread in
     moved_to _ _ _ _ (sym (err_is c.from_residual.result fault c.from_residual.ensures)) (search rules) done
 
 pub returns-in-Ok-None : goal.returns-in-Ok-None
@@ -64,11 +63,10 @@ returns-in-Ok-None g c =
     let done = ended g.S.Store c.args.version g.L.PlainRow.statement whole.query whole.asks c.args.conn.now c.requires.ours
     c.rows.rows c.next.follows.lender-at-none _ c.next.follows.holds-at-none c.rows.invariant.1
     (BeginsAs g.L.PlainRow.shown)
-    (λ (plain_rows : Vec _ Global) db. ArePlainRows g.L.PlainRow.columns g.L.PlainRow.shown plain_rows.items
-    (db g.L.PlainRow.tree)) c.rows.plain_rows (search rules)
-    (λ rows known answer. subst (IsPermutation (map g.L.PlainRow.columns (old.now.trees g.L.PlainRow.tree))) (sym known)
-    (whole.answers old.now.trees rows answer)) in
-    search rules
+    (λ (plain_rows : Vec _ Global) db. AreRowsInOrder g.L.PlainRow.columns g.L.PlainRow.shown
+    g.L.PlainRow.order plain_rows.items (db g.L.PlainRow.tree)) c.rows.plain_rows (search rules)
+    (λ rows known answer. whole.answers old.now.trees rows c.rows.plain_rows.items answer known) in
+    moved_to _ _ _ _ refl (search rules) done
 
 pub returns-in-Err-next : goal.returns-in-Err-next
 returns-in-Err-next g c =
@@ -77,8 +75,8 @@ returns-in-Err-next g c =
     c.requires.ours
     c.rows.rows c.next.follows.lender-at-none _ c.next.follows.holds-at-none c.rows.invariant.1
     (BeginsAs g.L.PlainRow.shown)
-    (λ (plain_rows : Vec _ Global) db. ArePlainRows g.L.PlainRow.columns g.L.PlainRow.shown plain_rows.items
-    (db g.L.PlainRow.tree)) c.in-Err-next.error c.fault_of-in-Err-next.result (search rules)
+    (λ (plain_rows : Vec _ Global) db. AreRowsInOrder g.L.PlainRow.columns g.L.PlainRow.shown
+    g.L.PlainRow.order plain_rows.items (db g.L.PlainRow.tree)) c.in-Err-next.error c.fault_of-in-Err-next.result (search rules)
     c.fault_of-in-Err-next.ensures in
     moved_to _ _ _ _ refl (search rules) done
 
@@ -87,6 +85,6 @@ returns g c =
     let whole = c.requires.whole in
     let done = cut g.S.Store c.args.version g.L.PlainRow.statement whole.query whole.asks c.args.conn.now c.requires.ours
     (BeginsAs g.L.PlainRow.shown)
-    (λ (plain_rows : Vec _ Global) db. ArePlainRows g.L.PlainRow.columns g.L.PlainRow.shown plain_rows.items
-    (db g.L.PlainRow.tree)) c.rows.rows.conn.now c.rows.invariant.1 in
+    (λ (plain_rows : Vec _ Global) db. AreRowsInOrder g.L.PlainRow.columns g.L.PlainRow.shown
+    g.L.PlainRow.order plain_rows.items (db g.L.PlainRow.tree)) c.rows.rows.conn.now c.rows.invariant.1 in
     search rules

@@ -14,6 +14,6 @@ returns-clause-ok c =
 pub returns-clause-err : goal.returns-clause-err
 returns-clause-err c = λ db read. IfErr-weaker c.meta_row.result _ _ (λ why lacks.
     subst (FaultFits ⊥ c.args.version db) (sym lacks.0)
-    (lacks_row c.args.version db c.args.tables.now.meta.items read.0.0.0
+    (lacks_row c.args.version db c.args.tables.now.meta.items read.0.0.0.0
     (subst (λ (meta : List PlainMeta). LacksRow c.args.version meta) c.deref.ensures.value lacks.1)))
     c.meta_row.ensures.err

@@ -12,7 +12,7 @@ returns-then-not-all_natural-clause-err c = λ version db stored.
     let tested = rw (c.in-Ok-Ok.is, c.in-Ok-Ok.field-0-is) at c.counts_if_sound.ensures in
     inr (
       stored_meta c.args.stored.now db stored,
-      inr (inr (c.args.stored.now, stored, tested.0, sym c.all_natural.ensures ∙ c.if-not-all_natural.true)),
+      inr (c.args.stored.now, stored, tested.0, sym c.all_natural.ensures ∙ c.if-not-all_natural.true),
     )
 
 pub returns-clause-ok : goal.returns-clause-ok

@@ -1,4 +1,4 @@
-use Rattle.std.proofs.Common.{◌≡◌, ◌∙◌, sym, ap, subst, map, true, false, true≢false, inl, inr, List}
+use Rattle.std.proofs.Common.{◌≡◌, ◌∙◌, sym, ap, subst, map, true, true≢false, inl, inr, List}
 use Rattle.std.specs.Ordering.{int_cmp}
 use Rattle.hotel_statements.specs.declared.plain_rows.NumberedInside.{NumberedInside}
 use Rattle.hotel_tables.specs.Opening.{id_inside, plain_inside}
@@ -13,9 +13,8 @@ returns-clause-ok c = λ db read.
     let apart = subst (λ (ls : List NumberedInside). c.in-Ok-true.field-0 ≡ true → AreApart int_cmp (map id_inside ls))
     c.deref.ensures.value c.in-Ok-true.ensures.0 in
     let inside = c.in-Ok.ensures ∙ ap (map plain_inside) c.deref-2.ensures.value in (
-      stored_are {of = c.args.version} t db c.in_ok-meta.meta c.in-Ok.inside read is inside
-          (sym c.all_rise.ensures ∙ c.if-not-all_rise.false),
-      ids_apart t.inside.items db read.1.0.1.0 (apart c.in-Ok-true.field-0-test),
+      stored_are {of = c.args.version} t db c.in_ok-meta.meta c.in-Ok.inside read is inside,
+      ids_apart t.inside.items db read.1.0.1.0.0 (apart c.in-Ok-true.field-0-test),
     )
 
 pub returns-in-Ok-false-clause-err : goal.returns-in-Ok-false-clause-err
@@ -28,13 +27,3 @@ returns-in-Ok-false-clause-err c = λ db read.
       read_meta c.args.version t db c.in_ok-meta.meta read c.in_ok-meta.ensures.ok,
       inl (t, read, λ apart. true≢false (sym (back apart) ∙ c.in-Ok-false.field-0-test)),
     )
-
-pub returns-then-not-all_rise-clause-err : goal.returns-then-not-all_rise-clause-err
-returns-then-not-all_rise-clause-err c = λ db read.
-    let t = c.args.tables in
-    let plain = c.in_ok-meta.meta in
-    let is = c.in_ok-meta.ensures.ok in
-    let inside = c.in-Ok.ensures ∙ ap (map plain_inside) c.deref-2.ensures.value in
-    let stored = stored_are {in_order = false} {of = c.args.version} t db plain c.in-Ok.inside
-    read is inside (sym c.all_rise.ensures ∙ c.if-not-all_rise.true) in
-    inr (read_meta c.args.version t db plain read is, inr (inl (_, stored)))
