@@ -90,7 +90,7 @@ pub use Rattle.hotel_nights.specs.FullNight.{is_full, is_standing, takes}
 unfoldable pub use Rattle.hotel_nights.specs.FullNight.{first_day, nights_taken}
 pub use Rattle.hotel_nights.specs.declared.stay.Stay.{Stay}
 pub use Rattle.hotel_nights.specs.declared.stay.StayState.{StayState}
-pub use Rattle.keycard_rules.specs.Draw.{Draw, code_of, one_more}
+pub use Rattle.keycard_rules.specs.Draw.{Draw, code_of}
 unfoldable pub use Rattle.keycard_rules.specs.Draw.{draw_from, past, words}
 pub use Rattle.keycard_rules.specs.Lock.{turn}
 pub use Rattle.keycard_rules.specs.Note.{IsTimed, Note}

@@ -3,10 +3,15 @@ use Rattle.std.proofs.Common.{ℕ, zero, suc, ◌≡◌, ◌+◌, ◌≤◌, ◌
 use Rattle.std.proofs.Common.{refl, ap, sym, ◌∙◌, arith, add-one, cond}
 use Rattle.rand_core.specs.Stream.{Stream, next_u64}
 use Rattle.keycard_rules.specs.Words.{is_one_of}
-use Rattle.keycard_rules.specs.Draw.{words, past, code_of, Draw, one_more, draw_from, drawn}
+use Rattle.keycard_rules.specs.Draw.{words, past, code_of, Draw, draw_from, drawn}
 
+-- the same draw, n more words examined before it
 abbrev pub more : ℕ → Draw → Draw
 more n draw = record { code = draw.code; examined = n + draw.examined }
+
+-- the same, one more
+abbrev one_more : Draw → Draw
+one_more draw = record draw { examined = draw.examined + 1 }
 
 pub past-suc : (n : ℕ) (s : Stream) → past (suc n) s ≡ (next_u64 (past n s)).1
 unfolding past

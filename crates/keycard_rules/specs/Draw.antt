@@ -28,15 +28,12 @@ pub record Draw : Type 0 where
   pub code : Option ℕ
   pub examined : ℕ
 
--- the same draw, one more word examined before it
-abbrev pub one_more : Draw → Draw
-one_more draw = record { code = draw.code; examined = draw.examined + 1 }
-
 -- the first code of these words that isn't issued
 unfoldable pub draw_from : List ℕ → List ℕ → Draw
 draw_from issued [] = record { code = None; examined = 0 }
 draw_from issued (word ∷ later) =
-    if is_one_of (code_of word) issued then one_more (draw_from issued later)
+    let draw : Draw = draw_from issued later in
+    if is_one_of (code_of word) issued then record draw { examined = draw.examined + 1 }
     else record { code = Some (code_of word); examined = 1 }
 
 -- the same of the next words of a source, as many as a draw may examine

@@ -3,7 +3,7 @@ use Rattle.std.proofs.Common.{ℕ, ◌≡◌, List, [], ◌∷◌, Bool, true, f
 use Rattle.std.proofs.Common.{option_map, not, cond, length, drop, ◌+◌, ◌-◌, ◌==◌, is_some, inl, inr}
 use Rattle.hotel_model.proofs.Names.{at_number, said_of, own_room, room_of, stays, Command, Refusal, KindFull, NoCard}
 use Rattle.hotel_model.proofs.Names.{CardDiffers, LockShut, NotInside, HeldDiffers, NotAwaited, Act, inside, awaited}
-use Rattle.hotel_model.proofs.Names.{Note, Event, History, is_fresh, issued_codes, draw_from, one_more, code_of}
+use Rattle.hotel_model.proofs.Names.{Note, Event, History, is_fresh, issued_codes, draw_from, code_of}
 use Rattle.hotel_model.proofs.Names.{Outcome, accepted, unless, needs, bars, answer_to, checks, effect, reported, told}
 use Rattle.hotel_model.proofs.Names.{moment_of, is_begun, today, is_kind, is_room, is_party, is_booked, is_in_house}
 use Rattle.hotel_model.proofs.Names.{is_of_kind, is_taken, is_card, has_link, opens, next_card, first_full, Standing}
@@ -42,13 +42,14 @@ pub from_draw : (o : Option ℕ) (f : ℕ → Event) (e : Event)
 from_draw (Some code) f e h = (code, refl, cc)
 from_draw None f e h = cc
 
-fresh_case : (h : History) (word : ℕ) (later : List ℕ) (c : ℕ) (b : Bool)
+fresh_case : (h : History) (word : ℕ) (later : List ℕ) (c n : ℕ) (b : Bool)
     → is_one_of (code_of word) (issued_codes h) ≡ b
     → ((draw_from (issued_codes h) later).code ≡ Some c → is_fresh h c ≡ true)
-    → (cond b (one_more (draw_from (issued_codes h) later)) (record { code = Some (code_of word); examined = 1 })).code
+    → (cond b (record (draw_from (issued_codes h) later) { examined = n })
+    (record { code = Some (code_of word); examined = 1 })).code
     ≡ Some c → is_fresh h c ≡ true
-fresh_case h word later c false f ih e = let q : code_of word ≡ c = cc in subst (λ x. is_fresh h x ≡ true) q (ap not f)
-fresh_case h word later c true f ih e = ih e
+fresh_case h word later c n false f ih e = let q : code_of word ≡ c = cc in subst (λ x. is_fresh h x ≡ true) q (ap not f)
+fresh_case h word later c n true f ih e = ih e
 
 -- a drawn code is fresh
 pub drawn_fresh : (h : History) (ahead : List ℕ) (c : ℕ)
@@ -56,7 +57,7 @@ pub drawn_fresh : (h : History) (ahead : List ℕ) (c : ℕ)
 unfolding draw_from
 drawn_fresh h [] c e = cc
 drawn_fresh h (word ∷ later) c e =
-    fresh_case h word later c (is_one_of (code_of word) (issued_codes h)) refl (drawn_fresh h later c) e
+    fresh_case h word later c _ (is_one_of (code_of word) (issued_codes h)) refl (drawn_fresh h later c) e
 
 pub same_event : {a b : Event} → Some a ≡ Some b → a ≡ b
 same_event h = cc
