@@ -2,7 +2,7 @@
 -- Declares nothing.
 pub use Rattle.hotel_core.specs.Books.Failures.{failure_in, refusal_of}
 pub use Rattle.keycard_rules.specs.Calls.{Passes}
-pub use Rattle.hotel_core.specs.Books.Walks.{Hands, StopsAt, TakesPrefix, failure_of}
+pub use Rattle.hotel_core.specs.Books.Walks.{Hands, StopsAt, failure_of}
 pub use Rattle.hotel_core.specs.KindRooms.{is_there, rooms_in}
 pub use Rattle.hotel_core.specs.Memory.{HaveCardNumbers, HaveCounts, HaveRoomNumbers, LaterPlacesFree, PlacesAgree}
 pub use Rattle.hotel_core.specs.Memory.{RoomsKnown, CountsNightsOf, TablesAgree}
@@ -37,13 +37,13 @@ pub use Rattle.hotel_model.proofs.Names.{is_of_fit, is_one_of, is_room, is_stand
 pub use Rattle.hotel_model.proofs.Names.{issued_codes, issued_on, IsTimed, IsTotalOrder, IsUntaken, keys_of}
 pub use Rattle.hotel_model.proofs.Names.{last_fit, left_behind_on, Link, list_all, list_any}
 pub use Rattle.hotel_model.proofs.Names.{lock_place_of, lookup, made, made_by, match_ordering, moment_of, moved}
-pub use Rattle.hotel_model.proofs.Names.{nat_cmp_total, nat_tests, needs, Next, next_card, next_fit, NextDay, none_fall}
+pub use Rattle.hotel_model.proofs.Names.{nat_cmp_total, nat_tests, needs, Next, next_card, next_fit, NextDay}
 pub use Rattle.hotel_model.proofs.Names.{Note, note_at, note_numbered, note_of, notes, notes_at, notes_before}
 pub use Rattle.hotel_model.proofs.Names.{notes_before_each, notes_of, now_is, number_after, of_fit, OfOldFit, on_total}
 pub use Rattle.hotel_model.proofs.Names.{opened_on, opens, ordering_then, Outcome, own_room, pair_cmp, place_on}
 pub use Rattle.hotel_model.proofs.Names.{present_fit, present_fit_on, range_with_len, Reached, Refitted, refused}
 pub use Rattle.hotel_model.proofs.Names.{remove_key, reported, reported_on, room_at, room_changed, room_of_state}
-pub use Rattle.hotel_model.proofs.Names.{rooms_of_kind, Rows, rows_of, Runs, RunsTo, said, said_of, same_link}
+pub use Rattle.hotel_model.proofs.Names.{rooms_of_kind, Rows, rows_of, Runs, said, said_of, same_link}
 pub use Rattle.hotel_model.proofs.Names.{same_note, secured_after_on, secured_on, slice_cmp, Standing, standing}
 pub use Rattle.hotel_model.proofs.Names.{standing_among, StandsFor, start, Stay, stays_of_kind, StayState, Steps}
 pub use Rattle.hotel_model.proofs.Names.{StepsIf, Stream, takes, then_total, those_elsewhere, those_in, told, told_on}
@@ -55,7 +55,7 @@ pub use Rattle.keycard_rules.specs.Draw.{Draws, fault_in}
 unfoldable pub use Rattle.keycard_rules.specs.Draw.{drawn}
 pub use Rattle.keycard_rules.specs.Numbers.{IsNumberUpTo}
 pub use Rattle.keycard_rules.proofs.Sinces.{since_refl, since_then}
-pub use Rattle.keycard_rules.specs.Rise.{Counts, NoFewer, counted_on, one_of}
+pub use Rattle.keycard_rules.specs.Rise.{Counts, one_of}
 pub use Rattle.keycard_rules.specs.Since.{Since}
 pub use Rattle.keycard_rules.specs.declared.issued.LookFault.{LookFault}
 pub use Rattle.std.proofs.lemmas.Cmp.{tied_itself}

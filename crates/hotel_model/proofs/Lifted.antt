@@ -10,7 +10,6 @@ pub mod LiftAll
 pub mod Runs
 pub mod AnswersTell
 pub mod Computed
-pub mod RunParts
 pub mod Whole
 pub mod WholeRows
 pub mod LocksListed

@@ -77,15 +77,14 @@ pub use Rattle.hotel_model.specs.declared.rows.FitRow.{FitRow}
 pub use Rattle.hotel_model.specs.declared.rows.RoomRow.{RoomRow}
 pub use Rattle.hotel_model.specs.declared.command.Command.{Command}
 pub use Rattle.hotel_model.specs.declared.reply.Refusal.{Refusal}
-pub use Rattle.hotel_model.specs.declared.reply.Refusal.TheVariants.{AlreadyBegun, CardDiffers, Conflict, FitsUsedUp}
-pub use Rattle.hotel_model.specs.declared.reply.Refusal.TheVariants.{Gap, HeldDiffers, KindExists, KindFull, LastDay}
-pub use Rattle.hotel_model.specs.declared.reply.Refusal.TheVariants.{LockShut, Memory, NoCard, NoFit, NoFreshCode}
+pub use Rattle.hotel_model.specs.declared.reply.Refusal.TheVariants.{CardDiffers, Conflict, FitsUsedUp}
+pub use Rattle.hotel_model.specs.declared.reply.Refusal.TheVariants.{Gap, HeldDiffers, KindFull}
+pub use Rattle.hotel_model.specs.declared.reply.Refusal.TheVariants.{LockShut, NoCard, NoFit, NoFreshCode}
 pub use Rattle.hotel_model.specs.declared.reply.Refusal.TheVariants.{NoKind, NoParty, NoRoom, NotAwaited, NotBegun}
 pub use Rattle.hotel_model.specs.declared.reply.Refusal.TheVariants.{NotBooked, NotInHouse, NotInside, NumbersUsedUp}
-pub use Rattle.hotel_model.specs.declared.reply.Refusal.TheVariants.{OldFit, RoomExists, RoomTaken, SameRoom, Store}
+pub use Rattle.hotel_model.specs.declared.reply.Refusal.TheVariants.{OldFit, RoomExists, RoomTaken, SameRoom}
 pub use Rattle.hotel_model.specs.declared.reply.Refusal.TheVariants.{WrongKind}
 pub use Rattle.hotel_model.specs.declared.reply.Reply.{Reply}
-pub use Rattle.hotel_model.specs.declared.reply.Reply.TheVariants.{Refused}
 pub use Rattle.hotel_nights.specs.FullNight.{is_full, is_standing, takes}
 unfoldable pub use Rattle.hotel_nights.specs.FullNight.{first_day, nights_taken}
 pub use Rattle.hotel_nights.specs.declared.stay.Stay.{Stay}

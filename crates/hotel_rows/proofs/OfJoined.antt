@@ -1,5 +1,5 @@
 -- Rows of rooms and notes, joined with the fits of their rooms: what is found there, and what changes.
-use Rattle.std.proofs.Common.{ℕ, ◌≡◌, ◌≤◌, ◌<◌, ◌-◌, Bool, true, false, cond, Option, Some, None, List, [], ◌∷◌, ◌++◌}
+use Rattle.std.proofs.Common.{ℕ, ◌≡◌, ◌≤◌, ◌<◌, Bool, true, false, cond, Option, Some, None, List, [], ◌∷◌, ◌++◌}
 use Rattle.std.proofs.Common.{map, filter, refl, ap, sym, ◌∙◌, subst, arith, ◌==◌, ◌||◌, not, nat_le, nat_lt, nat_cmp}
 use Rattle.std.proofs.Common.{option_map, is_eq, Ordering, Less, Equal, Greater}
 use Rattle.hotel_core.proofs.Names.{match_ordering, insert_entry, is_at, lookup, list_all, keys_of, nat_tests}
@@ -16,33 +16,6 @@ use Rattle.hotel_model.proofs.OfTables.AtRoom.{is_before, picked_more, fits_are_
 use Rattle.hotel_model.proofs.OfTables.FitLists.{last_more}
 use Rattle.hotel_rows.specs.Joined.{with_last, with_fit, fit_of_number, with_count, under_fit, FitEntries}
 pub mod Numbers
-pub mod FirstFits
-
--- ---- one row
-
--- a room's entry joined is the row of its last fit, or the entry as it stands
-pub with_fit_is : (fits : FitEntries) (e : ℕ × RoomRow) → with_fit fits e
-    ≡ (e.0, said_of (last_fit (fits_at fits e.0)) e.1 (λ f. record e.1 { fit = f.fit; before = f.before }))
-with_fit_is fits e = by (last_fit (fits_at fits e.0))
-  where
-    by : (o : Option FitRow) → ◌≡◌ {A = ℕ × RoomRow} (e.0, with_last o e.1)
-        (e.0, said_of o e.1 (λ f. record e.1 { fit = f.fit; before = f.before }))
-    by (Some f) = refl
-    by None = refl
-
--- a note's entry joined is the note of its fit, or the entry as it stands
-pub under_fit_is : (fits : FitEntries) (e : (ℕ × ℕ) × Note)
-    → under_fit fits e ≡ (
-      e.0,
-      said_of (fit_of_number (fits_at fits e.0.0) e.0.1) e.1
-          (λ f. record e.1 { fit = f.fit; count = e.0.1 - f.before }),
-    )
-under_fit_is fits e = by (fit_of_number (fits_at fits e.0.0) e.0.1)
-  where
-    by : (o : Option FitRow) → ◌≡◌ {A = (ℕ × ℕ) × Note} (e.0, with_count o e.0.1 e.1)
-        (e.0, said_of o e.1 (λ f. record e.1 { fit = f.fit; count = e.0.1 - f.before }))
-    by (Some f) = refl
-    by None = refl
 
 -- ---- keys
 
@@ -304,18 +277,6 @@ rooms_stay fits later room f more (e ∷ es) none =
         → ((room == e.0) ≡ false) × (at_number es room ≡ None)
     apart true here h = absurd (let w : ◌≡◌ {A = Option RoomRow} (Some e.1) None = h in cc)
     apart false here h = (turned e.0 room here, h)
-
--- A new room with its first fit, put in and joined.
-pub new_room_joined : (fits later : FitEntries) (room : ℕ) (f : FitRow) → HasOneMore fits later room f
-    → (es : List (ℕ × RoomRow)) (row : RoomRow) → at_number es room ≡ None
-    → map (with_fit later) (insert_entry nat_cmp es room row)
-    ≡ insert_entry nat_cmp (map (with_fit fits) es) room (record row { fit = f.fit; before = f.before })
-new_room_joined fits later room f more es row none =
-    room_put later es room row
-    ∙ ap (λ rows. insert_entry nat_cmp rows room (with_last (last_fit (fits_at later room)) row))
-    (rooms_stay fits later room f more es none)
-    ∙ ap (λ o. insert_entry nat_cmp (map (with_fit fits) es) room (with_last o row))
-    (ap last_fit (own_fits fits later room f more) ∙ last_more (fits_at fits room) f)
 
 -- no later room has the number of an earlier one
 abbrev pub none_twice : List (ℕ × RoomRow) → Type 0

@@ -10,7 +10,6 @@ use Rattle.hotel_model.proofs.OfTables.Pairs.{pair_cmp_total}
 use Rattle.hotel_model.proofs.OfTables.KeysInOrder.{AllAfter, InOrder}
 use Rattle.hotel_statements.specs.declared.version.Version.{Version}
 use Rattle.hotel_statements.specs.Tables.{AreTables, AreTablesOf, by_key, rows_in, fits_in, bare_rooms_in}
-use Rattle.hotel_statements.specs.Tables.{bare_notes_in}
 use Rattle.hotel_statements.proofs.Perm.{sort_rises}
 use Rattle.hotel_statements.proofs.Keyed.{key_total}
 
@@ -32,9 +31,6 @@ insides_rise db t = sort_rises pair_cmp pair_cmp_total _ t.inside.apart
 
 pub kinds_rise : (db : Trees) → AreTables db → IsAscending (λ a b. slice_cmp nat_cmp a b ≡ Less) (rows_in db).kinds
 kinds_rise db t = sort_rises (slice_cmp nat_cmp) nat_list_cmp_total _ t.kind.apart
-
-pub notes_rise : (db : Trees) → AreTables db → IsAscending (λ a b. by_key pair_cmp a b ≡ Less) (bare_notes_in db)
-notes_rise db t = sort_rises (by_key pair_cmp) (key_total pair_cmp_total) _ t.note.apart
 
 pub fits_rise : (db : Trees) → AreTables db → IsAscending (λ a b. by_key pair_cmp a b ≡ Less) (fits_in db)
 fits_rise db t = sort_rises (by_key pair_cmp) (key_total pair_cmp_total) _ t.fit.apart

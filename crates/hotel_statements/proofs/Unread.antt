@@ -1,8 +1,6 @@
 -- Why a column isn't read.
 use Rattle.std.proofs.Common.{◌≡◌, ◌≢◌, ◌∙◌, ◌<◌, ℕ, List, length, sym, ap, subst, get_or, Result, Ok, Err, IfErr, All}
 use Rattle.std.specs.Result.{IsErr, IsErrAnd}
-use Rattle.sqlite_value.specs.declared.value.Value.{Value}
-use Rattle.sqlite.specs.Order.{Row}
 use Rattle.sqlite.specs.declared.error.Error.{Error}
 use Rattle.sqlite.specs.declared.error.Error.TheVariants.{SqliteFailure}
 use Rattle.sqlite.specs.declared.error.ErrorCode.TheVariants.{OutOfMemory}
@@ -10,16 +8,9 @@ use Rattle.keycard_rules.specs.declared.issued.LookFault.{LookFault}
 use Rattle.keycard_rules.specs.declared.issued.LookFault.TheVariants as why
 use Rattle.sqlite.specs.State.{State}
 use Rattle.hotel_statements.specs.LookUps.{fault_of, HasCause}
-use Rattle.hotel_statements.specs.Readable.{IsUnreadAt}
 
 pub not_wanting : (e : Error) → fault_of e ≢ why.Memory → e ≢ SqliteFailure OutOfMemory
 not_wanting e other is = other (ap fault_of is)
-
--- what isn't read as one isn't read as less
-pub unread_so : {Is Has : Value → Type 0} → ((v : Value) → Has v → Is v) → (r : Row) (at : ℕ) (fault : LookFault)
-    → IsUnreadAt Is r at fault
-    → IsUnreadAt Has r at fault
-unread_so gives r at fault fails other within has = fails other within (gives _ has)
 
 -- what `?` hands over is the error
 pub err_is : {T : Type 0} (r : Result T LookFault) (fault : LookFault) → IsErr r × IsErrAnd r (λ given. given ≡ fault)

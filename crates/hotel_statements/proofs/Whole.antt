@@ -20,7 +20,8 @@ use Rattle.hotel_statements.specs.Texts as text
 use Rattle.hotel_statements.specs.Columns.{meta_columns, kind_columns, room_columns, stay_columns, code_columns}
 use Rattle.hotel_statements.specs.Columns.{card_columns, note_columns, fit_columns}
 use Rattle.hotel_statements.specs.PlainRows.{numbered_columns, first_one, first_three, first_four, first_seven}
-use Rattle.hotel_statements.specs.PlainRows.{first_eight, meta_shown, kind_shown, room_shown, stay_shown, code_shown, card_shown}
+use Rattle.hotel_statements.specs.PlainRows.{first_eight, meta_shown, kind_shown, room_shown, stay_shown, code_shown}
+use Rattle.hotel_statements.specs.PlainRows.{card_shown}
 use Rattle.hotel_statements.specs.PlainRows.{numbered_shown, note_shown, fit_shown, AreRowsInOrder}
 use Rattle.hotel_statements.specs.PlainRows.{meta_order, kind_order, room_order, stay_order, code_order, card_order}
 use Rattle.hotel_statements.specs.PlainRows.{numbered_order, note_order, fit_order}
@@ -34,7 +35,7 @@ use Rattle.hotel_statements.specs.WholeTables.{IsWhole}
 use Rattle.hotel_statements.proofs.Statements.Terms.{columns, all_seven, all_eight}
 use Rattle.hotel_statements.proofs.Statements.Reads as reads
 use Rattle.hotel_statements.proofs.Answers.{single, env, passes, answered, made_of_shown}
-use Rattle.hotel_statements.proofs.InOrder.{chain_of, sorted_of, along}
+use Rattle.hotel_statements.proofs.InOrder.{in_order_of, sorted_of, shown_in_order}
 use Rattle.hotel_statements.proofs.Ordered.{then_nothing}
 use Rattle.hotel_statements.proofs.Perm.{every_shuffled}
 
@@ -78,9 +79,9 @@ module _ {L : Type 0} (tree : ℕ) (project : List Term) (by : List (Term × Key
       let values_are : map shown plain_rows ≡ map (λ (x : Output). cut x.1) it.ordered =
       is ∙ ap (map cut) it.shown ∙ map-map cut (λ (x : Output). x.1) it.ordered in (
         subst (IsPermutation (map columns (db tree))) (sym is) (are_rows db rows a),
-        sorted_of order plain_rows (along (key_cmp 0 (map (λ k. k.1) by)) (λ (x : Output). x.0)
+        sorted_of order plain_rows (shown_in_order (key_cmp 0 (map (λ k. k.1) by)) (λ (x : Output). x.0)
             (λ (x : Output). cut x.1) keys shown order same it.ordered plain_rows values_are each
-            (chain_of (output_cmp (single tree [] project by)) it.ordered it.sorted)),
+            (in_order_of (output_cmp (single tree [] project by)) it.ordered it.sorted)),
       )
 
 -- ---- the keys that a statement sorts by, of the columns that it shows
@@ -117,8 +118,8 @@ meta_whole version = record {
   query = single meta_tree [] (columns (0 ∷ 2 ∷ 3 ∷ [])) by_rowid;
   asks = whatever version (reads.read_meta version);
   answers =
-      all_rows meta_tree (columns (0 ∷ 2 ∷ 3 ∷ [])) by_rowid meta_columns first_three first_key meta_shown meta_order (λ r. refl)
-      (λ r. refl) (λ r. refl) (λ a b. by_number a.id b.id);
+      all_rows meta_tree (columns (0 ∷ 2 ∷ 3 ∷ [])) by_rowid meta_columns first_three first_key meta_shown meta_order
+      (λ r. refl) (λ r. refl) (λ r. refl) (λ a b. by_number a.id b.id);
 }
 
 pub kind_whole : (version : Version) → IsWhole version text.read_kind kind_tree kind_columns first_one kind_shown
@@ -127,8 +128,8 @@ kind_whole version = record {
   query = single kind_tree [] (columns (1 ∷ [])) by_first;
   asks = whatever version (reads.read_kind version);
   answers =
-      all_rows kind_tree (columns (1 ∷ [])) by_first kind_columns first_one first_key kind_shown kind_order (λ r. refl)
-      (λ r. refl) (λ r. refl) (λ a b. then_nothing _ ∙ value_cmp-Text _ _);
+      all_rows kind_tree (columns (1 ∷ [])) by_first kind_columns first_one first_key kind_shown kind_order
+      (λ r. refl) (λ r. refl) (λ r. refl) (λ a b. then_nothing _ ∙ value_cmp-Text _ _);
 }
 
 pub room_whole : (version : Version) → IsWhole version text.read_room room_tree room_columns first_seven room_shown
@@ -137,8 +138,8 @@ room_whole version = record {
   query = single room_tree [] all_seven by_rowid;
   asks = whatever version (reads.read_room version);
   answers =
-      all_rows room_tree all_seven by_rowid room_columns first_seven first_key room_shown room_order (λ r. refl)
-      (λ r. refl) (λ r. refl) (λ a b. by_number a.room b.room);
+      all_rows room_tree all_seven by_rowid room_columns first_seven first_key room_shown room_order
+      (λ r. refl) (λ r. refl) (λ r. refl) (λ a b. by_number a.room b.room);
 }
 
 pub stay_whole : (version : Version) → IsWhole version text.read_stay stay_tree stay_columns first_seven stay_shown
@@ -147,8 +148,8 @@ stay_whole version = record {
   query = single stay_tree [] all_seven by_rowid;
   asks = whatever version (reads.read_stay version);
   answers =
-      all_rows stay_tree all_seven by_rowid stay_columns first_seven first_key stay_shown stay_order (λ r. refl)
-      (λ r. refl) (λ r. refl) (λ a b. by_number a.party b.party);
+      all_rows stay_tree all_seven by_rowid stay_columns first_seven first_key stay_shown stay_order
+      (λ r. refl) (λ r. refl) (λ r. refl) (λ a b. by_number a.party b.party);
 }
 
 pub code_whole : (version : Version) → IsWhole version text.read_code code_tree code_columns first_three code_shown
@@ -157,8 +158,8 @@ code_whole version = record {
   query = single code_tree [] (columns (0 ∷ 2 ∷ 3 ∷ [])) by_rowid;
   asks = whatever version (reads.read_code version);
   answers =
-      all_rows code_tree (columns (0 ∷ 2 ∷ 3 ∷ [])) by_rowid code_columns first_three first_key code_shown code_order (λ r. refl)
-      (λ r. refl) (λ r. refl) (λ a b. by_number a.code b.code);
+      all_rows code_tree (columns (0 ∷ 2 ∷ 3 ∷ [])) by_rowid code_columns first_three first_key code_shown code_order
+      (λ r. refl) (λ r. refl) (λ r. refl) (λ a b. by_number a.code b.code);
 }
 
 pub card_whole : (version : Version) → IsWhole version text.read_card card_tree card_columns first_four card_shown
@@ -167,18 +168,19 @@ card_whole version = record {
   query = single card_tree [] (columns (0 ∷ 2 ∷ 3 ∷ 4 ∷ [])) by_rowid;
   asks = whatever version (reads.read_card version);
   answers =
-      all_rows card_tree (columns (0 ∷ 2 ∷ 3 ∷ 4 ∷ [])) by_rowid card_columns first_four first_key card_shown card_order (λ r. refl)
-      (λ r. refl) (λ r. refl) (λ a b. by_number a.number b.number);
+      all_rows card_tree (columns (0 ∷ 2 ∷ 3 ∷ 4 ∷ [])) by_rowid card_columns first_four first_key card_shown card_order
+      (λ r. refl) (λ r. refl) (λ r. refl) (λ a b. by_number a.number b.number);
 }
 
-pub inside_whole : (version : Version) → IsWhole version text.read_inside inside_tree numbered_columns first_three numbered_shown
-    numbered_order
+pub inside_whole : (version : Version) → IsWhole version text.read_inside inside_tree numbered_columns first_three
+    numbered_shown numbered_order
 inside_whole version = record {
   query = single inside_tree [] (columns (0 ∷ 1 ∷ 2 ∷ [])) by_two;
   asks = whatever version (reads.read_inside version);
   answers =
-      all_rows inside_tree (columns (0 ∷ 1 ∷ 2 ∷ [])) by_two numbered_columns first_three later_keys numbered_shown numbered_order (λ r. refl)
-      (λ r. refl) (λ r. refl) (λ a b. by_numbers a.plain.room a.plain.card b.plain.room b.plain.card);
+      all_rows inside_tree (columns (0 ∷ 1 ∷ 2 ∷ [])) by_two numbered_columns first_three later_keys numbered_shown
+      numbered_order (λ r. refl) (λ r. refl) (λ r. refl)
+      (λ a b. by_numbers a.plain.room a.plain.card b.plain.room b.plain.card);
 }
 
 pub note_whole : (version : Version) → IsWhole version text.read_note note_tree note_columns first_eight note_shown
@@ -187,8 +189,8 @@ note_whole version = record {
   query = single note_tree [] all_eight by_two;
   asks = whatever version (reads.read_note version);
   answers =
-      all_rows note_tree all_eight by_two note_columns first_eight two_keys note_shown note_order (λ r. refl)
-      (λ r. refl) (λ r. refl) (λ a b. by_numbers a.room a.n b.room b.n);
+      all_rows note_tree all_eight by_two note_columns first_eight two_keys note_shown note_order
+      (λ r. refl) (λ r. refl) (λ r. refl) (λ a b. by_numbers a.room a.n b.room b.n);
 }
 
 -- ---- the table of the second version alone
@@ -198,6 +200,6 @@ fit_whole = record {
   query = single fit_tree [] (columns (1 ∷ 2 ∷ 3 ∷ 4 ∷ [])) by_two;
   asks = whatever Second reads.read_fit;
   answers =
-      all_rows fit_tree (columns (1 ∷ 2 ∷ 3 ∷ 4 ∷ [])) by_two fit_columns first_four two_keys fit_shown fit_order (λ r. refl)
-      (λ r. refl) (λ r. refl) (λ a b. by_numbers a.room a.fit b.room b.fit);
+      all_rows fit_tree (columns (1 ∷ 2 ∷ 3 ∷ 4 ∷ [])) by_two fit_columns first_four two_keys fit_shown fit_order
+      (λ r. refl) (λ r. refl) (λ r. refl) (λ a b. by_numbers a.room a.fit b.room b.fit);
 }

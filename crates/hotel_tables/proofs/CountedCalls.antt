@@ -1,7 +1,7 @@
 -- A look-up or a walk of the tables whose answer was counted, as one of the books.
 use Rattle.std.proofs.Common.{ℕ, ◌≡◌, ◌≤◌, ◌<◌, ◌⊎◌, inl, inr, Bool, true, false, List, [], Result, Ok, Err, Option}
 use Rattle.std.proofs.Common.{Some, None}
-use Rattle.std.proofs.Common.{◌+◌, nat_le, refl, ap, sym, ◌∙◌, subst, rules, arith, le_refl}
+use Rattle.std.proofs.Common.{◌+◌, nat_le, refl, ap, sym, ◌∙◌, subst, rules, arith}
 use Rattle.std.specs.Prelude.{IfErr, IfOk, OnErr, OnOk, IsErrAnd, IsTrue}
 use Rattle.std.specs.Result.{IsErr, IsErrAnd}
 use Rattle.std.proofs.lemmas.Bool.{false≢true}
@@ -36,7 +36,8 @@ use Rattle.hotel_statements.specs.Walks.{WalksList}
 use Rattle.hotel_statements.specs.Books.{IsKept, IsBooks, KeepsRows}
 use Rattle.hotel_statements.specs.Tables.{rows_in}
 use Rattle.hotel_tables.specs.TableBooks.{Tabled, IsCounted, IsTabled, failed, AsksFirst, HandsOn}
-use Rattle.hotel_tables.specs.{Applied.Applies, Applied.LeavesNothing}
+use Rattle.hotel_tables.specs.{Applied.Applies, Applied.LeavesNothing, StopLaws.nothing_refl}
+use Rattle.hotel_statements.proofs.Transaction.{none_new}
 use Rattle.hotel_tables.specs.Causes.{HasLooked, LookFails, LookUpFails, OnceReady, ChangingFails, of_day}
 use Rattle.hotel_tables.proofs.Causes.{asked_then, looked}
 
@@ -86,16 +87,8 @@ over_tables g = record {
   clean_honest = λ a kept. kept.0;
   kept_refl = λ a. refl;
   kept_trans = λ a b c h k. k ∙ h;
-  no_more_refl = λ a. record {
-    clean = le_refl _;
-    shield = λ h. h;
-    counts = le_refl _;
-    limit = refl;
-    closes = λ clean is_open. inl is_open;
-    crash = λ clean db left. inl left;
-  };
-  no_more_trans = λ a b c first later. survives_then (state g a.conn) (state g b.conn) (state g c.conn)
-      (λ _. ⊥) (λ _. ⊥) (λ _. ⊥) (λ clean db no. no) (λ clean db no. no) first later;
+  no_more_refl = λ a. nothing_refl (state g a.conn);
+  no_more_trans = λ a b c first later. none_new first later;
   kept_issued = λ a b h. ap codes_in h;
 }
 

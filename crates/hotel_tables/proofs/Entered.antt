@@ -2,7 +2,6 @@
 use Rattle.std.proofs.Common.{◌≡◌, ◌⊎◌, inl, inr, refl, sym, ap, subst, ◌∙◌, ℕ, List, true, false, Result, Ok, Err}
 use Rattle.std.proofs.Common.{IfErr, IsTrue, arith}
 use Rattle.std.specs.Map.{keys_of}
-use Rattle.sqlite.specs.Schema.{Schema}
 use Rattle.sqlite.specs.Effect.{Database}
 use Rattle.sqlite.specs.State.{State, HasCleanDisk, Survives}
 use Rattle.sqlite.proofs.StateLemmas.{survives_then, survives_weaker}
@@ -15,7 +14,7 @@ use Rattle.hotel_statements.specs.LookUps.{fault_of}
 use Rattle.hotel_statements.specs.declared.version.Version.{Version}
 use Rattle.hotel_statements.specs.declared.version.Layout.{Layout}
 use Rattle.hotel_statements.specs.declared.version.Layout.TheVariants.{Eight, Nine}
-use Rattle.hotel_statements.specs.Schema.{first_schema, with_indexes, schema_of, version_of, is_whole}
+use Rattle.hotel_statements.specs.Schema.{schema_of, version_of, is_whole}
 use Rattle.hotel_statements.specs.Tables.{bare_rooms_in, rows_in, rows_of_version}
 use Rattle.hotel_statements.specs.Books.{IsKept, IsBooks, IsBooksOf, KeepsRows}
 use Rattle.hotel_statements.specs.Statements.{completes}
@@ -75,12 +74,6 @@ memory_read failed version old new why (Err look.Store) reads told fails memory 
 is_memory : (why : LookFault) → fault_for why ≡ fault.Memory → why ≡ look.Memory
 is_memory look.Memory is = refl
 is_memory look.Store is = absurd (let both_are : fault.Store ≡ fault.Memory = is in cc)
-
--- the database is laid out in no way of a desk's
-pub of_none : {schema : Schema} → ¬ (schema ≡ first_schema) → ((count : ℕ) → ¬ (schema ≡ with_indexes count))
-    → ¬ IsLaidOut schema
-of_none first second (Eight, is) = first is
-of_none first second (Nine count, is) = second count is
 
 pub sound_of : (s : State) → IsSoundDesk s → IsLaidOut s.now.schema
 sound_of s (layout, desk, sound) = (layout, desk.schema)

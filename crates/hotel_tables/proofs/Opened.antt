@@ -4,7 +4,7 @@ use Rattle.std.proofs.Common.{Bool, Less, Ordering, is_eq, Option, None, Result,
 use Rattle.std.proofs.Common.{inl, inr, length}
 use Rattle.std.proofs.lemmas.Result.{IfErr-weaker}
 use Rattle.std.proofs.Common.{Vec, arith, Some}
-use Rattle.std.specs.Prelude.{◌+◌, ◌≤◌, option_map, bytes_eq}
+use Rattle.std.specs.Prelude.{◌+◌, option_map, bytes_eq}
 use Rattle.std.specs.List.{AllByRecursion, list_all, count_by}
 use Rattle.std.specs.List.Sorted.{IsPermutation, IsSorted}
 use Rattle.std.specs.Ordering.{int_cmp, is_lt}
@@ -79,7 +79,7 @@ use Rattle.hotel_rows.specs.Joined.{with_fit, under_fit, joined_with, initial_fi
 use Rattle.hotel_rows.proofs.OfCounts.{counted_rooms, named_kind}
 use Rattle.hotel_rows.proofs.OfJoined.{keys_with_fit, keys_under_fit}
 use Rattle.hotel_statements.proofs.Answers.{fused}
-use Rattle.hotel_statements.proofs.InOrder.{chain_of, sorted_of, chain_mapped}
+use Rattle.hotel_statements.proofs.InOrder.{in_order_of, sorted_of, mapped_in_order}
 use Rattle.hotel_statements.proofs.Keyed.{key_total}
 use Rattle.hotel_statements.proofs.Perm.{every_shuffled, apart_permuted, sort_rises}
 use Rattle.hotel_statements.proofs.ReadBack.{read_back, tested_keys, tested_order}
@@ -147,10 +147,6 @@ pub read_meta : (of : Version) (t : WholeTables) (db : Trees) (plain : PlainMeta
     → IsMetaRow of t.meta.items plain → HasMetaRow of db
 read_meta of t db plain read meta =
     one_row (number_of_version of) (maybe plain.day) (db meta_tree) (meta_only of t db plain read meta)
-
-pub small_number : (version : Version) → number_of_version version ≤ 2
-small_number First = omega arith
-small_number Second = omega arith
 
 -- ---- the rows inside, and their numbers
 
@@ -237,7 +233,7 @@ inside_in_order : (plain_rows : List NumberedInside) (rows : List Row)
 inside_in_order plain_rows rows are = (
   inside_plain_rows plain_rows rows are.0,
   sorted_of inside_order (map plain_inside plain_rows)
-      (chain_mapped inside_order plain_inside plain_rows (chain_of numbered_order plain_rows are.1)),
+      (mapped_in_order inside_order plain_inside plain_rows (in_order_of numbered_order plain_rows are.1)),
 )
 
 pub stored_are : {of : Version} (t : WholeTables) (db : Trees) (plain : PlainMeta) (inside : Vec PlainInside Global)

@@ -43,7 +43,8 @@ use Rattle.hotel_rows.specs.declared.stored.PlainFit.{PlainFit}
 use Rattle.hotel_rows.specs.declared.stored.Stored.{Stored}
 use Rattle.hotel_rows.specs.declared.open_fault.OpenFault.{OpenFault}
 use Rattle.hotel_rows.specs.declared.open_fault.OpenFault.TheVariants as fault
-use Rattle.hotel_statements.specs.Trees.{meta_tree, kind_tree, room_tree, stay_tree, code_tree, card_tree, inside_tree, note_tree}
+use Rattle.hotel_statements.specs.Trees.{meta_tree, kind_tree, room_tree, stay_tree, code_tree, card_tree, inside_tree}
+use Rattle.hotel_statements.specs.Trees.{note_tree}
 use Rattle.hotel_statements.specs.Trees.{fit_tree}
 use Rattle.hotel_statements.specs.Values.{int, maybe_int}
 use Rattle.hotel_statements.specs.Columns.{meta_columns, meta_of, meta_written, room_columns, room_of, room_written}
@@ -71,7 +72,7 @@ use Rattle.hotel_tables.specs.Opening.{AreStored, HasMetaRow, FaultFits, IsOfCal
 use Rattle.hotel_tables.specs.Opening.{all_natural}
 use Rattle.hotel_tables.specs.Reopening.{ReadUndamaged}
 use Rattle.hotel_statements.proofs.Keyed.{key_total}
-use Rattle.hotel_statements.proofs.InOrder.{IsChain, chain_of}
+use Rattle.hotel_statements.proofs.InOrder.{IsInOrder, in_order_of}
 use Rattle.hotel_statements.proofs.Naturals.{room_good, stay_good, code_good, card_good, inside_good, note_good}
 use Rattle.hotel_statements.proofs.Naturals.{fit_good}
 use Rattle.hotel_statements.proofs.Perm.{every_shuffled}
@@ -288,17 +289,17 @@ below Greater not_after apart = absurd (true≢false not_after)
 
 rise_by : {L K : Type 0} (order : L → L → Ordering) (cmp : K → K → Ordering) (total : IsTotalOrder cmp) (key : L → K)
     (test : L → Bool) → ((a b : L) → test a ≡ true → test b ≡ true → order a b ≡ cmp (key a) (key b))
-    → (ls : List L) → list_all test ls ≡ true → IsChain order ls
+    → (ls : List L) → list_all test ls ≡ true → IsInOrder order ls
     → IsAscending (λ a b. is_eq (cmp (key a) (key b)) ≡ false) ls → are_in_order cmp (map key ls) ≡ true
-rise_by order cmp total key test same [] all chain apart = refl
-rise_by order cmp total key test same (a ∷ []) all chain apart = refl
-rise_by order cmp total key test same (a ∷ b ∷ ls) all chain apart =
+rise_by order cmp total key test same [] all ordered apart = refl
+rise_by order cmp total key test same (a ∷ []) all ordered apart = refl
+rise_by order cmp total key test same (a ∷ b ∷ ls) all ordered apart =
     let first = and_true (test a) (list_all test (b ∷ ls)) all in
     let second = and_true (test b) (list_all test ls) first.1 in
     let turned : ordering_reverse (cmp (key a) (key b)) ≡ order b a =
     sym (total.antisymm (key b) (key a)) ∙ sym (same b a second.0 first.0) in
-    both _ _ (below (cmp (key a) (key b)) (ap is_lt turned ∙ chain.0) apart.0.0)
-    (rise_by order cmp total key test same (b ∷ ls) first.1 chain.1 apart.1)
+    both _ _ (below (cmp (key a) (key b)) (ap is_lt turned ∙ ordered.0) apart.0.0)
+    (rise_by order cmp total key test same (b ∷ ls) first.1 ordered.1 apart.1)
 
 keys_are : {K V L : Type 0} (entry : L → K × V) (ls : List L) → keys_of (map entry ls) ≡ map (λ l. (entry l).0) ls
 keys_are entry [] = refl
@@ -312,7 +313,7 @@ entries_rise : {L K V : Type 0} (order : L → L → Ordering) (cmp : K → K �
     → are_in_order cmp (keys_of (map entry ls)) ≡ true
 entries_rise order cmp total entry test same ls all sorted apart =
     ap (are_in_order cmp) (keys_are entry ls)
-    ∙ rise_by order cmp total (λ l. (entry l).0) test same ls all (chain_of order ls sorted) apart
+    ∙ rise_by order cmp total (λ l. (entry l).0) test same ls all (in_order_of order ls sorted) apart
 
 then_equal : (o : Ordering) → o ≡ ordering_then o Equal
 then_equal Less = refl
@@ -355,11 +356,11 @@ keys_rise {version} s db t a columns natural =
     let f1 =
     and_true (list_all damage.are_room_columns s.room.items) (list_all damage.are_stay_columns s.stay.items) f2.0 in
     let kinds = rise_by kind_order (slice_cmp nat_cmp) nat_list_cmp_total kind_text kind_natural (λ x y h k. refl)
-    s.kind.items (kinds_natural s.kind.items) (chain_of kind_order s.kind.items a.kinds.1)
+    s.kind.items (kinds_natural s.kind.items) (in_order_of kind_order s.kind.items a.kinds.1)
     (plain_apart (slice_cmp nat_cmp) nat_list_cmp_total kind_columns kind_of kind_written kind_shown kind_text
     s.kind.items (db kind_tree) t.kind a.kinds.0 (all_kinds s.kind.items)) in
-    let rooms_apart = plain_apart (by_key nat_cmp) (key_total nat_cmp_total) room_columns room_of room_written room_shown
-    room_entry s.room.items (db room_tree) t.room a.rooms.0
+    let rooms_apart = plain_apart (by_key nat_cmp) (key_total nat_cmp_total) room_columns room_of room_written
+    room_shown room_entry s.room.items (db room_tree) t.room a.rooms.0
     (each_two room_natural damage.are_room_columns _ room_good s.room.items n.rooms f1.0) in
     let rooms = entries_rise room_order nat_cmp nat_cmp_total room_entry room_natural
     (λ x y h k. same_order x.room y.room (of_room x h) (of_room y k)) s.room.items n.rooms a.rooms.1 rooms_apart in
@@ -379,7 +380,7 @@ keys_rise {version} s db t a columns natural =
     let inside = rise_by inside_order pair_cmp pair_cmp_total inside_pair inside_natural
     (λ x y h k. let p = and_true (is_natural x.room) (is_natural x.card) h in let q = and_true (is_natural y.room)
     (is_natural y.card) k in same_pairs x.room x.card y.room y.card p.0 p.1 q.0 q.1)
-    s.inside.items n.inside (chain_of inside_order s.inside.items a.inside.1)
+    s.inside.items n.inside (in_order_of inside_order s.inside.items a.inside.1)
     (plain_apart pair_cmp pair_cmp_total inside_columns inside_of inside_written inside_shown inside_pair s.inside.items
     (db inside_tree) t.inside a.inside.0 (each inside_natural _ inside_good s.inside.items n.inside)) in
     let notes = entries_rise note_order pair_cmp pair_cmp_total note_entry note_natural
@@ -392,7 +393,7 @@ keys_rise {version} s db t a columns natural =
     (λ x y h k.
     then_equal (int_cmp x.room y.room)
     ∙ same_pairs x.room (pos 1) y.room (pos 1) (of_room x h) refl (of_room y k) refl)
-    s.room.items n.rooms (chain_of room_order s.room.items a.rooms.1)
+    s.room.items n.rooms (in_order_of room_order s.room.items a.rooms.1)
     (ascending_weaker _ _ (λ x y other. ap is_eq (sym (then_equal (nat_cmp (number_of x.room) (number_of y.room))))
     ∙ other) s.room.items rooms_apart) in
     let fits = fit_keys_rise version s.room.items s.fit db t.fit a.fits n.fits began in
@@ -479,7 +480,8 @@ read_undamaged version db t = (
   has_row db t,
   λ s a.
       let w = are_written s db t a in
-      let desk = are_desk s db a (t.inside_numbered, t.inside_ids) (keys_rise s db t a w.fit w.natural) w.fit w.natural in
+      let desk = are_desk s db a (t.inside_numbered, t.inside_ids) (keys_rise s db t a w.fit w.natural) w.fit
+      w.natural in
       (sym desk.rows, λ sound. (undamaged_is_sound s).1 (subst IsSound desk.rows sound, w.fit)),
 )
 

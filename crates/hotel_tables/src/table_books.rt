@@ -1,14 +1,14 @@
 //! Books over tables.
 ghost use Rattle.std.specs.Prelude.{◌≡◌, OnOk, Some, IsTrue, refl};
-ghost use Rattle.std.proofs.Common.{ap, ◌∙◌, inl, le_refl};
-ghost use Rattle.sqlite.proofs.StateLemmas.{survives_then};
+ghost use Rattle.std.proofs.Common.{ap, ◌∙◌};
 ghost use Rattle.keycard_rules.specs.{Leaves.told_by, Rise.Counts, Rise.NoFewer, Rise.one_of};
 ghost use Rattle.hotel_model.specs.Refinement.Lookups.{codes_in};
 ghost use Rattle.sqlite.specs.Held.{state};
 ghost use Rattle.sqlite.specs.State.{HasCleanDisk};
 ghost use Rattle.hotel_statements.specs.Books.{IsKept};
 ghost use Rattle.hotel_statements.specs.Tables.{rows_in};
-ghost use Rattle.hotel_tables.specs.Applied.{LeavesNothing};
+ghost use Rattle.hotel_statements.proofs.Transaction.{none_new};
+ghost use Rattle.hotel_tables.specs.{Applied.LeavesNothing, StopLaws.nothing_refl};
 ghost use Rattle.hotel_tables.specs.TableBooks.{failed, AsksFirst, HandsOn};
 ghost use Rattle.hotel_tables.specs.Causes.{LookFails};
 
@@ -125,17 +125,9 @@ impl<S: Alter> Kept for TableBooks<S> {
 
     ghost kept_trans = { λ a b c h k. k ∙ h };
 
-    ghost no_more_refl = { λ a. record {
-      clean = le_refl _;
-      shield = λ h. h;
-      counts = le_refl _;
-      limit = refl;
-      closes = λ clean is_open. inl is_open;
-      crash = λ clean db left. inl left;
-    } };
+    ghost no_more_refl = { λ a. nothing_refl (state S.Store a.conn) };
 
-    ghost no_more_trans = { λ a b c first later. survives_then (state S.Store a.conn) (state S.Store b.conn)
-        (state S.Store c.conn) (λ _. ⊥) (λ _. ⊥) (λ _. ⊥) (λ clean db no. no) (λ clean db no. no) first later };
+    ghost no_more_trans = { λ a b c first later. none_new first later };
 
     ghost kept_issued = { λ a b h. ap codes_in h };
 }

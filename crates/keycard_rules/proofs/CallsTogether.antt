@@ -1,6 +1,6 @@
 -- Calls that were made one after the other.
 use Rattle.std.proofs.Common.{ℕ, ◌≡◌, ◌+◌, true, List, [], ◌∷◌, Option, Some, None}
-use Rattle.std.proofs.Common.{arith, refl, sym, ◌∙◌, zero, suc, ◌-◌, ◌^◌, min, subst, ap, map, ◌++◌, IsSome}
+use Rattle.std.proofs.Common.{arith, refl, sym, ◌∙◌, zero, suc, ◌-◌, ◌^◌, min, subst, ap, ◌++◌, IsSome}
 use Rattle.keycard_rules.specs.declared.issued.LookFault.{LookFault}
 use Rattle.keycard_rules.specs.{declared.kept.Kept.Ghosts as KeptOf, Rise.counted_on, Rise.one_of, Rise.times}
 use Rattle.keycard_rules.specs.{Leaves.Leaves}
@@ -99,11 +99,3 @@ pub passes_join : {S A : Type 0} (after : S → A → S → Type 0) (old mid new
 passes_join after old mid new [] more before later = subst (λ state. Passes after state more new) before later
 passes_join after old mid new (first ∷ items) more before later =
     (before.0, before.1, passes_join after before.0 mid new items more before.2 later)
-
--- Each of these, seen otherwise.
-pub passes_as : {S T A B : Type 0} (after : S → A → S → Type 0) (other : T → B → T → Type 0) (f : S → T) (g : A → B)
-    → ((a b : S) (item : A) → after a item b → other (f a) (g item) (f b))
-    → (old new : S) (items : List A) → Passes after old items new → Passes other (f old) (map g items) (f new)
-passes_as after other f g see old new [] p = ap f p
-passes_as after other f g see old new (item ∷ later) p =
-    (f p.0, see old p.0 item p.1, passes_as after other f g see p.0 new later p.2)

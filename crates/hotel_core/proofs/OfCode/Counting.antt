@@ -4,7 +4,6 @@ use Rattle.hotel_core.proofs.Names.{false≢true, LookFault, Reply, Refused, Mem
 use Rattle.hotel_core.proofs.Names.{refusal_of}
 use Rattle.keycard_rules.specs.Rise.{counted_on, one_of}
 use Rattle.keycard_rules.specs.declared.issued.LookFault.TheVariants as look
-use Rattle.keycard_rules.proofs.CallsTogether.{counted_none}
 
 -- a reply that reports none is no failure
 pub unfailed : (answer : Reply) → failure_in answer ≡ None → is_failed answer ≡ false
@@ -33,8 +32,3 @@ pub none_more : (told : Option LookFault) (why : LookFault) (a b : ℕ)
 none_more None look.Memory a b e p = p
 none_more None look.Store a b e p = p
 none_more (Some other) why a b e p = cc
-
-pub still : (told : Option LookFault) (why : LookFault) (a b c : ℕ)
-    → told ≡ None → b ≡ a → c ≡ counted_on (one_of why told) b → c ≡ a
-still None why a b c e p q = counted_none why a b c p q
-still (Some other) why a b c e p q = cc

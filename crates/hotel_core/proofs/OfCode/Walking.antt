@@ -2,7 +2,7 @@
 use Rattle.std.proofs.Common.{ℕ, suc, ◌≡◌, ◌<◌, ◌+◌, ◌-◌, ◌++◌, Bool, true, false, cond, Option, Some, None, List, []}
 use Rattle.std.proofs.Common.{◌∷◌, Result, Ok, Err, filter, append_assoc, refl, ap, sym, ◌∙◌, subst, arith, filter_map}
 use Rattle.std.proofs.Common.{is_some}
-use Rattle.hotel_core.proofs.Names.{range_with_len, cons_option, Passes, TakesPrefix, StopsAt, failure_of}
+use Rattle.hotel_core.proofs.Names.{range_with_len, cons_option, Passes, StopsAt, failure_of}
 use Rattle.keycard_rules.proofs.CallsTogether.{passes_push}
 use Rattle.std.proofs.lemmas.List.{append-nil}
 use Rattle.keycard_rules.specs.declared.issued.LookFault.TheVariants as look
@@ -33,11 +33,6 @@ all_taken after rows a b s = subst (λ rs. Passes after a rs b) (sym (s.1 ∙ ap
 pub stopped : {S R : Type 0} (after after_stop : S → R → S → Type 0) (rows : List R) (row : R) (rest : List R)
     (a b c : S) → SoFar after rows (row ∷ rest) a b → after_stop b row c → StopsAt after after_stop rows a c
 stopped after after_stop rows row rest a b c s one = (s.0, row, rest, s.1, b, s.2, one)
-
--- the walk is cut off
-pub cut_off : {S R : Type 0} (after : S → R → S → Type 0) (rows rest : List R) (a b : S)
-    → SoFar after rows rest a b → TakesPrefix after rows a b
-cut_off after rows rest a b s = (s.0, rest, s.1, s.2)
 
 -- the rest, where it is known as another list
 pub as_rest : {S R : Type 0} (after : S → R → S → Type 0) (rows rest other : List R) (a b : S)

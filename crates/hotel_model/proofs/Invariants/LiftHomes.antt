@@ -16,9 +16,6 @@ use Rattle.hotel_model.proofs.Starts.StartGuests.{has_newest_at_start}
 abbrev pub HasNewest : History → Type 0
 HasNewest h = (r p : ℕ) → registered h r ≡ Some p → newest_link h r ≡ link_of_party h p
 
-no_party : (p : ℕ) → ◌≡◌ {A = Option ℕ} None (Some p) → ⊥
-no_party p e = cc
-
 -- a party comes to a room: there it has the new link, and others keep theirs
 came_with_link : (b : Bool) (party p r : ℕ) (link : Link) (registered_before : Option ℕ) (newest of_party : Option Link)
     → when b (λ _. Some party) registered_before ≡ Some p

@@ -1,5 +1,5 @@
 -- Rows of which no table is damaged can be counted.
-use Rattle.std.proofs.Common.{◌≡◌, ◌≤◌, ◌<◌, ◌+◌, ◌-◌, ◌^◌, ◌∙◌, refl, sym, subst, arith, ℕ, Bool, true, false, inl}
+use Rattle.std.proofs.Common.{◌≡◌, ◌≤◌, ◌<◌, ◌+◌, ◌-◌, ◌^◌, ◌∙◌, refl, sym, subst, arith, ℕ, true, false, inl}
 use Rattle.std.proofs.Common.{inr, cond, not, ◌==◌, ◌&&◌, List, [], ◌∷◌, map, take, get_or, length, Result, Ok, Err}
 use Rattle.std.proofs.Common.{Option, Some, None, nat_cmp, nat_le, nat_lt}
 use Rattle.std.specs.Prelude.{ℤ, is_some, option_map, string_bytes}
@@ -11,7 +11,6 @@ use Rattle.std.proofs.lemmas.Bool.{cases_Bool}
 use Rattle.std.proofs.lemmas.List.{length-take}
 use Rattle.std.proofs.lemmas.List.Sums.{count_by-le-length}
 use Rattle.keycard_rules.specs.declared.issued.LookFault.{LookFault}
-use Rattle.keycard_rules.specs.declared.issued.LookFault.TheVariants.{Memory, Store}
 use Rattle.hotel_nights.specs.Guests.{is_guest}
 use Rattle.hotel_nights.specs.Kinds.{is_kind}
 use Rattle.hotel_model.specs.Words.{is_that, said_of}
@@ -282,8 +281,3 @@ pub passed_on : {A : Type 0} (r : Result A LookFault) {why : LookFault} (P : Loo
     → IsErrAnd r (λ e. e ≡ why) → P why → IfErr r P
 passed_on (Ok x) P is p = absurd is
 passed_on (Err e) P is p = subst P (sym is) p
-
--- a fault that isn't Store is Memory
-pub only_memory : (why : LookFault) (told : Bool) → told ≡ true → (why ≡ Store → told ≡ false) → why ≡ Memory
-only_memory Memory told holds fails = refl
-only_memory Store told holds fails = not_both told holds (fails refl)

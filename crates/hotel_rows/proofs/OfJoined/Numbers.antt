@@ -1,16 +1,13 @@
--- The fit of a note's number: where it stands among the fits of the room, and the note of a count of a fit.
-use Rattle.std.proofs.Common.{ℕ, zero, suc, ◌≡◌, ◌≤◌, ◌<◌, ◌+◌, ◌-◌, refl, ap, sym, subst, ◌∙◌, arith}
+-- The fit of a note's number: where it stands among the fits of the room.
+use Rattle.std.proofs.Common.{ℕ, zero, suc, ◌≡◌, ◌≤◌, ◌<◌, ◌+◌, refl, ap, sym, subst, ◌∙◌, arith}
 use Rattle.std.proofs.Common.{Bool, true, false, cond, ◌==◌, nat_le, nat_lt}
-use Rattle.std.proofs.Common.{Option, Some, None, option_map, List, [], ◌∷◌, map, filter, drop, length}
-use Rattle.keycard_rules.specs.Note.{Note}
+use Rattle.std.proofs.Common.{Option, Some, None, List, [], ◌∷◌, map, filter, drop, length}
 use Rattle.hotel_model.specs.declared.rows.FitRow.{FitRow}
-use Rattle.hotel_model.specs.Refinement.Lookups.{of_fit}
 use Rattle.hotel_core.proofs.Names.{nat_tests, list_all, is_at, lookup, said_of, when, pair_cmp, fits_at, last_fit}
-use Rattle.hotel_core.proofs.Names.{count_up, none_fall, notes_before_each, first_is_first}
-use Rattle.hotel_model.proofs.OfTables.Tests.{eq_from, eq_self, and_true, not_both}
+use Rattle.hotel_core.proofs.Names.{count_up, first_is_first}
+use Rattle.hotel_model.proofs.OfTables.Tests.{eq_from, and_true, not_both}
 use Rattle.hotel_model.proofs.OfTables.AtRoom.{first_in, none_in, keys_at, found_at, fits_are_picked}
-use Rattle.hotel_rows.specs.Joined.{fit_of_number, under_fit, FitEntries}
-use Rattle.hotel_rows.proofs.OfJoined.{joined_at, note_joined}
+use Rattle.hotel_rows.specs.Joined.{fit_of_number, FitEntries}
 
 -- ---- numbers
 
@@ -20,21 +17,8 @@ less_from a b e = grind (arith, nat_tests)
 not_less_from : (a b : ℕ) → nat_lt a b ≡ false → nat_le b a ≡ true
 not_less_from a b e = grind (arith, nat_tests)
 
-at_most_from : (a b : ℕ) → nat_le a b ≡ true → a ≤ b
-at_most_from a b e = grind (arith, nat_tests)
-
 less_so : (a b : ℕ) → a < b → nat_lt a b ≡ true
 less_so a b l = grind (arith, nat_tests)
-
-not_less_so : (a b : ℕ) → b ≤ a → nat_lt a b ≡ false
-not_less_so a b l = grind (arith, nat_tests)
-
-apart_so : (a b c d : ℕ) → a ≡ c + d → (d ≡ b → ⊥) → (a == c + b) ≡ false
-apart_so a b c d e f = by (a == c + b) refl
-  where
-    by : (t : Bool) → (a == c + b) ≡ t → (a == c + b) ≡ false
-    by true t = let same = eq_from a (c + b) t in absurd (f (omega arith))
-    by false t = t
 
 -- ---- fits of one room
 
@@ -139,55 +123,6 @@ number_at k (suc j) (a ∷ fs) f up e =
     let later = number_at (k + 1) j fs f (and_true (a.fit == k) (count_up (k + 1) (numbers_of fs)) up).1 e in
     omega arith
 
-rest_rises : (a : FitRow) (fs : List FitRow) → none_fall (notes_before_each (a ∷ fs)) ≡ true
-    → none_fall (notes_before_each fs) ≡ true
-rest_rises a [] o = refl
-rest_rises a (b ∷ fs) o = (and_true (nat_le a.before b.before) (none_fall (notes_before_each (b ∷ fs))) o).1
-
--- the first fit has no more notes before it than a later one
-first_lowest : (a : FitRow) (fs : List FitRow) (j : ℕ) (f : FitRow) → none_fall (notes_before_each (a ∷ fs)) ≡ true
-    → first_in (drop j (a ∷ fs)) ≡ Some f → a.before ≤ f.before
-first_lowest a fs zero f o e = let same : a.before ≡ f.before = ap (λ (x : FitRow). x.before) (same_fit e) in
-    omega arith
-first_lowest a [] (suc j) f o e = no_fit f (sym (none_in j) ∙ e)
-first_lowest a (b ∷ fs) (suc j) f o e =
-    let p = and_true (nat_le a.before b.before) (none_fall (notes_before_each (b ∷ fs))) o in
-    let low = at_most_from a.before b.before p.0 in
-    let later = first_lowest b fs j f p.1 e in
-    omega arith
-
--- where the first fit of those that don't fall has not fewer notes before it, none has
-none_of_number : (n : ℕ) (fs : List FitRow) → none_fall (notes_before_each fs) ≡ true → begins_later n fs ≡ true
-    → fit_of_number fs n ≡ None
-none_of_number n [] o l = refl
-none_of_number n (a ∷ fs) o l =
-    let low = at_most_from n a.before l in
-    more_by n a fs false (not_less_so a.before n low) ∙ none_of_number n fs (rest_rises a fs o) (next fs o)
-  where
-    at_most_so : (a b : ℕ) → a ≤ b → nat_le a b ≡ true
-    at_most_so a b l = grind (arith, nat_tests)
-
-    next : (gs : List FitRow) → none_fall (notes_before_each (a ∷ gs)) ≡ true → begins_later n gs ≡ true
-    next [] o = refl
-    next (b ∷ gs) o =
-        let up = at_most_from a.before b.before (and_true (nat_le a.before b.before)
-        (none_fall (notes_before_each (b ∷ gs))) o).0 in
-        let low = at_most_from n a.before l in
-        at_most_so n b.before (omega arith)
-
--- A fit that so stands is that of the number.
-pub stands_is : (n j : ℕ) (fs : List FitRow) (f : FitRow) → none_fall (notes_before_each fs) ≡ true → Stands fs n f j
-    → fit_of_number fs n ≡ Some f
-stands_is n j [] f o s = no_fit f (sym (none_in j) ∙ s.0)
-stands_is n zero (a ∷ fs) f o s =
-    let below = less_so a.before n (subst (λ (x : FitRow). x.before < n) (sym (same_fit s.0)) s.1) in
-    more_by n a fs true below ∙ ap (λ o. Some (or_first o a)) (none_of_number n fs (rest_rises a fs o) s.2) ∙ s.0
-stands_is n (suc j) (a ∷ fs) f o s =
-    let lowest = first_lowest a fs (suc j) f o s.0 in
-    let under = s.1 in
-    more_by n a fs true (less_so a.before n (omega arith))
-    ∙ ap (λ o. Some (or_first o a)) (stands_is n j fs f (rest_rises a fs o) s)
-
 -- ---- fits of all rooms
 
 -- the numbers of a room's fits are those of its keys, where each row is of its key
@@ -211,58 +146,3 @@ pub fit_found : (fits : FitEntries) (room j : ℕ) → list_all (λ (e : (ℕ ×
 fit_found fits room j own up =
     found_at fits room 1 j (ap (count_up 1) (keys_are_numbers fits room own) ∙ up)
     ∙ ap (λ fs. first_in (drop j fs)) (sym (fits_are_picked fits room))
-
--- a note of this fit and count
-abbrev pub counted_under : ℕ → ℕ → Note → Note
-counted_under fit count note = record note { fit = fit; count = count }
-
--- The note of a count of a fit, where notes are joined with fits: that of its number, if no later fit began before it.
-pub note_of_count : (fits : FitEntries) (es : List ((ℕ × ℕ) × Note)) (room j count : ℕ) (f : FitRow)
-    → count_up 1 (numbers_of (fits_at fits room)) ≡ true → none_fall (notes_before_each (fits_at fits room)) ≡ true
-    → first_in (drop j (fits_at fits room)) ≡ Some f → 1 ≤ count
-    → of_fit f.fit (lookup (is_at (pair_cmp (room, f.before + count))) (map (under_fit fits) es))
-    ≡ cond (begins_later (f.before + count) (drop (suc j) (fits_at fits room)))
-    (option_map (counted_under f.fit count) (lookup (is_at (pair_cmp (room, f.before + count))) es)) None
-note_of_count fits es room j count f up rise at low =
-    ap (of_fit f.fit) (note_joined fits es (room, f.before + count))
-    ∙ by (begins_later (f.before + count) (drop (suc j) (fits_at fits room))) refl
-    (lookup (is_at (pair_cmp (room, f.before + count))) es)
-  where
-    own : (note : Note) → fit_of_number (fits_at fits room) (f.before + count) ≡ Some f
-        → of_fit f.fit (Some (joined_at fits room (f.before + count) note)) ≡ Some (counted_under f.fit count note)
-    own note e =
-        let rest : f.before + count - f.before ≡ count = omega arith in
-        ap (λ o. of_fit f.fit (Some (record note {
-          fit = said_of o note.fit (λ f. f.fit);
-          count = said_of o note.count
-              (λ f'. f.before + count - f'.before);
-        }))) e
-        ∙ ap (λ b. cond b (Some (counted_under f.fit (f.before + count - f.before) note)) None) (eq_self f.fit)
-        ∙ ap (λ k. Some (counted_under f.fit k note)) rest
-
-    other : (note : Note) (g : FitRow) → fit_of_number (fits_at fits room) (f.before + count) ≡ Some g
-        → (g.fit == f.fit) ≡ false
-        → of_fit f.fit (Some (joined_at fits room (f.before + count) note)) ≡ None
-    other note g e apart =
-        ap (λ o. of_fit f.fit (Some (record note {
-          fit = said_of o note.fit (λ f. f.fit);
-          count = said_of o note.count
-              (λ f'. f.before + count - f'.before);
-        }))) e
-        ∙ ap (λ b. cond b (Some (counted_under g.fit (f.before + count - g.before) note)) None) apart
-
-    by : (b : Bool) → begins_later (f.before + count) (drop (suc j) (fits_at fits room)) ≡ b → (o : Option Note)
-        → of_fit f.fit (option_map (joined_at fits room (f.before + count)) o)
-        ≡ cond b (option_map (counted_under f.fit count) o) None
-    by true t None = refl
-    by false t None = refl
-    by true t (Some note) = own note (stands_is (f.before + count) j (fits_at fits room) f rise (at, omega arith, t))
-    by false t (Some note) =
-        let g = some_under (f.before + count) j (fits_at fits room) f at (omega arith) in
-        let s = stands_at (f.before + count) (fits_at fits room) g.0 g.1 in
-        let here = number_at 1 j (fits_at fits room) f up at in
-        let there = number_at 1 s.0 (fits_at fits room) g.0 up s.1.0 in
-        let not_here : s.0 ≡ j → ⊥ =
-        λ same. not_both (begins_later (f.before + count) (drop (suc j) (fits_at fits room)))
-        (ap (λ k. begins_later (f.before + count) (drop (suc k) (fits_at fits room))) (sym same) ∙ s.1.2) t in
-        other note g.0 g.1 (ap (λ k. g.0.fit == k) here ∙ apart_so g.0.fit j 1 s.0 there not_here)

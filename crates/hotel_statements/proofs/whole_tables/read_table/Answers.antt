@@ -49,8 +49,8 @@ pub returns-in_err-add_plain-in-Ok-Some : goal.returns-in_err-add_plain-in-Ok-So
 returns-in_err-add_plain-in-Ok-Some g c =
     let whole = c.requires.whole in
     let fault = c.in_err-add_plain-in-Ok-Some.field-0.0 in
-    let done = left g.S.Store c.args.version g.L.PlainRow.statement whole.query whole.asks c.args.conn.now c.requires.ours
-    c.rows.rows c.next.follows.lender-at-none _ c.next.follows.holds-at-none c.rows.invariant.1 c.in-Ok-Some.row
+    let done = left g.S.Store c.args.version g.L.PlainRow.statement whole.query whole.asks c.args.conn.now
+    c.requires.ours c.rows.rows c.next.follows.lender-at-none _ c.next.follows.holds-at-none c.rows.invariant.1 c.in-Ok-Some.row
     (search rules) (BeginsAs g.L.PlainRow.shown)
     (λ (plain_rows : Vec _ Global) db. AreRowsInOrder g.L.PlainRow.columns g.L.PlainRow.shown
     g.L.PlainRow.order plain_rows.items (db g.L.PlainRow.tree)) fault c.in_err-add_plain-in-Ok-Some.ensures.unread in
@@ -60,8 +60,8 @@ pub returns-in-Ok-None : goal.returns-in-Ok-None
 returns-in-Ok-None g c =
     let whole = c.requires.whole in
     let old = state g.S.Store c.args.conn.now in
-    let done = ended g.S.Store c.args.version g.L.PlainRow.statement whole.query whole.asks c.args.conn.now c.requires.ours
-    c.rows.rows c.next.follows.lender-at-none _ c.next.follows.holds-at-none c.rows.invariant.1
+    let done = ended g.S.Store c.args.version g.L.PlainRow.statement whole.query whole.asks c.args.conn.now
+    c.requires.ours c.rows.rows c.next.follows.lender-at-none _ c.next.follows.holds-at-none c.rows.invariant.1
     (BeginsAs g.L.PlainRow.shown)
     (λ (plain_rows : Vec _ Global) db. AreRowsInOrder g.L.PlainRow.columns g.L.PlainRow.shown
     g.L.PlainRow.order plain_rows.items (db g.L.PlainRow.tree)) c.rows.plain_rows (search rules)
@@ -72,19 +72,18 @@ pub returns-in-Err-next : goal.returns-in-Err-next
 returns-in-Err-next g c =
     let whole = c.requires.whole in
     let done = broken_off g.S.Store c.args.version g.L.PlainRow.statement whole.query whole.asks c.args.conn.now
-    c.requires.ours
-    c.rows.rows c.next.follows.lender-at-none _ c.next.follows.holds-at-none c.rows.invariant.1
+    c.requires.ours c.rows.rows c.next.follows.lender-at-none _ c.next.follows.holds-at-none c.rows.invariant.1
     (BeginsAs g.L.PlainRow.shown)
     (λ (plain_rows : Vec _ Global) db. AreRowsInOrder g.L.PlainRow.columns g.L.PlainRow.shown
-    g.L.PlainRow.order plain_rows.items (db g.L.PlainRow.tree)) c.in-Err-next.error c.fault_of-in-Err-next.result (search rules)
-    c.fault_of-in-Err-next.ensures in
+    g.L.PlainRow.order plain_rows.items (db g.L.PlainRow.tree)) c.in-Err-next.error c.fault_of-in-Err-next.result
+    (search rules) c.fault_of-in-Err-next.ensures in
     moved_to _ _ _ _ refl (search rules) done
 
 pub returns : goal.returns
 returns g c =
     let whole = c.requires.whole in
-    let done = cut g.S.Store c.args.version g.L.PlainRow.statement whole.query whole.asks c.args.conn.now c.requires.ours
-    (BeginsAs g.L.PlainRow.shown)
+    let done = cut g.S.Store c.args.version g.L.PlainRow.statement whole.query whole.asks c.args.conn.now
+    c.requires.ours (BeginsAs g.L.PlainRow.shown)
     (λ (plain_rows : Vec _ Global) db. AreRowsInOrder g.L.PlainRow.columns g.L.PlainRow.shown
     g.L.PlainRow.order plain_rows.items (db g.L.PlainRow.tree)) c.rows.rows.conn.now c.rows.invariant.1 in
     search rules
