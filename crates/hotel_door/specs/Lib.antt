@@ -1,0 +1,4 @@
+-- The file of a lock.
+pub mod LockFile
+-- What happens at the door.
+pub mod Doings
