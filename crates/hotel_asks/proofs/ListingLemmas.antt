@@ -6,9 +6,10 @@ use Rattle.std.proofs.lemmas.Bool.{cases_Bool}
 use Rattle.hotel_model.proofs.{Lifted.ListRows.lists_lift, OfTables.RoomNumbers.room_there}
 use Rattle.hotel_model.proofs.{OfTables.RoomNumbers.room_not_there}
 use Rattle.hotel_model.specs.Lists.{chain}
-use Rattle.hotel_lists.specs.RowLines.{arrivals_header, in_house_header, chain_header, left_behind_header, audit_header}
+use Rattle.hotel_lock.specs.NoteLine.{audit_header, note_line}
+use Rattle.hotel_lists.specs.RowLines.{arrivals_header, in_house_header, chain_header, left_behind_header}
 use Rattle.hotel_lists.specs.RowLines.{day_header, status_header, inside_header, free_header, locks_header}
-use Rattle.hotel_lists.specs.RowLines.{arrival_line, house_line, chain_line, behind_line, note_line}
+use Rattle.hotel_lists.specs.RowLines.{arrival_line, house_line, chain_line, behind_line}
 use Rattle.hotel_lists.specs.RowLines.{day_line, status_line, inside_line, free_line, lock_line}
 use Rattle.hotel_lists.specs.Listings.{listing, of_room}
 use Rattle.hotel_asks.specs.declared.asked.ListAsk.{ListAsk}

@@ -6,12 +6,14 @@ use Rattle.hotel_model.specs.Lists.{bookings, availability, cards_given}
 use Rattle.hotel_lists.specs.Listings.{Listing, listing, of_room, arrivals_listing, in_house_listing, chain_listing}
 use Rattle.hotel_lists.specs.Listings.{left_behind_listing, audit_listing, business_day_listing, room_status_listing}
 use Rattle.hotel_lists.specs.Listings.{inside_listing, bookings_listing, availability_listing, card_listing}
-use Rattle.hotel_lists.specs.{Listings.given_listing, RowLines.given_header, RowLines.given_line}
+use Rattle.hotel_lists.specs.{RowLines.given_header, RowLines.given_line}
+use Rattle.hotel_model.specs.Refinement.ListsOnRows.{cards_given_on}
 use Rattle.hotel_lists.specs.Listings.{locks_listing}
 use Rattle.hotel_model.specs.Lists.{card_rows, locks}
-use Rattle.hotel_lists.specs.RowLines.{arrivals_header, in_house_header, chain_header, left_behind_header, audit_header}
+use Rattle.hotel_lock.specs.NoteLine.{audit_header, note_line}
+use Rattle.hotel_lists.specs.RowLines.{arrivals_header, in_house_header, chain_header, left_behind_header}
 use Rattle.hotel_lists.specs.RowLines.{day_header, status_header, inside_header, free_header, card_header, locks_header}
-use Rattle.hotel_lists.specs.RowLines.{arrival_line, house_line, chain_line, behind_line, note_line}
+use Rattle.hotel_lists.specs.RowLines.{arrival_line, house_line, chain_line, behind_line}
 use Rattle.hotel_lists.specs.RowLines.{day_line, status_line, inside_line, free_line, card_line, lock_line}
 use Rattle.hotel_asks.specs.declared.asked.ListAsk.{ListAsk}
 use Rattle.hotel_asks.specs.declared.asked.ListAsk.TheVariants.{Arrivals, InHouse, ChainOf, LeftBehind, AuditOf}
@@ -46,6 +48,6 @@ listing_on rows RoomStatus = room_status_listing rows
 listing_on rows Inside = inside_listing rows
 listing_on rows Bookings = bookings_listing rows
 listing_on rows (Availability day nights) = availability_listing rows day nights
-listing_on rows (CardsGiven party) = given_listing rows party
+listing_on rows (CardsGiven party) = Some (listing given_header given_line (cards_given_on rows party))
 listing_on rows (CardOf number) = card_listing rows number
 listing_on rows Locks = locks_listing rows

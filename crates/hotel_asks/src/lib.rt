@@ -4,10 +4,12 @@
 //!
 //! - src: asked: what a desk may be asked.
 //! - specs: Values, Names, Verbs, Asks: what a verb and the texts of its values ask for. Listings: what a list shows.
+//!   Faults: what faults print.
 #![tactic(auto)]
 
 mod asked;
 mod asks;
+mod faults;
 mod listings;
 mod notes;
 mod texts;

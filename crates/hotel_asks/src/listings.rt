@@ -6,11 +6,9 @@ ghost use Rattle.hotel_lists.specs.{RowLines.LooksAt, Listings.ListEnds};
 ghost use Rattle.hotel_asks.specs.Listings.{listing_on};
 
 use crate::asked::ListAsk;
-use hotel_core::Walks;
+use hotel_core::{Walks, lists};
 use hotel_lists::{
-    ListFault, write_arrivals, write_audit_of, write_availability, write_bookings,
-    write_business_day, write_card_of, write_cards_given, write_chain_of, write_in_house,
-    write_inside, write_left_behind, write_locks, write_room_status,
+    ListFault, write_business_day, write_card_of, write_locks, write_room_rows, write_rows,
 };
 use hotel_streams::IoCalls;
 use std::alloc::Global;
@@ -30,19 +28,43 @@ pub fn write_list<W: Write, B: Walks>(
     ensures calls { CountsWrites calls.old calls.new (OnErrOf result ListFault.Write) }
 {
     match list {
-        ListAsk::Arrivals(day) => write_arrivals(alloc, books, *day, writer, calls),
-        ListAsk::InHouse => write_in_house(alloc, books, writer, calls),
-        ListAsk::ChainOf(room) => write_chain_of(alloc, books, *room, writer, calls),
-        ListAsk::LeftBehind => write_left_behind(alloc, books, writer, calls),
-        ListAsk::AuditOf(room) => write_audit_of(alloc, books, *room, writer, calls),
+        ListAsk::Arrivals(day) => write_rows(alloc, books, &lists::Arrivals(*day), writer, calls),
+        ListAsk::InHouse => write_rows(alloc, books, &lists::InHouse, writer, calls),
+        ListAsk::ChainOf(room) => write_room_rows(
+            alloc,
+            books,
+            *room,
+            &lists::ChainOf(*room),
+            writer,
+            calls,
+        ),
+        ListAsk::LeftBehind => write_rows(alloc, books, &lists::LeftBehind, writer, calls),
+        ListAsk::AuditOf(room) => write_room_rows(
+            alloc,
+            books,
+            *room,
+            &lists::AuditOf(*room),
+            writer,
+            calls,
+        ),
         ListAsk::BusinessDay => write_business_day(alloc, books, writer, calls),
-        ListAsk::RoomStatus => write_room_status(alloc, books, writer, calls),
-        ListAsk::Inside => write_inside(alloc, books, writer, calls),
-        ListAsk::Bookings => write_bookings(alloc, books, writer, calls),
-        ListAsk::Availability(day, nights) => {
-            write_availability(alloc, books, *day, *nights, writer, calls)
-        }
-        ListAsk::CardsGiven(party) => write_cards_given(alloc, books, *party, writer, calls),
+        ListAsk::RoomStatus => write_rows(alloc, books, &lists::RoomStatus, writer, calls),
+        ListAsk::Inside => write_rows(alloc, books, &lists::Inside, writer, calls),
+        ListAsk::Bookings => write_rows(alloc, books, &lists::Bookings, writer, calls),
+        ListAsk::Availability(day, nights) => write_rows(
+            alloc,
+            books,
+            &lists::Availability(*day, *nights),
+            writer,
+            calls,
+        ),
+        ListAsk::CardsGiven(party) => write_rows(
+            alloc,
+            books,
+            &lists::CardsGiven(*party),
+            writer,
+            calls,
+        ),
         ListAsk::CardOf(card) => write_card_of(alloc, books, *card, writer, calls),
         ListAsk::Locks => write_locks(alloc, books, writer, calls),
     }

@@ -6,10 +6,11 @@ use Rattle.hotel_model.specs.declared.command.Command.TheVariants as command
 use Rattle.hotel_model.specs.declared.reply.Reply.{Reply}
 use Rattle.hotel_model.specs.declared.reply.Reply.TheVariants as reply
 use Rattle.hotel_model.proofs.Lifted.Runs.{runs_reach}
-use Rattle.hotel_audit.specs.{declared.answer.LineAnswer.LineAnswer, declared.line.Line.Line, Import.AreAnswered}
+use Rattle.hotel_lock.specs.declared.line.Line.{Line}
+use Rattle.hotel_audit.specs.{declared.answer.LineAnswer.LineAnswer, Import.AreAnswered}
 use Rattle.hotel_audit.specs.{Import.commands_of, Import.replies_in}
 use Rattle.hotel_audit.specs.declared.answer.LineAnswer.TheVariants.{Taken, Seen, Unread, Refused}
-use Rattle.hotel_audit.specs.declared.line.Line.TheVariants as line
+use Rattle.hotel_lock.specs.declared.line.Line.TheVariants as line
 use Rattle.hotel_audit.specs.FilesCounted.{AnsweredFile, FilesCounted, FilesLead, all_events_taken, event_of}
 use Rattle.hotel_audit.specs.FilesCounted.{events_taken, followed_by}
 use Rattle.hotel_audit.proofs.{CountsOfFits.notes_counted, NoteOutcomes.note_outcome, NotesInRange.commands_in_range}

@@ -13,10 +13,11 @@ use Rattle.hotel_model.specs.{declared.reply.Reply.Reply, declared.reply.Refusal
 use Rattle.hotel_model.specs.{declared.reply.Refusal.TheVariants.NoRoom, declared.reply.Refusal.TheVariants.NoFit}
 use Rattle.hotel_model.specs.declared.reply.Reply.TheVariants as reply
 use Rattle.hotel_model.proofs.OfTables.Tests.{eq_from, eq_self}
-use Rattle.hotel_audit.specs.{declared.answer.LineAnswer.LineAnswer, declared.line.Line.Line, FilesCounted.event_by}
+use Rattle.hotel_lock.specs.declared.line.Line.{Line}
+use Rattle.hotel_audit.specs.{declared.answer.LineAnswer.LineAnswer, FilesCounted.event_by}
 use Rattle.hotel_audit.specs.{FilesCounted.event_of}
 use Rattle.hotel_audit.specs.declared.answer.LineAnswer.TheVariants.{Taken, Seen, Unread, Refused}
-use Rattle.hotel_audit.specs.declared.line.Line.TheVariants as line
+use Rattle.hotel_lock.specs.declared.line.Line.TheVariants as line
 use Rattle.hotel_audit.specs.{Import.AreAnswered, Import.commands_of, Import.replies_in, SentAtOnce.CountsDoNotFall}
 use Rattle.hotel_audit.specs.{SentAtOnce.NoneLower}
 use Rattle.hotel_audit.proofs.NotesKnown.{under}

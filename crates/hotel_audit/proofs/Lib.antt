@@ -1,6 +1,3 @@
-mod FieldsAt
-mod SameTexts
-mod Records
 mod NoteReplies
 pub mod ImportEnds
 mod LineAnswers
@@ -17,7 +14,5 @@ mod CountsOfFits
 mod FilesCounted
 mod NotesTaken
 pub mod AnswersWritten
-mod NumbersRead
-mod ListRead
 mod NotesSound
 mod ListSeen

@@ -4,7 +4,8 @@ use Rattle.std.specs.Prelude.{zip}
 use Rattle.hotel_core.proofs.OfCode.Happens.{zip-push}
 use Rattle.keycard_rules.specs.Calls.{Passes}
 use Rattle.keycard_rules.proofs.CallsTogether.{passes_push}
-use Rattle.hotel_audit.specs.{declared.answer.LineAnswer.LineAnswer, declared.line.Line.Line}
+use Rattle.hotel_lock.specs.declared.line.Line.{Line}
+use Rattle.hotel_audit.specs.declared.answer.LineAnswer.{LineAnswer}
 use Rattle.hotel_audit.specs.Import.{AreAnswered}
 
 -- the answers to lines and to further lines

@@ -1,26 +1,29 @@
 -- The list of a room's notes, sent as an audit file: it is read as these notes, and each is seen.
 use Rattle.std.proofs.Common.{◌≡◌, ◌∙◌, ◌+◌, ◌-◌, ◌<◌, ◌≤◌, ℕ, zero, suc, Bool, true, false, cond, List, [], ◌∷◌, ◌++◌}
-use Rattle.std.proofs.Common.{All, Ok, Err, Result, length, drop, filter, map, refl, ap, sym, subst, arith, ◌==◌, ◌||◌}
+use Rattle.std.proofs.Common.{All, Ok, Err, length, drop, filter, map, refl, ap, sym, subst, arith, ◌==◌, ◌||◌}
 use Rattle.std.proofs.Common.{is_some, nat_lt, slice_index_or}
 use Rattle.std.proofs.lemmas.List.Elements.{All-cons, All-head, All-nil, All-tail, All-weaker}
 use Rattle.csv.proofs.OnLiterals.{csv_on_literals}
 use Rattle.hotel_core.proofs.Names.{History, Note, Reached, has_kind, is_begun, is_fit, is_room, list_any, notes}
-use Rattle.hotel_core.proofs.Names.{notes_at, notes_of, range_with_len, rows_of, same_note}
+use Rattle.hotel_core.proofs.Names.{notes_at, notes_of, range_with_len, rows_of}
 use Rattle.hotel_model.specs.Stays.{day, kinds}
 use Rattle.hotel_model.specs.declared.rows.RoomRow.{RoomRow}
 use Rattle.hotel_model.proofs.{Lifted.LiftEasy.room_is_there, OfTables.NotesListed.notes_are_listed}
 use Rattle.hotel_model.proofs.OfTables.{RoomNumbers.room_there, RowTests.found_passes}
 use Rattle.hotel_model.proofs.OfTables.Tests.{eq_from, eq_self, not_both, not_lt_from}
 use Rattle.hotel_model.proofs.SoundRows.AllSound.{rows_sound}
-use Rattle.hotel_lists.specs.{RowLines.audit_header, RowLines.note_line, Listings.Listing}
+use Rattle.hotel_lock.specs.NoteLine.{audit_header, note_line}
+use Rattle.hotel_lists.specs.Listings.{Listing}
 use Rattle.hotel_lists.specs.Listings.{in_full, listing, of_room}
-use Rattle.hotel_audit.specs.{AuditFile.audit_lines, declared.audit_file.AuditFault.AuditFault}
-use Rattle.hotel_audit.specs.declared.audit_file.AuditFault.TheVariants.{NoHeader, TooLarge}
-use Rattle.hotel_audit.specs.declared.audit_file.TheConstants.{AUDIT_BYTES}
-use Rattle.hotel_audit.specs.declared.line.Line.{Line}
-use Rattle.hotel_audit.specs.declared.line.Line.TheVariants as line
-use Rattle.hotel_audit.specs.ListSent.{IsNote, ListIsSeen, ListReadsBack, list_text, notes_text}
-use Rattle.hotel_audit.proofs.{CountsOfFits.notes_counted, ListRead.notes_read_back, NotesSound.IsOf}
+use Rattle.hotel_lock.specs.AuditFile.{audit_lines}
+use Rattle.hotel_lock.specs.declared.audit_file.AuditFault.TheVariants.{NoHeader}
+use Rattle.hotel_lock.specs.declared.audit_file.TheConstants.{AUDIT_BYTES}
+use Rattle.hotel_lock.specs.declared.line.Line.{Line}
+use Rattle.hotel_lock.specs.declared.line.Line.TheVariants as line
+use Rattle.hotel_lock.specs.{ReadBack.IsNote, NoteLine.notes_text}
+use Rattle.hotel_audit.specs.ListSent.{ListIsSeen, ListReadsBack, list_text}
+use Rattle.hotel_lock.proofs.LogRead.{notes_read_back}
+use Rattle.hotel_audit.proofs.{CountsOfFits.notes_counted, NotesSound.IsOf}
 use Rattle.hotel_audit.proofs.{NotesKnown.BeginsWith, NotesKnown.Knows, NotesKnown.same_note_itself}
 use Rattle.hotel_audit.proofs.{NotesSound.notes_are_of, SentAgain.KnowsLines, SentAgain.knows_lines_along}
 use Rattle.hotel_audit.proofs.SentAgain.{seen_lines}

@@ -8,7 +8,7 @@ use Rattle.hotel_model.specs.declared.reply.Reply.TheVariants as reply
 use Rattle.hotel_model.specs.declared.reply.Refusal.TheVariants as refusal
 use Rattle.hotel_audit.specs.declared.answer.LineAnswer.{LineAnswer}
 use Rattle.hotel_audit.specs.declared.answer.LineAnswer.TheVariants.{Taken, Seen, Refused}
-use Rattle.hotel_audit.specs.declared.line.Line.TheVariants as line
+use Rattle.hotel_lock.specs.declared.line.Line.TheVariants as line
 use Rattle.hotel_audit.specs.Import.{IsAnswerTo, answer_of, replies_in, reply_or_cause}
 
 -- the reply to a note that is answered so is that answer's

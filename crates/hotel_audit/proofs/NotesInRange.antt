@@ -1,6 +1,6 @@
 -- The notes that a file's lines are have their values in range.
 use Rattle.std.proofs.Common.{◌≡◌, ◌≤◌, ℕ, Bool, true, false, List, [], ◌∷◌, ◌++◌, Option, Some, None, Result, Ok, Err}
-use Rattle.std.proofs.Common.{refl, subst, arith, map, option_and_then, ◌&&◌, ◌+◌, ◌*◌, ◌==◌, ◌||◌, nat_le, nat_lt}
+use Rattle.std.proofs.Common.{refl, sym, ◌∙◌, subst, arith, map, option_and_then, ◌&&◌, ◌+◌, ◌*◌, ◌==◌, ◌||◌, nat_le, nat_lt}
 use Rattle.std.proofs.Common.{if◌then◌else◌, slice_index, slice_range, length, All}
 use Rattle.hotel_core.proofs.{Names.IsTimed, Names.IsNumberUpTo, Names.IsCommand}
 use Rattle.hotel_model.proofs.OfTables.Tests.{and_true}
@@ -8,22 +8,24 @@ use Rattle.std.specs.Option.{ok_or}
 use Rattle.std.proofs.lemmas.Bool.{leb-true}
 use Rattle.std.proofs.lemmas.List.Elements.{All-cons, All-nil}
 use Rattle.std.proofs.lemmas.Int.{ints}
+use Rattle.keycard_rules.specs.declared.{card.Link.Link, note.Act.Act}
 use Rattle.keycard_rules.specs.Numerals.{is_numeral, number_of, number_up_to, numeral, read_code}
 use Rattle.hotel_nights.specs.Days.{Ymd, day_of_date, is_date, is_in_range, number_of_date, read_day, read_ymd}
 use Rattle.hotel_nights.specs.Moments.{read_moment, read_time}
 use Rattle.hotel_nights.proofs.DayLemmas.{count-high, first_count}
 use Rattle.hotel_model.specs.declared.command.Command.TheVariants as command
 use Rattle.hotel_model.specs.Ranges.{IsCount, IsFit}
-use Rattle.hotel_audit.specs.{declared.audit_file.AuditFault.TheVariants.TooLarge, declared.line.Cause.Cause}
-use Rattle.hotel_audit.specs.{declared.header.Columns.Columns}
-use Rattle.hotel_audit.specs.declared.line.Cause.TheVariants.{BadRoom, BadFit, BadCount, BadOld, BadNew, BadMoment}
-use Rattle.hotel_audit.specs.{declared.line.Happening.Happening, declared.line.Line.Line, AuditFile.audit_lines}
-use Rattle.hotel_audit.specs.{AuditFile.file_records, AuditFile.lines_of, AuditFile.lines_under}
-use Rattle.hotel_audit.specs.declared.line.Line.TheVariants as line
-use Rattle.hotel_audit.specs.{Fields.FieldTexts, Fields.fields_under, Header.columns_of, Import.commands_of}
+use Rattle.hotel_lock.specs.{declared.audit_file.AuditFault.AuditFault, declared.line.Cause.Cause}
+use Rattle.hotel_lock.specs.declared.audit_file.AuditFault.TheVariants.{TooLarge, WrongHeader}
+use Rattle.hotel_lock.specs.declared.line.Cause.TheVariants.{BadRoom, BadFit, BadCount, BadOld, BadNew, BadMoment}
+use Rattle.hotel_lock.specs.{declared.line.Line.Line, AuditFile.audit_lines}
+use Rattle.hotel_lock.specs.AuditFile.{file_records, lines_of, lines_under}
+use Rattle.hotel_lock.specs.declared.line.Line.TheVariants as line
+use Rattle.hotel_lock.specs.{Fields.FieldTexts, Fields.fields_under, Header.columns_of}
+use Rattle.hotel_audit.specs.Import.{commands_of}
 use Rattle.keycard_rules.specs.Results.{◌>>=◌}
-use Rattle.hotel_audit.specs.Line.{act_of, happening, line_of, line_with, read_line}
-use Rattle.hotel_audit.specs.declared.audit_file.TheConstants.{AUDIT_BYTES}
+use Rattle.hotel_lock.specs.Line.{act_of, happening, line_of, line_with, read_line}
+use Rattle.hotel_lock.specs.declared.audit_file.TheConstants.{AUDIT_BYTES}
 
 -- where there is a value, the test held, and it is this value
 given : {A : Type 0} (b : Bool) (a c : A) → (if b then Some a else None) ≡ Some c → (b ≡ true) × (a ≡ c)
@@ -117,9 +119,10 @@ abbrev pub IsLineInRange : Line → Type 0
 IsLineInRange (line.Note note) = IsCommand (command.Reported note)
 IsLineInRange (line.Unread cause) = Unit {0}
 
--- the line of the values, where they were read
-abbrev line_by : Option ℕ → Option ℕ → Option ℕ → Result Happening Cause → Option ℕ → Option ℕ → Option (ℕ × ℕ) → Line
-line_by room fit count what old new moment =
+-- the line of the values, where they were read, with the act of what happened and of the codes
+abbrev line_by : {H : Type 0} → (H → Link → Act) → Option ℕ → Option ℕ → Option ℕ → Result H Cause → Option ℕ → Option ℕ
+    → Option (ℕ × ℕ) → Line
+line_by act_by room fit count what old new moment =
     line_of (do
       r ← ok_or room BadRoom
       f ← ok_or fit BadFit
@@ -132,22 +135,23 @@ line_by room fit count what old new moment =
         room = r;
         fit = f;
         count = c;
-        act = act_of w (record { old_code = o; new_code = n });
+        act = act_by w (record { old_code = o; new_code = n });
         day = m.0;
         second = m.1;
       }))
 
-line_ranges : (room fit count : Option ℕ) (what : Result Happening Cause) (old new : Option ℕ) (moment : Option (ℕ × ℕ))
+line_ranges : {H : Type 0} (act_by : H → Link → Act) (room fit count : Option ℕ) (what : Result H Cause)
+    (old new : Option ℕ) (moment : Option (ℕ × ℕ))
     → ((x : ℕ) → fit ≡ Some x → IsFit x) → ((c : ℕ) → count ≡ Some c → IsCount c)
     → ((m : ℕ × ℕ) → moment ≡ Some m → IsTimed m.0 m.1)
-    → IsLineInRange (line_by room fit count what old new moment)
-line_ranges (Some r) (Some x) (Some c) (Ok w) (Some o) (Some n) (Some m) e f g = (f c refl, g m refl, e x refl)
-line_ranges _ _ _ _ _ _ _ e f g = tt
+    → IsLineInRange (line_by act_by room fit count what old new moment)
+line_ranges act_by (Some r) (Some x) (Some c) (Ok w) (Some o) (Some n) (Some m) e f g = (f c refl, g m refl, e x refl)
+line_ranges act_by _ _ _ _ _ _ _ e f g = tt
 
 fields_in_range : (fields : Option FieldTexts) → IsLineInRange (line_with fields)
 fields_in_range None = tt
 fields_in_range (Some fields) =
-    line_ranges (number_up_to 9999 fields.room) (number_up_to 99 fields.fit)
+    line_ranges act_of (number_up_to 9999 fields.room) (number_up_to 99 fields.fit)
     (number_up_to 9999999 fields.count) (happening fields.kind fields.card) (read_code fields.old_code)
     (read_code fields.new_code) (read_moment fields.moment)
     (number_in_range 99 fields.fit) (number_in_range 9999999 fields.count) (moment_in_range fields.moment)
@@ -157,19 +161,27 @@ abbrev pub AreInRange : List Line → Type 0
 AreInRange [] = Unit {0}
 AreInRange (l ∷ lines) = IsLineInRange l × AreInRange lines
 
-all_read : (columns : Columns) (rows : List (List (List ℕ))) → AreInRange (map (read_line columns) rows)
-all_read columns [] = tt
-all_read columns (row ∷ rows) = (fields_in_range (fields_under columns row), all_read columns rows)
+all_read : {C : Type 0} (read : C → List (List ℕ) → Line) (columns : C)
+    → ((row : List (List ℕ)) → IsLineInRange (read columns row)) → (rows : List (List (List ℕ)))
+    → AreInRange (map (read columns) rows)
+all_read read columns ranges [] = tt
+all_read read columns ranges (row ∷ rows) = (ranges row, all_read read columns ranges rows)
 
-header_by : (columns : Option Columns) (rows : List (List (List ℕ))) (lines : List Line)
-    → lines_under columns rows ≡ Ok lines → AreInRange lines
-header_by (Some columns) rows lines e =
-    let same : map (read_line columns) rows ≡ lines = cc e in subst AreInRange same (all_read columns rows)
-header_by None rows lines e = cc e
+-- so have the lines of records under a header, if it is one
+header_by : {C : Type 0} (read : C → List (List ℕ) → Line) (under : Option C → Result (List Line) AuditFault)
+    (rows : List (List (List ℕ))) (lines : List Line)
+    → ((columns : C) (row : List (List ℕ)) → IsLineInRange (read columns row)) → under None ≡ Err WrongHeader
+    → ((columns : C) → under (Some columns) ≡ Ok (map (read columns) rows))
+    → (header : Option C) → under header ≡ Ok lines → AreInRange lines
+header_by read under rows lines ranges none some (Some columns) e =
+    let same : map (read columns) rows ≡ lines = cc (sym (some columns) ∙ e) in
+    subst AreInRange same (all_read read columns (ranges columns) rows)
+header_by read under rows lines ranges none some None e = cc (sym none ∙ e)
 
 rows_by : (rows : List (List (List ℕ))) (lines : List Line) → lines_of rows ≡ Ok lines → AreInRange lines
 rows_by [] lines e = cc e
-rows_by (first ∷ later) lines e = header_by (columns_of first) later lines e
+rows_by (first ∷ later) lines e = header_by read_line (λ header. lines_under header later) later lines
+    (λ columns row. fields_in_range (fields_under columns row)) refl (λ columns. refl) (columns_of first) e
 
 file_by : (b : Bool) (rows : List (List (List ℕ))) (lines : List Line)
     → (if b then Err TooLarge else lines_of rows) ≡ Ok lines → AreInRange lines

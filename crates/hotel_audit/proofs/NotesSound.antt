@@ -3,7 +3,7 @@ use Rattle.std.proofs.Common.{◌≡◌, ◌∙◌, ◌+◌, ◌-◌, ◌<◌, �
 use Rattle.std.proofs.Common.{Option, Some, None, All, length, drop, refl, ap, sym, subst, arith, ◌==◌, ◌&&◌, nat_le}
 use Rattle.std.proofs.Common.{is_some, nat_cmp, nat_lt}
 use Rattle.std.proofs.lemmas.List.Elements.{All-cons, All-nil}
-use Rattle.hotel_core.proofs.Names.{CodeRow, FitRow, History, IsSound, IsTimed, Note, Reached, RoomRow, Rows, at_number}
+use Rattle.hotel_core.proofs.Names.{CodeRow, FitRow, History, IsSound, Note, Reached, RoomRow, Rows, at_number}
 use Rattle.hotel_core.proofs.Names.{count_up, fit_at, fits, fits_at, is_at, is_fit, is_of_fit, is_room, keys_of}
 use Rattle.hotel_core.proofs.Names.{list_all, lookup, notes, notes_at, notes_before_each, pair_cmp, rows_of, said_of}
 use Rattle.hotel_core.proofs.Names.{same_link, when}
@@ -22,7 +22,7 @@ use Rattle.hotel_model.proofs.OfTables.{Pairs.pair_is, RowTests.all_mapped, RowT
 use Rattle.hotel_model.proofs.OfTables.TableKeys.{same_number}
 use Rattle.hotel_model.proofs.OfTables.Tests.{and_true, eq_from, le_from, le_tested, lt_from}
 use Rattle.hotel_model.proofs.{SoundRows.AllSound.rows_sound, Starts.StartRules.said_true, Starts.StartRules.some_of}
-use Rattle.hotel_audit.specs.ListSent.{IsAct, IsLink, IsNote}
+use Rattle.hotel_lock.specs.ReadBack.{IsAct, IsLink, IsNote}
 
 -- ---- a room, a card and codes of sound rows
 

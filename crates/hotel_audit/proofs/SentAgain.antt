@@ -5,10 +5,11 @@ use Rattle.hotel_core.proofs.Names.{StepsIf}
 use Rattle.hotel_model.specs.{declared.command.Command.Command, declared.reply.Reply.Reply}
 use Rattle.hotel_model.specs.declared.command.Command.TheVariants as command
 use Rattle.hotel_model.specs.declared.reply.Reply.TheVariants as reply
-use Rattle.hotel_audit.specs.{declared.answer.LineAnswer.LineAnswer, declared.line.Line.Line, Import.AreAnswered}
+use Rattle.hotel_lock.specs.declared.line.Line.{Line}
+use Rattle.hotel_audit.specs.{declared.answer.LineAnswer.LineAnswer, Import.AreAnswered}
 use Rattle.hotel_audit.specs.{Import.commands_of, Import.replies_in}
 use Rattle.hotel_audit.specs.declared.answer.LineAnswer.TheVariants.{Taken, Seen, Unread, Refused}
-use Rattle.hotel_audit.specs.declared.line.Line.TheVariants as line
+use Rattle.hotel_lock.specs.declared.line.Line.TheVariants as line
 use Rattle.hotel_audit.specs.SentAgain.{IsTakenOrSeen, SeenAgain}
 use Rattle.hotel_audit.proofs.NotesKnown.{Knows, known_seen, knows_along, knows_step}
 

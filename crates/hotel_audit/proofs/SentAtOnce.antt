@@ -1,9 +1,10 @@
 -- Lines in which no lock's counts fall change nothing when they come again at once.
 use Rattle.std.proofs.Common.{◌≡◌, ◌∙◌, List, [], ◌∷◌, ◌++◌, ap, sym}
 use Rattle.hotel_core.proofs.Names.{History, Note}
-use Rattle.hotel_audit.specs.{declared.line.Line.Line, SentAtOnce.CountsDoNotFall, SentAtOnce.NoneLower}
+use Rattle.hotel_lock.specs.declared.line.Line.{Line}
+use Rattle.hotel_audit.specs.SentAtOnce.{CountsDoNotFall, NoneLower}
 use Rattle.hotel_audit.specs.{SentAtOnce.SentAtOnce, SentAtOnce.StoppedAndSent}
-use Rattle.hotel_audit.specs.declared.line.Line.TheVariants as line
+use Rattle.hotel_lock.specs.declared.line.Line.TheVariants as line
 use Rattle.hotel_audit.proofs.IdleNotes.{AreIdle, after_lines, after_lines-append, all_idle, lead_to, still}
 
 prefix_idle : (h : History) (prefix rest : List Line) → AreIdle h (prefix ++ rest) → AreIdle h prefix

@@ -5,12 +5,12 @@ use Rattle.keycard_rules.specs.declared.issued.LookFault.{LookFault}
 use Rattle.keycard_rules.specs.declared.issued.LookFault.TheVariants as look
 use Rattle.hotel_model.specs.declared.reply.Reply.{Reply}
 use Rattle.hotel_core.specs.Texts.{reply_text}
-use Rattle.hotel_audit.specs.{declared.answer.LineAnswer.LineAnswer, declared.line.Cause.Cause, Import.reply_or_cause}
-use Rattle.hotel_audit.specs.{declared.audit_file.AuditFault.AuditFault, declared.imports.ImportFault.ImportFault}
-use Rattle.hotel_audit.specs.declared.audit_file.AuditFault.TheVariants as audit
+use Rattle.hotel_lock.specs.{declared.line.Cause.Cause, Faults.audit_fault_text}
+use Rattle.hotel_lock.specs.declared.line.Cause.TheVariants.{FieldCount, BadRoom, BadFit, BadCount, BadKind, BadCard}
+use Rattle.hotel_lock.specs.declared.line.Cause.TheVariants.{BadOld, BadNew, BadMoment}
+use Rattle.hotel_audit.specs.{declared.answer.LineAnswer.LineAnswer, declared.imports.ImportFault.ImportFault}
 use Rattle.hotel_audit.specs.declared.imports.ImportFault.TheVariants as import_fault
-use Rattle.hotel_audit.specs.declared.line.Cause.TheVariants.{FieldCount, BadRoom, BadFit, BadCount, BadKind, BadCard}
-use Rattle.hotel_audit.specs.declared.line.Cause.TheVariants.{BadOld, BadNew, BadMoment}
+use Rattle.hotel_audit.specs.Import.{reply_or_cause}
 
 -- the name of a cause
 abbrev pub cause_name : Cause → List ℕ
@@ -46,13 +46,6 @@ cause_text look.Store = codes ": Store\n"
 -- what is said of an import that was stopped behind so many lines
 abbrev pub stopped_text : ℕ → LookFault → List ℕ
 stopped_text answered by = codes "stopped after " ++ decimal answered ++ cause_text by
-
--- what the fault of an audit file prints
-abbrev pub audit_fault_text : AuditFault → List ℕ
-audit_fault_text audit.TooLarge = codes "too large"
-audit_fault_text audit.NoHeader = codes "no header"
-audit_fault_text audit.WrongHeader = codes "wrong header"
-audit_fault_text audit.Memory = codes "memory"
 
 -- what the fault of an import prints
 abbrev pub import_fault_text : ImportFault → List ℕ

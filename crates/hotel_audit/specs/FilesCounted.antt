@@ -12,8 +12,8 @@ use Rattle.hotel_model.specs.{Event.Event, Event.Entered, Event.Left, Event.Reco
 use Rattle.hotel_model.specs.{Refinement.Lookups.note_at}
 use Rattle.hotel_model.specs.{Notes.notes, Notes.notes_of, RowsOf.rows_of, Run.Reached, Run.Runs, Words.when}
 use Rattle.hotel_audit.specs.{declared.answer.LineAnswer.LineAnswer, declared.answer.LineAnswer.TheVariants.Taken}
-use Rattle.hotel_audit.specs.{declared.line.Line.Line, AuditFile.audit_lines}
-use Rattle.hotel_audit.specs.declared.line.Line.TheVariants as line
+use Rattle.hotel_lock.specs.{declared.line.Line.Line, AuditFile.audit_lines}
+use Rattle.hotel_lock.specs.declared.line.Line.TheVariants as line
 use Rattle.hotel_audit.specs.SentAgain.{LinesLead}
 
 -- what happened by a note with this act

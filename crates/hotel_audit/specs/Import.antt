@@ -3,22 +3,24 @@ use Rattle.std.specs.Prelude.{ℕ, ◌≡◌, ◌⊎◌, Bool, true, false, List
 use Rattle.std.specs.Prelude.{if◌then◌else◌, Result, Ok, Err}
 use Rattle.rand_core.specs.Stream.{Stream}
 use Rattle.keycard_rules.specs.{declared.issued.LookFault.LookFault, declared.kept.Kept.Ghosts as KeptOf}
+use Rattle.hotel_core.specs.declared.books.Books.{Ghosts as BooksOf}
 use Rattle.keycard_rules.specs.{Leaves.Leaves, Calls.LeaveAll, Calls.Passes}
 use Rattle.keycard_rules.specs.declared.issued.LookFault.TheVariants as look
 use Rattle.hotel_model.specs.{declared.command.Command.Command, declared.reply.Reply.Reply}
-use Rattle.hotel_model.specs.{declared.reply.Refusal.Refusal, NoteReplies.IsNoteReply, Rows.Rows}
+use Rattle.hotel_model.specs.{declared.reply.Refusal.Refusal, NoteReplies.IsNoteReply}
 use Rattle.hotel_model.specs.declared.command.Command.TheVariants as command
 use Rattle.hotel_model.specs.declared.reply.Reply.TheVariants as reply
 use Rattle.hotel_model.specs.declared.reply.Refusal.TheVariants as refusal
 use Rattle.hotel_model.specs.Run.{Runs, is_failed}
-use Rattle.hotel_core.specs.{Books.Happens.Happens, Books.Stepped.Noted}
-use Rattle.hotel_audit.specs.{declared.answer.LineAnswer.LineAnswer, declared.audit_file.AuditFault.AuditFault}
+use Rattle.hotel_core.specs.{Books.Happens.Happens, Books.Stepped.Noted, Books.Stops.StopsThrough}
+use Rattle.hotel_lock.specs.declared.audit_file.AuditFault.{AuditFault}
+use Rattle.hotel_audit.specs.declared.answer.LineAnswer.{LineAnswer}
 use Rattle.hotel_audit.specs.{declared.imports.ImportFault.ImportFault}
 use Rattle.hotel_audit.specs.declared.answer.LineAnswer.TheVariants.{Taken, Seen, Unread, Refused}
-use Rattle.hotel_audit.specs.declared.audit_file.AuditFault.TheVariants as fault
+use Rattle.hotel_lock.specs.declared.audit_file.AuditFault.TheVariants as fault
 use Rattle.hotel_audit.specs.declared.imports.ImportFault.TheVariants.{File, Memory, Store}
-use Rattle.hotel_audit.specs.{declared.line.Cause.Cause, declared.line.Line.Line}
-use Rattle.hotel_audit.specs.declared.line.Line.TheVariants as line
+use Rattle.hotel_lock.specs.{declared.line.Cause.Cause, declared.line.Line.Line}
+use Rattle.hotel_lock.specs.declared.line.Line.TheVariants as line
 
 -- the commands that the lines are: each note is reported
 abbrev pub commands_of : List Line → List Command
@@ -107,41 +109,41 @@ answer_of _ = Err look.Store
 
 -- A line was carried out, and this came of it: by the reply to its note, which was reported; an unread line asked
 -- nothing of the books.
-abbrev pub ImportsLine : {B : Type 0} → KeptOf B → (B → Rows) → B → Line → Result LineAnswer LookFault → B → Type 0
-ImportsLine K rows old (line.Unread cause) came new = (came ≡ Ok (Unread cause)) × (new ≡ old)
-ImportsLine K rows old (line.Note note) came new = (given : Reply) × (came ≡ answer_of given)
-    × (K.is_honest new → IsNoteReply given) × Noted K rows note old new given
+abbrev pub ImportsLine : {B : Type 0} → KeptOf B → BooksOf B → B → Line → Result LineAnswer LookFault → B → Type 0
+ImportsLine K own old (line.Unread cause) came new = (came ≡ Ok (Unread cause)) × (new ≡ old)
+ImportsLine K own old (line.Note note) came new = (given : Reply) × (came ≡ answer_of given)
+    × (K.is_honest new → IsNoteReply given) × Noted K own note old new given
 
 -- A line was carried out with this answer.
-abbrev pub LineImported : {B : Type 0} → KeptOf B → (B → Rows) → B → Line × LineAnswer → B → Type 0
-LineImported K rows old asked new = ImportsLine K rows old asked.0 (Ok asked.1) new
+abbrev pub LineImported : {B : Type 0} → KeptOf B → BooksOf B → B → Line × LineAnswer → B → Type 0
+LineImported K own old asked new = ImportsLine K own old asked.0 (Ok asked.1) new
 
 -- Behind these lines of the file there is one more, which failed for this cause.
-abbrev pub NextFails : {B : Type 0} → KeptOf B → (B → Rows) → Result (List Line) AuditFault → List Line
+abbrev pub NextFails : {B : Type 0} → KeptOf B → BooksOf B → Result (List Line) AuditFault → List Line
     → B → LookFault → B → Type 0
-NextFails K rows file lines old why new =
-    (next : Line) × (rest : List Line) × (file ≡ Ok (lines ++ next ∷ rest)) × ImportsLine K rows old next (Err why) new
+NextFails K own file lines old why new =
+    (next : Line) × (rest : List Line) × (file ≡ Ok (lines ++ next ∷ rest)) × ImportsLine K own old next (Err why) new
 
 -- What became of books that were so behind these lines of the file, where the import ended so: it left them, or the
 -- next line failed.
-abbrev pub ImportLeaves : {B : Type 0} → KeptOf B → (B → Rows) → Result (List Line) AuditFault → List Line
+abbrev pub ImportLeaves : {B : Type 0} → KeptOf B → BooksOf B → Result (List Line) AuditFault → List Line
     → B → Result (List LineAnswer) ImportFault → B → Type 0
-ImportLeaves K rows file lines old (Ok given) new = new ≡ old
-ImportLeaves K rows file lines old (Err (File why)) new = new ≡ old
-ImportLeaves K rows file lines old (Err (Memory answered taken)) new = NextFails K rows file lines old look.Memory new
-ImportLeaves K rows file lines old (Err (Store answered taken)) new = NextFails K rows file lines old look.Store new
+ImportLeaves K own file lines old (Ok given) new = new ≡ old
+ImportLeaves K own file lines old (Err (File why)) new = new ≡ old
+ImportLeaves K own file lines old (Err (Memory answered taken)) new = NextFails K own file lines old look.Memory new
+ImportLeaves K own file lines old (Err (Store answered taken)) new = NextFails K own file lines old look.Store new
 
 -- An import of a file into books from old to new ended so: some of its lines have these answers, by which the books
 -- went, from line to line.
-pub record Imports {B : Type 0} (K : KeptOf B) (rows : B → Rows) (file : Result (List Line) AuditFault) (old new : B)
+pub record Imports {B : Type 0} (K : KeptOf B) (own : BooksOf B) (file : Result (List Line) AuditFault) (old new : B)
     (outcome : Result (List LineAnswer) ImportFault) : Type 0 where
   pub lines : List Line
   pub answers : List LineAnswer
   pub each : AreAnswered lines answers
   pub ends : EndsAfter file outcome lines answers
   pub behind : B
-  pub through : Passes (LineImported K rows) old (zip lines answers) behind
-  pub leaves : ImportLeaves K rows file lines behind outcome new
+  pub through : Passes (LineImported K own) old (zip lines answers) behind
+  pub leaves : ImportLeaves K own file lines behind outcome new
 
 -- the failure that stopped an import. That there was no memory to read the file or for its answers is none of the
 -- books', and isn't counted.
@@ -155,16 +157,18 @@ failures_of _ = []
 abbrev pub told_by_import : List Line → Result (List LineAnswer) ImportFault → List (Option LookFault)
 told_by_import lines outcome = map (λ command. None) (commands_of lines) ++ failures_of outcome
 
--- Its notes ran, with their replies, and took no word of a source; and the books are left as its calls leave them.
-pub record ImportLeads {B : Type 0} (K : KeptOf B) (rows : B → Rows) (old new : B) (lines : List Line)
+-- Its notes ran, with their replies, and took no word of a source; and the books are left as its calls leave them, also
+-- to a stop.
+pub record ImportLeads {B : Type 0} (K : KeptOf B) (own : BooksOf B) (old new : B) (lines : List Line)
     (answers : List LineAnswer) (outcome : Result (List LineAnswer) ImportFault) : Type 0 where
   pub happened : (source : Stream)
-      → Happens K rows old (λ h h'. Runs h source (commands_of lines) (replies_in answers) h' source) new
+      → Happens K own.rows old (λ h h'. Runs h source (commands_of lines) (replies_in answers) h' source) new
   pub calls : Passes (Leaves K) old (told_by_import lines outcome) new
   pub leaves : LeaveAll K old (told_by_import lines outcome) new
+  pub stops : StopsThrough K own old new
 
 -- an import leads so
-abbrev pub ImportsLead : {B : Type 0} → KeptOf B → (B → Rows) → Type 0
-ImportsLead {B = B} K rows = (old new : B) (file : Result (List Line) AuditFault)
-    (outcome : Result (List LineAnswer) ImportFault) → (i : Imports K rows file old new outcome)
-    → ImportLeads K rows old new i.lines i.answers outcome
+abbrev pub ImportsLead : {B : Type 0} → KeptOf B → BooksOf B → Type 0
+ImportsLead {B = B} K own = (old new : B) (file : Result (List Line) AuditFault)
+    (outcome : Result (List LineAnswer) ImportFault) → (i : Imports K own file old new outcome)
+    → ImportLeads K own old new i.lines i.answers outcome

@@ -4,7 +4,8 @@ use Rattle.rand_core.specs.Stream.{Stream}
 use Rattle.hotel_model.specs.{declared.command.Command.Command, declared.reply.Reply.Reply, History.History, Run.Runs}
 use Rattle.hotel_audit.specs.{declared.answer.LineAnswer.LineAnswer, declared.answer.LineAnswer.TheVariants.Taken}
 use Rattle.hotel_audit.specs.{declared.answer.LineAnswer.TheVariants.Seen}
-use Rattle.hotel_audit.specs.{declared.line.Line.Line, Import.AreAnswered, Import.commands_of, Import.replies_in}
+use Rattle.hotel_lock.specs.declared.line.Line.{Line}
+use Rattle.hotel_audit.specs.Import.{AreAnswered, commands_of, replies_in}
 
 -- the answer is Taken or Seen
 abbrev pub IsTakenOrSeen : LineAnswer → Type 0

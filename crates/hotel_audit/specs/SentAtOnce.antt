@@ -3,8 +3,9 @@ use Rattle.std.specs.Prelude.{◌≡◌, ◌≤◌, List, [], ◌∷◌, ◌++�
 use Rattle.rand_core.specs.Stream.{Stream}
 use Rattle.keycard_rules.specs.Note.{Note}
 use Rattle.hotel_model.specs.History.{History}
-use Rattle.hotel_audit.specs.{declared.answer.LineAnswer.LineAnswer, declared.line.Line.Line, SentAgain.LinesLead}
-use Rattle.hotel_audit.specs.declared.line.Line.TheVariants as line
+use Rattle.hotel_lock.specs.declared.line.Line.{Line}
+use Rattle.hotel_audit.specs.{declared.answer.LineAnswer.LineAnswer, SentAgain.LinesLead}
+use Rattle.hotel_lock.specs.declared.line.Line.TheVariants as line
 
 -- none of the lines has a lower count of the note's lock, which is a fit of its room
 abbrev pub NoneLower : Note → List Line → Type 0

@@ -2,9 +2,10 @@
 use Rattle.std.specs.Prelude.{List, ⊤}
 use Rattle.std.specs.List.{AllByRecursion}
 use Rattle.keycard_rules.specs.{declared.kept.Kept.Ghosts as KeptOf, Calls.BeganShut, Calls.Passes}
-use Rattle.hotel_model.specs.Rows.{Rows}
-use Rattle.hotel_audit.specs.{declared.answer.LineAnswer.LineAnswer, declared.line.Line.Line, Import.LineImported}
-use Rattle.hotel_audit.specs.declared.line.Line.TheVariants.{Note, Unread}
+use Rattle.hotel_core.specs.declared.books.Books.{Ghosts as BooksOf}
+use Rattle.hotel_lock.specs.declared.line.Line.{Line}
+use Rattle.hotel_audit.specs.{declared.answer.LineAnswer.LineAnswer, Import.LineImported}
+use Rattle.hotel_lock.specs.declared.line.Line.TheVariants.{Note, Unread}
 
 -- the line asks nothing of the books
 abbrev pub IsUnread : Line → Type 0
@@ -12,6 +13,6 @@ IsUnread (Unread cause) = ⊤
 IsUnread (Note note) = ⊥
 
 -- lines that were answered one after the other, from a state on that was not clean: each is unread
-abbrev pub ImportsNothing : {B : Type 0} → KeptOf B → (B → Rows) → Type 0
-ImportsNothing {B = B} K rows = (old new : B) (asked : List (Line × LineAnswer))
-    → Passes (LineImported K rows) old asked new → BeganShut K old new → AllByRecursion (λ a. IsUnread a.0) asked
+abbrev pub ImportsNothing : {B : Type 0} → KeptOf B → BooksOf B → Type 0
+ImportsNothing {B = B} K own = (old new : B) (asked : List (Line × LineAnswer))
+    → Passes (LineImported K own) old asked new → BeganShut K old new → AllByRecursion (λ a. IsUnread a.0) asked

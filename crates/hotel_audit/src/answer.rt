@@ -3,8 +3,8 @@
 ghost use Rattle.std.specs.Prelude.{◌≡◌};
 ghost use Rattle.hotel_audit.specs.Import.{has_taken};
 
-use crate::line::Cause;
 use hotel_core::Refusal;
+use hotel_lock::Cause;
 
 /// The answer to one line of an audit file.
 #[derive(Clone, Copy, Debug, PartialEq, Eq)]

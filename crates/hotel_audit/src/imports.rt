@@ -1,13 +1,12 @@
 //! The import of an audit file into any books that take notes.
 ghost use Rattle.std.specs.Prelude.{◌≡◌, ◌<◌, length, IfOk, Ok, Err};
-ghost use Rattle.hotel_audit.specs.{declared.audit_file.AuditFault.AuditFault, AuditFile.audit_lines};
-ghost use Rattle.hotel_audit.specs.declared.audit_file.TheConstants.{AUDIT_BYTES};
+ghost use Rattle.hotel_lock.specs.{declared.audit_file.AuditFault.AuditFault, AuditFile.audit_lines};
+ghost use Rattle.hotel_lock.specs.declared.audit_file.TheConstants.{AUDIT_BYTES};
 ghost use Rattle.hotel_audit.specs.Import.{Imports, IsAnswerTo, ImportsLine, answer_of, has_taken, outcome_of, stopped};
 
 use crate::answer::{LineAnswer, has_taken};
-use crate::audit_file::{AuditFault, read_notes};
-use crate::line::Line;
 use hotel_core::{Books, Refusal, Reply, report};
+use hotel_lock::{AuditFault, Line, read_notes};
 use keycard_rules::LookFault;
 use std::alloc::Global;
 
@@ -41,7 +40,7 @@ const fn answer_of(reply: &Reply) -> Result<LineAnswer, LookFault>
 /// Carries out one line.
 fn answer_line<B: Books>(books: &mut B, line: &Line) -> Result<LineAnswer, LookFault>
     ensures answer { IfOk result (λ answer. IsAnswerTo line.now answer) }
-    ensures went { ImportsLine B.Kept B.rows books.old line.now result books.new }
+    ensures went { ImportsLine B.Kept B.Books.own books.old line.now result books.new }
 {
     match line {
         Line::Unread(cause) => Ok(LineAnswer::Unread(*cause)),
@@ -66,7 +65,7 @@ fn import_lines<B: Books>(
     books: &mut B,
     lines: &[Line],
 ) -> Result<Vec<LineAnswer>, ImportFault>
-    ensures { Imports B.Kept B.rows (Ok lines.now) books.old books.new (outcome_of (λ v. v.items) result) }
+    ensures { Imports B.Kept B.Books.own (Ok lines.now) books.old books.new (outcome_of (λ v. v.items) result) }
 {
     let Ok(mut answers) = Vec::with_capacity(alloc, lines.len()) else {
         return Err(ImportFault::File(AuditFault::Memory));
@@ -92,7 +91,7 @@ pub fn import<B: Books>(
     books: &mut B,
     bytes: &[u8],
 ) -> Result<Vec<LineAnswer>, ImportFault>
-    ensures imported { Imports B.Kept B.rows (audit_lines bytes.now) books.old books.new
+    ensures imported { Imports B.Kept B.Books.own (audit_lines bytes.now) books.old books.new
         (outcome_of (λ v. v.items) result) }
     ensures large { AUDIT_BYTES < length bytes.now → result ≡ Err (ImportFault.File AuditFault.TooLarge) }
 {

@@ -1,17 +1,10 @@
-//! Laws of audit files, which make no call.
+//! Laws of the import of audit files, which make no call.
 ghost use Rattle.hotel_audit.specs.{FilesCounted.FilesCounted, FilesCounted.NotesCounted, FilesCounted.RunsTake};
-ghost use Rattle.hotel_audit.specs.{ListSent.ListIsSeen, ListSent.ListReadsBack, ListSent.NotesReadBack};
-ghost use Rattle.hotel_audit.specs.{Readings.GivesFileRecords, Readings.HasOneReading};
+ghost use Rattle.hotel_audit.specs.{ListSent.ListIsSeen, ListSent.ListReadsBack};
 ghost use Rattle.hotel_audit.specs.{SentAgain.SeenAgain, SentAtOnce.SentAtOnce, SentAtOnce.StoppedAndSent};
 ghost use Rattle.hotel_audit.specs.{Import.ImportsLead, Shut.ImportsNothing};
 
 use hotel_core::Books;
-
-/// A reading of bytes as CSV gives the file's records, so that two readings of the same bytes are the same.
-pub fn records_of_bytes()
-    ensures gives { GivesFileRecords }
-    ensures one { HasOneReading }
-{}
 
 /// A file whose lines were all Taken or Seen changes nothing when it comes again, at any later time, also after a refit
 /// of a room: each line is seen.
@@ -45,7 +38,6 @@ pub fn files_counted()
 /// The list of a room's notes is an audit file of them, unless it is longer than `AUDIT_BYTES`. Sent at the same desk,
 /// at any later time, each of its lines is seen, and changes nothing.
 pub fn list_comes_back()
-    ensures notes { NotesReadBack }
     ensures list { ListReadsBack }
     ensures seen { ListIsSeen }
 {}
@@ -53,11 +45,11 @@ pub fn list_comes_back()
 /// Of an import (`imported`): from the first state on that was not clean, each line that was answered is unread, where
 /// nobody else wrote what the books are kept in. So none is a note.
 pub fn shut_import_answers_nothing<B: Books>()
-    ensures { ImportsNothing B.Kept B.rows }
+    ensures { ImportsNothing B.Kept B.Books.own }
 {}
 
 /// Of an import (`imported`): its notes are a run of the model, with their replies, and it leaves of the books what its
 /// calls leave together: each note was answered, and where it was stopped, the next one failed.
 pub fn imports_lead<B: Books>()
-    ensures { ImportsLead B.Kept B.rows }
+    ensures { ImportsLead B.Kept B.Books.own }
 {}

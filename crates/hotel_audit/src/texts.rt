@@ -3,14 +3,12 @@ ghost use Rattle.std.specs.Prelude.{◌≡◌, ◌++◌, ◌+◌, ◌≤◌, Som
 ghost use Rattle.hotel_core.specs.declared.reply_texts.TheConstants.{REPLY_BYTES};
 ghost use Rattle.hotel_core.specs.Texts.{reply_text};
 ghost use Rattle.hotel_audit.specs.declared.texts.TheConstants.{ANSWER_BYTES};
-ghost use Rattle.hotel_audit.specs.Answers.{answer_text, cause_name, cause_text, stopped_text};
-ghost use Rattle.hotel_audit.specs.Answers.{audit_fault_text, import_fault_text};
+ghost use Rattle.hotel_audit.specs.Answers.{answer_text, cause_name, cause_text, import_fault_text, stopped_text};
 
 use crate::answer::LineAnswer;
-use crate::audit_file::AuditFault;
 use crate::imports::ImportFault;
-use crate::line::Cause;
 use hotel_core::{Reply, reply_text};
+use hotel_lock::Cause;
 use keycard_rules::{LookFault, ShortText};
 use std::error::Error;
 use std::fmt;
@@ -94,21 +92,6 @@ pub fn stopped_text(answered: usize, by: LookFault) -> StoppedText
     text.push(cause_text(by));
     text
 }
-
-impl fmt::Display for AuditFault {
-    ghost output = { λ why. Some (audit_fault_text why) };
-
-    fn fmt<W: fmt::Write>(&self, f: &mut fmt::Formatter<W>) -> fmt::Result {
-        f.write_str(match self {
-            AuditFault::TooLarge => "too large",
-            AuditFault::NoHeader => "no header",
-            AuditFault::WrongHeader => "wrong header",
-            AuditFault::Memory => "memory",
-        })
-    }
-}
-
-impl Error for AuditFault {}
 
 impl fmt::Display for ImportFault {
     ghost output = { λ why. Some (import_fault_text why) };

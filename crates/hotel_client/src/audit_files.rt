@@ -1,7 +1,8 @@
 //! Audit files that are imported, and what their lines are answered.
 use crate::commands::checked_in;
-use hotel_audit::{Cause, LineAnswer, import};
+use hotel_audit::{LineAnswer, import};
 use hotel_core::{Books, ListBooks, Refusal};
+use hotel_lock::Cause;
 use std::process::Abort;
 use std::test::Fail;
 

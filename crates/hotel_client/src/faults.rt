@@ -1,8 +1,9 @@
 //! Each fault by its name, as somebody's program would tell it: an enum that gains or loses a member isn't matched so.
-use hotel_audit::{AuditFault, ImportFault};
+use hotel_audit::ImportFault;
 use hotel_core::WalkFault;
 use hotel_http::ServeFault;
 use hotel_lists::ListFault;
+use hotel_lock::AuditFault;
 use hotel_nights::GuestFault;
 use hotel_program::{ScriptFault, UsageFault};
 use hotel_tables::{OpenFault, TableName};

@@ -5,11 +5,12 @@
 //!
 //! Its line in crates.txt names the crates whose names it writes. The line of a client of everything is
 //!
-//!     my_client: keycard_rules hotel_nights hotel_core hotel_streams hotel_lists hotel_audit hotel_http hotel_program
-//!         hotel_tables
+//!     my_client: keycard_rules hotel_nights hotel_lock hotel_core hotel_streams hotel_lists hotel_audit hotel_http
+//!         hotel_program hotel_tables
 //!
 //! - keycard_rules, hotel_nights: values. hotel_core: commands and replies, and books in memory, `ListBooks`.
-//! - hotel_streams: readers and writers for tests. hotel_lists: the lists. hotel_audit: audit files.
+//! - hotel_streams: readers and writers for tests. hotel_lists: the lists. hotel_audit: the import of audit files, whose
+//!   lines hotel_lock reads.
 //! - hotel_http: one request. hotel_program: scripts, a command line's arguments, connections. (The crate hotel_desk is
 //!   the program, and no crate can depend on a program.)
 //! - hotel_tables: books in a database. Whoever makes its connection names sqlite too; the tests here also name
@@ -17,8 +18,9 @@
 //!
 //! # Books of its own
 //!
-//! Three impls make a type books, and a fourth one, of `Walks`, hands the rows of the lists to a sink, one by one.
-//! The crate stopping_books has all four, over `ListBooks`.
+//! Three impls make a type books. A fourth one, of `WalksOf` a list, hands the rows of the list to a sink, one by one:
+//! one for each list that `Walks` names, or one for all of them. An `impl Walks`, which has nothing in it, says that
+//! none is left out. The crate stopping_books has them, over `ListBooks`, whose walks are those of `WalkedInMemory`.
 //!
 //! - `Kept` has no call. Its ghosts say what proofs know of a state. `issued`: the codes of the rows. `is_kept`: the
 //!   second state has the rows of the first. `is_clean` and `is_honest`: tests of a state, `Unit {0}` for books that

@@ -2,11 +2,13 @@
 use crate::books_in_memory::two_entries_in_memory;
 use crate::commands::{check_in, desk_behind, first_booking, reserve};
 use crate::values::{card_number, day, nights, party, room};
+use hotel_core::lists::CardsGiven;
 use hotel_core::{Command, ListBooks, Walks};
 use hotel_lists::{
-    arrivals, audit_of, availability, bookings, business_day, card_of, cards_given, chain_of,
-    in_house, inside, left_behind, locks, room_status,
+    arrivals, audit_of, availability, bookings, business_day, card_of, chain_of, in_house, inside,
+    left_behind, locks, room_status, write_rows,
 };
+use hotel_streams::IoCalls;
 use std::alloc::Global;
 use std::process::Abort;
 use std::test::Fail;
@@ -25,7 +27,13 @@ fn lists_of<B: Walks>(alloc: Global, books: &mut B) -> Result<Vec<u8>, Fail> {
     inside(alloc, books, &mut writer)?;
     bookings(alloc, books, &mut writer)?;
     availability(alloc, books, day(b"2031-05-01")?, nights(2)?, &mut writer)?;
-    cards_given(alloc, books, party(1)?, &mut writer)?;
+    write_rows(
+        alloc,
+        books,
+        &CardsGiven(party(1)?),
+        &mut writer,
+        &mut IoCalls::none(),
+    )?;
     card_of(alloc, books, card_number(1)?, &mut writer)?;
     locks(alloc, books, &mut writer)?;
     Ok(writer)

@@ -9,9 +9,10 @@ use crate::faults::{
 use crate::requests::{CHECK_IN, booked, serve};
 use crate::tables::two_entries_in_tables;
 use crate::values::{code, room};
-use hotel_audit::{import, read_notes};
+use hotel_audit::import;
 use hotel_core::ListBooks;
 use hotel_lists::chain_of;
+use hotel_lock::read_notes;
 use hotel_nights::Guest;
 use hotel_program::{ScriptFault, parse_words, run_script};
 use hotel_scenarios::desks::Desk;

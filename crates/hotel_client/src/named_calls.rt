@@ -5,8 +5,8 @@ ghost use Rattle.std.specs.Duration.{as_nanos};
 
 use crate::commands::checked_in;
 use crate::values::{count, kind, party};
-use hotel_audit::{AuditFault, Line, read_notes};
 use hotel_core::{Command, ListBooks, Refusal, Reply, reply_text, report};
+use hotel_lock::{AuditFault, Line, read_notes};
 use hotel_nights::Moment;
 use hotel_program::{
     Caller, DeskAct, ListAsk, Listener, NoClock, UsageFault, ValueName, parse_words, run_one,

@@ -1,11 +1,13 @@
 //! Faults print what the desk prints of them, without a line feed, so that a client can hand them on by `?`.
 use crate::values::day;
-use hotel_audit::{AuditFault, ImportFault};
+use hotel_audit::ImportFault;
 use hotel_core::{Refusal, RunFault, WalkFault};
 use hotel_http::ServeFault;
 use hotel_lists::ListFault;
+use hotel_lock::{AuditFault, LogFault};
 use hotel_nights::GuestFault;
-use hotel_program::{ScriptFault, parse_words};
+use hotel_program::{Fault, FileFault, ScriptFault, parse_words};
+use hotel_streams::{ReadFault, WholeFault};
 use hotel_tables::{OpenFault, TableName};
 use keycard_rules::{DrawFault, LookFault, Memory, RecodeFault};
 use std::alloc::Global;
@@ -64,6 +66,7 @@ fn faults_of_calls_printed(rt: HostRuntime) -> Result<(), Fail> {
     };
     assert!(rt; prints(alloc, &ListFault::NoRoom, "refused 6 NoRoom")?);
     assert!(rt; prints(alloc, &AuditFault::WrongHeader, "wrong header")?);
+    assert!(rt; prints(alloc, &LogFault::Write, "write")?);
     assert!(rt; prints(alloc, &ImportFault::File(AuditFault::TooLarge), "too large")?);
     assert!(rt; prints(alloc, &stopped, "stopped after 12: Store")?);
     assert!(rt; prints(alloc, &ServeFault::Closed, "closed")?);
@@ -74,5 +77,22 @@ fn faults_of_calls_printed(rt: HostRuntime) -> Result<(), Fail> {
     ];
     let unread = parse_words(alloc, &words).err().ok_or("a fault")?;
     assert!(rt; prints(alloc, &unread, "unread PARTY")?);
+    Ok(())
+}
+
+#[test]
+fn faults_of_the_program_printed(rt: HostRuntime) -> Result<(), Fail> {
+    let alloc = rt.alloc();
+    let stopped = Fault::Stopped {
+        answered: 12,
+        by: LookFault::Memory,
+    };
+    let damaged = FileFault::Desk(OpenFault::Damaged(TableName::Stay));
+    assert!(rt; prints(alloc, &ReadFault::Read, "read")?);
+    assert!(rt; prints(alloc, &WholeFault::TooLarge, "too large")?);
+    assert!(rt; prints(alloc, &Fault::WrongHeader, "wrong header")?);
+    assert!(rt; prints(alloc, &stopped, "stopped after 12: Memory")?);
+    assert!(rt; prints(alloc, &Fault::Books(damaged), "damaged stay")?);
+    assert!(rt; prints(alloc, &Fault::Books(FileFault::File), "file")?);
     Ok(())
 }

@@ -10,7 +10,7 @@ pub mod CheckParts
 pub mod DrawParts
 pub mod FailuresCounted
 pub mod Happened
+pub mod StopsAfter
 pub mod Happens
 pub mod Walking
-pub mod StillWalks
 pub mod AnswerParts

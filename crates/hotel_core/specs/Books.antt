@@ -3,5 +3,6 @@ pub mod Reads
 pub mod Failures
 pub mod Walks
 pub mod Changes
+pub mod Stops
 pub mod Happens
 pub mod Stepped

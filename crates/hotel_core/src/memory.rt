@@ -8,5 +8,5 @@ mod note_table;
 mod row_changes;
 mod stay_table;
 mod table_changes;
-mod table_walks;
+pub mod table_walks;
 mod tables;

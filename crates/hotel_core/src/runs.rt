@@ -35,8 +35,8 @@ pub fn run<B: Books, R: Rng>(
 ) -> Result<Vec<Reply>, RunFault>
     ensures fault { IfErr result (λ fault. (fault.answered ≡ 0)
         × (books.new ≡ books.old) × (source.new ≡ source.old)) }
-    ensures through { IfOk result (λ replies. RunThrough B.Kept B.rows (books.old, R.stream source.old) commands.now
-        replies.items (books.new, R.stream source.new)) }
+    ensures through { IfOk result (λ replies. RunThrough B.Kept B.Books.own (books.old, R.stream source.old)
+        commands.now replies.items (books.new, R.stream source.new)) }
 {
     let Ok(mut replies) = Vec::with_capacity(alloc, commands.len()) else {
         return Err(RunFault { answered: 0 });

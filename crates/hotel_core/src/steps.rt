@@ -1,7 +1,6 @@
 //! One command, over any books.
 ghost use Rattle.std.specs.Prelude.{◌≡◌, true, false};
-ghost use Rattle.hotel_core.specs.Books.Stepped.{Noted, Stepped, StopsStep};
-ghost use Rattle.rand_core.specs.Stream.{Stream};
+ghost use Rattle.hotel_core.specs.Books.Stepped.{Noted, Stepped};
 ghost use Rattle.hotel_model.specs.declared.command.Command.TheVariants as command;
 ghost use Rattle.hotel_model.specs.{NoteReplies.IsNoteReply, Ranges.IsCommand, Run.is_failed};
 ghost use Rattle.hotel_core.specs.{Refinement.Finds.reply_of, Refinement.StepOnRows.CarriesOut};
@@ -65,9 +64,8 @@ fn carry_out<B: Books, R: Rng>(
 ///
 /// `Memory` and `Store` may stand in place of any answer; the books count these failures.
 pub fn step<B: Books, R: Rng>(books: &mut B, source: &mut R, command: &Command) -> Reply
-    ensures stepped { Stepped B.Kept B.rows (books.old, R.stream source.old) (command.now, result)
+    ensures { Stepped B.Kept B.Books.own (books.old, R.stream source.old) (command.now, result)
         (books.new, R.stream source.new) }
-    ensures stop { StopsStep B.Kept B.Books.own books.old (R.stream source.old) command.now books.new }
 {
     known_command(command);
     books.known_sound();
@@ -79,10 +77,8 @@ pub fn step<B: Books, R: Rng>(books: &mut B, source: &mut R, command: &Command) 
 
 /// Takes a note of a lock: `step` of [`Command::Reported`], which draws nothing.
 pub fn report<B: Books>(books: &mut B, note: &LockNote) -> Reply
-    ensures noted { Noted B.Kept B.rows note.now books.old books.new result }
+    ensures noted { Noted B.Kept B.Books.own note.now books.old books.new result }
     ensures note { B.is_honest books.new → IsNoteReply result }
-    ensures stop { (source : Stream) → StopsStep B.Kept B.Books.own books.old source (command.Reported note.now)
-        books.new }
 {
     known_note(note);
     books.known_sound();

@@ -4,6 +4,7 @@ use Rattle.std.proofs.Common.{take}
 use Rattle.std.proofs.Common.{Option, Some, None, IfSome, Result, Ok, Err, Bool, false, OnOk, OnErr}
 use Rattle.hotel_core.proofs.{Names.Stream, Names.failure_in, Names.History}
 use Rattle.keycard_rules.specs.{declared.kept.Kept.Ghosts as KeptOf}
+use Rattle.hotel_core.specs.declared.books.Books.{Ghosts as BooksOf}
 use Rattle.keycard_rules.specs.declared.issued.LookFault.TheVariants as look
 use Rattle.keycard_rules.specs.Calls.{LeaveAll, NoCallFailed, Told}
 use Rattle.keycard_rules.proofs.CallsTogether.{together}
@@ -12,8 +13,8 @@ use Rattle.std.specs.Result.{IsErrAnd}
 use Rattle.std.specs.Io.KnownBytes.{Appends}
 use Rattle.std.proofs.KnownBytes.{Appends-trans}
 use Rattle.hotel_model.specs.{declared.command.Command.Command, declared.reply.Reply.Reply}
-use Rattle.hotel_model.specs.Rows.{Rows}
 use Rattle.hotel_core.specs.{Books.Happens.HappensBy, Books.Stepped.Stepped}
+use Rattle.hotel_core.proofs.OfCode.StopsAfter.{no_stops, stops_idle, stops_once}
 use Rattle.hotel_model.specs.declared.reply.Reply.TheVariants as reply
 use Rattle.hotel_streams.specs.{Bytes.AppendsPrefix, declared.calls.WriteFailed.WriteFailed}
 use Rattle.hotel_lists.proofs.ToldLemmas.{last_of}
@@ -23,7 +24,8 @@ use Rattle.hotel_lists.specs.declared.fault.ListFault.TheVariants as fault
 use Rattle.hotel_asks.specs.declared.asked.ListAsk.{ListAsk}
 use Rattle.hotel_asks.specs.{Listings.listing_on, Listings.listing_over}
 use Rattle.hotel_asks.proofs.ListingLemmas.{listing_stands}
-use Rattle.hotel_audit.specs.{AuditFile.audit_lines, Import.Imports, Import.told_by_import}
+use Rattle.hotel_lock.specs.AuditFile.{audit_lines}
+use Rattle.hotel_audit.specs.Import.{Imports, told_by_import}
 use Rattle.hotel_audit.specs.{declared.answer.LineAnswer.LineAnswer, declared.imports.ImportFault.ImportFault}
 use Rattle.hotel_audit.proofs.ImportsLead.{imports_lead}
 use Rattle.hotel_http.specs.{declared.rejection.Rejection.Rejection, declared.serve.Cut.Cut}
@@ -50,14 +52,15 @@ ends_as text status acted (Err failed) old new end e ok err =
     subst (EndsAs (full_answer text status acted) [] old new) (sym e) (refl, err)
 
 -- a command is carried out
-pub command_came : {S : Type 0} {K : KeptOf S} {rows : S → Rows} {a b : S} (s t : Stream) (command : Command)
+pub command_came : {S : Type 0} {K : KeptOf S} {own : BooksOf S} {a b : S} (s t : Stream) (command : Command)
     (given : Reply) (old new : Option (List ℕ)) (end : Result Served Cut)
-    → Stepped K rows (a, s) (command, given) (b, t) → EndsAs (replied given) [] old new end
-    → HappensBy K rows a (Answered (AskComes (ask.Command command)) s t [] old new end) b
+    → Stepped K own (a, s) (command, given) (b, t) → EndsAs (replied given) [] old new end
+    → HappensBy K own a (Answered (AskComes (ask.Command command)) s t [] old new end) b
 command_came {b = b} s t command given old new end step ends = record {
   told = failure_in given ∷ [];
   happened = λ honest. leads_as (λ h h' went. (replied given, (given, went, refl, refl), ends)) (step.happened honest);
   calls = (b, step.leaves, refl);
+  stops = stops_once s command step.leaves.since step.stop;
 }
 
 -- what is answered of a list's text
@@ -78,12 +81,12 @@ list_comes (Err fault.Store) told on over same is t = inr (look.Store, refl, t)
 list_comes (Err fault.Write) told on over same is t = inr (look.Memory, refl, inl t)
 
 -- a list is answered, and nothing changes
-pub list_came : {S : Type 0} {K : KeptOf S} {rows : S → Rows} {a b : S} (its_list : ListAsk)
+pub list_came : {S : Type 0} {K : KeptOf S} {own : BooksOf S} {a b : S} (its_list : ListAsk)
     (made : Result (List ℕ) ListFault) (old new : Option (List ℕ)) (end : Result Served Cut)
-    → ((x y : S) → K.is_kept x y → rows y ≡ rows x) → LooksAt K a b (end_of made)
-    → (K.is_honest b → IsListText (listing_on (rows a) its_list) made) → EndsAs (out_of made) [] old new end
-    → (s : Stream) → HappensBy K rows a (Answered (AskComes (ask.List its_list)) s s [] old new end) b
-list_came {K = K} {rows = rows} {a = a} {b = b} its_list made old new end kept_rows it text ends s = record {
+    → ((x y : S) → K.is_kept x y → own.rows y ≡ own.rows x) → LooksAt K a b (end_of made)
+    → (K.is_honest b → IsListText (listing_on (own.rows a) its_list) made) → EndsAs (out_of made) [] old new end
+    → (s : Stream) → HappensBy K own a (Answered (AskComes (ask.List its_list)) s s [] old new end) b
+list_came {K = K} {own = own} {a = a} {b = b} its_list made old new end kept_rows it text ends s = record {
   told = it.told;
   happened = λ honest h reached stands. (
     h,
@@ -92,8 +95,8 @@ list_came {K = K} {rows = rows} {a = a} {b = b} its_list made old new end kept_r
     (
       out_of made,
       (
-        list_comes made it.told (listing_on (rows a) its_list) (listing_over h its_list)
-            (λ none. listing_stands h (rows a) its_list
+        list_comes made it.told (listing_on (own.rows a) its_list) (listing_over h its_list)
+            (λ none. listing_stands h (own.rows a) its_list
             (reached, stands (all.since.was_clean (all.vouched honest (last_of it.told none))))) (text honest) it.tells,
         refl,
         refl,
@@ -103,35 +106,38 @@ list_came {K = K} {rows = rows} {a = a} {b = b} its_list made old new end kept_r
     assured h reached,
   );
   calls = it.calls;
+  stops = stops_idle kept_rows all.since it.kept it.stop;
 }
   where
     all : LeaveAll K a it.told b
     all = together K a b it.told it.calls
 
 -- an audit file is imported
-pub file_came : {S : Type 0} {K : KeptOf S} {rows : S → Rows} {a b : S} (file : List ℕ)
+pub file_came : {S : Type 0} {K : KeptOf S} {own : BooksOf S} {a b : S} (file : List ℕ)
     (import_end : Result (List LineAnswer) ImportFault) (old new : Option (List ℕ)) (end : Result Served Cut)
-    → Imports K rows (audit_lines file) a b import_end → EndsAs (imported import_end) [] old new end
-    → (s : Stream) → HappensBy K rows a (Answered (FileComes file) s s [] old new end) b
-file_came {K = K} {rows = rows} {a = a} {b = b} file import_end old new end i ends s =
-    let l = imports_lead K rows a b (audit_lines file) import_end i in
+    → Imports K own (audit_lines file) a b import_end → EndsAs (imported import_end) [] old new end
+    → (s : Stream) → HappensBy K own a (Answered (FileComes file) s s [] old new end) b
+file_came {K = K} {own = own} {a = a} {b = b} file import_end old new end i ends s =
+    let l = imports_lead K own a b (audit_lines file) import_end i in
     record {
       told = told_by_import i.lines import_end;
       happened = λ honest. leads_as (λ h h' went.
           (imported import_end, (import_end, i.lines, i.answers, i.each, i.ends, went, refl, refl, refl), ends))
           (l.happened s honest);
       calls = l.calls;
+      stops = l.stops;
     }
 
 -- a rejection changes nothing
-pub rejection_came : {S : Type 0} (K : KeptOf S) (rows : S → Rows) (a : S) (s : Stream) (why : Rejection)
+pub rejection_came : {S : Type 0} (K : KeptOf S) (own : BooksOf S) (a : S) (s : Stream) (why : Rejection)
     (old new : Option (List ℕ)) (end : Result Served Cut)
-    → EndsAs (rejected why) [] old new end → HappensBy K rows a (Answered (Comes (Err why)) s s [] old new end) a
-rejection_came K rows a s why old new end ends = record {
+    → EndsAs (rejected why) [] old new end → HappensBy K own a (Answered (Comes (Err why)) s s [] old new end) a
+rejection_came K own a s why old new end ends = record {
   told = [];
   happened = λ honest h reached stands.
       (h, reached, stands, (rejected why, (refl, refl, refl, refl), ends), assured h reached);
   calls = refl;
+  stops = no_stops refl;
 }
 
 -- the answer stands behind an interim one
@@ -143,26 +149,27 @@ after_interim before out old mid new (Ok served) first ends =
 after_interim before out old mid new (Err cut) first ends =
     (ends.0, (ends.1.0, ends.1.1, Appends-trans old mid new before (take ends.1.0 out.text) first ends.1.2))
 
-pub behind_interim : {S : Type 0} {K : KeptOf S} {rows : S → Rows} {a b : S}
+pub behind_interim : {S : Type 0} {K : KeptOf S} {own : BooksOf S} {a b : S}
     (came : History → Stream → FullAnswer → Told → History → Stream → Type 0) (s t : Stream) (before : List ℕ)
     (old mid new : Option (List ℕ)) (end : Result Served Cut) → Appends old mid before
-    → HappensBy K rows a (Answered came s t [] mid new end) b
-    → HappensBy K rows a (Answered came s t before old new end) b
+    → HappensBy K own a (Answered came s t [] mid new end) b
+    → HappensBy K own a (Answered came s t before old new end) b
 behind_interim came s t before old mid new end first it = record {
   told = it.told;
   happened = λ honest. leads_as (λ h h' went.
       (went.0, went.1, after_interim before went.0 old mid new end first went.2)) (it.happened honest);
   calls = it.calls;
+  stops = it.stops;
 }
 
 -- a request that was read is answered
-pub request_served : (origins : Origins) {S : Type 0} (K : KeptOf S) (rows : S → Rows) (a b : S) (s t : Stream)
+pub request_served : (origins : Origins) {S : Type 0} (K : KeptOf S) (own : BooksOf S) (a b : S) (s t : Stream)
     (known left old mid new : Option (List ℕ)) (got : Received) (request : Request) (end : Result Served Cut)
     → got.asks ≡ Ok request → EndsRequest origins known left old mid (Ok got)
-    → HappensBy K rows a (Answered (TaskComes request.task request.body.items) s t [] mid new end) b
-    → WasAnswered origins known (λ wanted awaited ends. HappensBy K rows a
+    → HappensBy K own a (Answered (TaskComes request.task request.body.items) s t [] mid new end) b
+    → WasAnswered origins known (λ wanted awaited ends. HappensBy K own a
     (Answered (Comes wanted) s t (interim_where awaited) old new ends) b) end
-request_served origins K rows a b s t known left old mid new got request end is (awaited, first, requests) went = (
+request_served origins K own a b s t known left old mid new got request end is (awaited, first, requests) went = (
   Ok (request.task, request.body.items),
   awaited,
   subst (λ (asks : Result Request Rejection). IfSome known
@@ -171,18 +178,18 @@ request_served origins K rows a b s t known left old mid new got request end is 
 )
 
 -- a rejection is answered
-pub rejection_served : (origins : Origins) {S : Type 0} (K : KeptOf S) (rows : S → Rows) (a : S) (s : Stream)
+pub rejection_served : (origins : Origins) {S : Type 0} (K : KeptOf S) (own : BooksOf S) (a : S) (s : Stream)
     (known left old mid new : Option (List ℕ)) (got : Received) (why : Rejection) (end : Result Served Cut)
     → got.asks ≡ Err why → EndsRequest origins known left old mid (Ok got) → EndsAs (rejected why) [] mid new end
-    → WasAnswered origins known (λ wanted awaited ends. HappensBy K rows a
+    → WasAnswered origins known (λ wanted awaited ends. HappensBy K own a
     (Answered (Comes wanted) s s (interim_where awaited) old new ends) a) end
-rejection_served origins K rows a s known left old mid new got why end is (awaited, first, requests) ends = (
+rejection_served origins K own a s known left old mid new got why end is (awaited, first, requests) ends = (
   Err why,
   awaited,
   subst (λ (asks : Result Request Rejection). IfSome known
       (λ input. Requests origins input awaited (wanted_of asks))) is requests,
   behind_interim (Comes (Err why)) s s (interim_where awaited) old mid new end first
-      (rejection_came K rows a s why mid new end ends),
+      (rejection_came K own a s why mid new end ends),
 )
 
 -- the fault of an answer that was cut

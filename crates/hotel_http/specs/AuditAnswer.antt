@@ -3,7 +3,7 @@ use Rattle.std.specs.Prelude.{ℕ, List, codes, None}
 use Rattle.keycard_rules.specs.declared.issued.LookFault.TheVariants as look
 use Rattle.hotel_audit.specs.{Answers.answers_text, Answers.stopped_text, declared.answer.LineAnswer.LineAnswer}
 use Rattle.hotel_audit.specs.{declared.imports.ImportFault.ImportFault}
-use Rattle.hotel_audit.specs.declared.audit_file.AuditFault.TheVariants as file
+use Rattle.hotel_lock.specs.declared.audit_file.AuditFault.TheVariants as file
 use Rattle.hotel_audit.specs.declared.imports.ImportFault.TheVariants as fault
 use Rattle.hotel_http.specs.{declared.answer.Media.TheVariants.Plain, declared.status.Status.Status, Answer.answer_text}
 use Rattle.hotel_http.specs.{Answer.memory_text}

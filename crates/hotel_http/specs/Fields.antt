@@ -8,7 +8,7 @@ use Rattle.std.specs.Str.Parse.{digits_value}
 use Rattle.hotel_http.specs.{declared.rejection.Rejection.Rejection, declared.fields.Named.Named}
 use Rattle.hotel_http.specs.declared.rejection.Rejection.TheVariants.{BadRequest, BodyTooLarge, NotImplemented}
 use Rattle.hotel_http.specs.declared.fields.Named.TheVariants.{Absent, Once, Often}
-use Rattle.hotel_audit.specs.declared.audit_file.TheConstants.{AUDIT_BYTES}
+use Rattle.hotel_lock.specs.declared.audit_file.TheConstants.{AUDIT_BYTES}
 
 -- a name and a value
 abbrev pub Pair : Type 0

@@ -4,9 +4,9 @@ use Rattle.std.specs.Prelude.{None, IfSome, Result, Ok, Err, codes}
 use Rattle.std.specs.{Io.KnownBytes.Appends, Option.unwrap_or}
 use Rattle.rand_core.specs.Stream.{Stream}
 use Rattle.keycard_rules.specs.{declared.issued.LookFault.LookFault, declared.kept.Kept.Ghosts as KeptOf}
+use Rattle.hotel_core.specs.declared.books.Books.{Ghosts as BooksOf}
 use Rattle.keycard_rules.specs.Calls.{NoCallFailed, Told}
 use Rattle.hotel_model.specs.{declared.reply.Reply.Reply, declared.reply.Refusal.Refusal, History.History}
-use Rattle.hotel_model.specs.Rows.{Rows}
 use Rattle.hotel_core.specs.{Books.Failures.failure_in, Books.Failures.refusal_of, Books.Happens.HappensBy}
 use Rattle.hotel_model.specs.declared.reply.Reply.TheVariants as reply
 use Rattle.hotel_model.specs.declared.reply.Refusal.TheVariants as refusal
@@ -19,11 +19,12 @@ use Rattle.hotel_lists.specs.Listings.{Listing, in_full}
 use Rattle.hotel_asks.specs.declared.asked.Ask.{Ask}
 use Rattle.hotel_asks.specs.Listings.{listing_over}
 use Rattle.hotel_asks.specs.declared.asked.Ask.TheVariants as ask
-use Rattle.hotel_audit.specs.{AuditFile.audit_lines, Import.AreAnswered, Import.EndsAfter}
+use Rattle.hotel_lock.specs.AuditFile.{audit_lines}
+use Rattle.hotel_audit.specs.Import.{AreAnswered, EndsAfter}
 use Rattle.hotel_audit.specs.{Import.commands_of}
 use Rattle.hotel_audit.specs.{Import.replies_in, Import.has_taken, Import.told_by_import}
 use Rattle.hotel_audit.specs.{declared.answer.LineAnswer.LineAnswer, declared.imports.ImportFault.ImportFault}
-use Rattle.hotel_audit.specs.{declared.line.Line.Line}
+use Rattle.hotel_lock.specs.declared.line.Line.{Line}
 use Rattle.hotel_audit.specs.declared.imports.ImportFault.TheVariants as import
 use Rattle.hotel_http.specs.{declared.rejection.Rejection.Rejection, declared.serve.Cut.Cut}
 use Rattle.hotel_http.specs.{declared.serve.Served.Served, declared.serve.ServeFault.ServeFault}
@@ -178,11 +179,11 @@ module _ (origins : Origins) where
 
   -- A request was served over these books, with codes from this source. The answer's bytes are those that the writer's
   -- contents grew by.
-  abbrev pub ServesOver : {B R : Type 0} → KeptOf B → (B → Rows) → (R → Stream) → Option (List ℕ) → Option (List ℕ)
+  abbrev pub ServesOver : {B R : Type 0} → KeptOf B → BooksOf B → (R → Stream) → Option (List ℕ) → Option (List ℕ)
       → Option (List ℕ) → Option (List ℕ) → B × R → B × R → Result Served ServeFault → Type 0
-  ServesOver K rows stream known left old new before after =
+  ServesOver K own stream known left old new before after =
       Serves known left old new ((after.0 ≡ before.0) × (after.1 ≡ before.1))
-      (λ wanted awaited end. HappensBy K rows before.0 (Answered (Comes wanted) (stream before.1) (stream after.1)
+      (λ wanted awaited end. HappensBy K own before.0 (Answered (Comes wanted) (stream before.1) (stream after.1)
       (interim_where awaited) old new end) after.0)
 
 -- The request that was answered, or why it wasn't.

@@ -9,7 +9,8 @@ ghost use Rattle.hotel_http.specs.AuditAnswer.{lines_answer, import_status, faul
 use crate::answer::{Media, head_text, memory_text, write_short};
 use crate::buffer::HeadText;
 use crate::status::Status;
-use hotel_audit::{AuditFault, ImportFault, LineAnswer, answer_text, stopped_text, write_answers};
+use hotel_audit::{ImportFault, LineAnswer, answer_text, stopped_text, write_answers};
+use hotel_lock::AuditFault;
 use hotel_streams::{IoCalls, WriteFailed, write_bytes};
 use keycard_rules::LookFault;
 use std::io::Write;

@@ -7,7 +7,7 @@ ghost use Rattle.hotel_http.specs.Fields as spec;
 ghost use Rattle.hotel_http.specs.Fields.{IsFoundIn, values_named, length_said, framing, expects_continue};
 
 use crate::rejection::Rejection;
-use hotel_audit::AUDIT_BYTES;
+use hotel_lock::AUDIT_BYTES;
 use httparse::spans::HeaderSpan;
 
 /// How often a field stands, and its value where it stands once.

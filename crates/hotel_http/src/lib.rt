@@ -6,6 +6,7 @@
 //! - specs: Head, Fields, Origins: what an input begins with, and whether it comes from a web page. Routes, Plan, Body,
 //!   Form, Tasks, Request: what it asks for, or the first rejection. Status, Answer, AuditAnswer, Serve: the bytes of
 //!   answers, and what comes of a request.
+//! - src: laws: the limits of a head.
 #![tactic(auto)]
 
 mod answer;
@@ -15,6 +16,7 @@ mod buffer;
 mod fields;
 mod form;
 mod head;
+mod laws;
 mod origins;
 mod plan;
 mod rejection;

@@ -161,7 +161,7 @@ fn answer_command<W: Write, B: Books, R: Rng>(
     source: &mut R,
     calls: &mut IoCalls,
 ) -> Result<Served, Cut>
-    ensures went { HappensBy B.Kept B.rows books.old (Answered (AskComes (ask.Command command.now))
+    ensures went { HappensBy B.Kept B.Books.own books.old (Answered (AskComes (ask.Command command.now))
         (R.stream source.old) (R.stream source.new) []
         (W.contents writer.old) (W.contents writer.new) result) books.new }
     ensures calls { CountsWrites calls.old calls.new (OnErr result) }
@@ -198,7 +198,7 @@ fn answer_list<W: Write, B: Walks>(
     books: &mut B,
     calls: &mut IoCalls,
 ) -> Result<Served, Cut>
-    ensures went { (s : Stream) → HappensBy B.Kept B.rows books.old (Answered (AskComes (ask.List list.now)) s s []
+    ensures went { (s : Stream) → HappensBy B.Kept B.Books.own books.old (Answered (AskComes (ask.List list.now)) s s []
         (W.contents writer.old) (W.contents writer.new) result) books.new }
     ensures calls { CountsWrites calls.old calls.new (OnErr result) }
 {
@@ -229,7 +229,7 @@ fn answer_audit<W: Write, B: Books>(
     books: &mut B,
     calls: &mut IoCalls,
 ) -> Result<Served, Cut>
-    ensures went { (s : Stream) → HappensBy B.Kept B.rows books.old (Answered (FileComes file.now) s s []
+    ensures went { (s : Stream) → HappensBy B.Kept B.Books.own books.old (Answered (FileComes file.now) s s []
         (W.contents writer.old) (W.contents writer.new) result) books.new }
     ensures calls { CountsWrites calls.old calls.new (OnErr result) }
 {
@@ -255,7 +255,7 @@ fn answer_ask<W: Write, B: Walks, R: Rng>(
     source: &mut R,
     calls: &mut IoCalls,
 ) -> Result<Served, Cut>
-    ensures went { HappensBy B.Kept B.rows books.old (Answered (AskComes asked.now) (R.stream source.old)
+    ensures went { HappensBy B.Kept B.Books.own books.old (Answered (AskComes asked.now) (R.stream source.old)
         (R.stream source.new) []
         (W.contents writer.old) (W.contents writer.new) result) books.new }
     ensures calls { CountsWrites calls.old calls.new (OnErr result) }
@@ -275,7 +275,7 @@ fn answer_request<W: Write, B: Walks, R: Rng>(
     source: &mut R,
     calls: &mut IoCalls,
 ) -> Result<Served, Cut>
-    ensures went { HappensBy B.Kept B.rows books.old (Answered (TaskComes request.now.task request.now.body.items)
+    ensures went { HappensBy B.Kept B.Books.own books.old (Answered (TaskComes request.now.task request.now.body.items)
         (R.stream source.old) (R.stream source.new) []
         (W.contents writer.old) (W.contents writer.new) result) books.new }
     ensures calls { CountsWrites calls.old calls.new (OnErr result) }
@@ -299,7 +299,7 @@ pub fn serve_by<I: Read, W: Write, B: Walks, R: Rng>(
     source: &mut R,
     calls: &mut IoCalls,
 ) -> Result<Exchange, ServeFault>
-    ensures serves { ServesOver service.entry.origins B.Kept B.rows R.stream
+    ensures serves { ServesOver service.entry.origins B.Kept B.Books.own R.stream
         (I.remaining reader.old) (I.remaining reader.new) (W.contents writer.old) (W.contents writer.new)
         (books.old, source.old) (books.new, source.new) (served_in result) }
     ensures follows { IfOk result
@@ -335,7 +335,7 @@ pub fn serve_one<I: Read, W: Write, B: Walks, R: Rng>(
     books: &mut B,
     source: &mut R,
 ) -> Result<Served, ServeFault>
-    ensures serves { ServesOver Any B.Kept B.rows R.stream (I.remaining reader.old) (I.remaining reader.new)
+    ensures serves { ServesOver Any B.Kept B.Books.own R.stream (I.remaining reader.old) (I.remaining reader.new)
         (W.contents writer.old) (W.contents writer.new) (books.old, source.old) (books.new, source.new) result }
     ensures wanted { ReadsWhile (WantsMore Any) (I.remaining reader.old) (I.remaining reader.new) }
 {

@@ -39,6 +39,7 @@ looks_next K end first next =
     let later = together K _ _ next.told next.calls in
     record {
       kept = λ clean. K.kept_trans _ _ _ (first.kept (later.since.was_clean clean)) (next.kept clean);
+      stop = K.no_more_trans _ _ _ first.stop next.stop;
       told = first.told ++ next.told;
       calls = passes_join _ _ _ _ first.told next.told first.calls next.calls;
       tells = told_both end first.told next.told first.tells next.tells;
@@ -49,6 +50,7 @@ pub one_answered : {B : Type 0} (K : KeptOf B) {takes : Bool} {a b : B} {told : 
     → Looks K takes a told b → LooksAt K a b (Ok tt)
 one_answered K {a = a} {b = b} e looks = record {
   kept = looks.kept;
+  stop = looks.stop;
   told = None ∷ [];
   calls = (b, subst (λ t. Leaves K a t b) e looks.leaves, refl);
   tells = (omega arith, refl);
@@ -59,12 +61,14 @@ pub one_failed : {B : Type 0} (K : KeptOf B) {takes : Bool} {a b : B} {told : Op
     → told ≡ Some why → Looks K takes a told b → LooksAt K a b (Err (list_fault why))
 one_failed K {a = a} {b = b} look.Memory e looks = record {
   kept = looks.kept;
+  stop = looks.stop;
   told = Some look.Memory ∷ [];
   calls = (b, subst (λ t. Leaves K a t b) e looks.leaves, refl);
   tells = inr ([], refl, refl);
 }
 one_failed K {a = a} {b = b} look.Store e looks = record {
   kept = looks.kept;
+  stop = looks.stop;
   told = Some look.Store ∷ [];
   calls = (b, subst (λ t. Leaves K a t b) e looks.leaves, refl);
   tells = ([], refl, refl);
@@ -72,12 +76,23 @@ one_failed K {a = a} {b = b} look.Store e looks = record {
 
 -- memory was refused behind look-ups that were answered
 pub then_memory : {B : Type 0} (K : KeptOf B) {a b : B} → LooksAt K a b (Ok tt) → LooksAt K a b (Err fault.Memory)
-then_memory K first =
-    record { kept = first.kept; told = first.told; calls = first.calls; tells = inl first.tells.1 }
+then_memory K first = record {
+  kept = first.kept;
+  stop = first.stop;
+  told = first.told;
+  calls = first.calls;
+  tells = inl first.tells.1;
+}
 
 -- what was looked up isn't there
 pub then_no_room : {B : Type 0} (K : KeptOf B) {a b : B} → LooksAt K a b (Ok tt) → LooksAt K a b (Err fault.NoRoom)
-then_no_room K first = record { kept = first.kept; told = first.told; calls = first.calls; tells = first.tells }
+then_no_room K first = record {
+  kept = first.kept;
+  stop = first.stop;
+  told = first.told;
+  calls = first.calls;
+  tells = first.tells;
+}
 
 -- what was honest behind look-ups was honest before them
 pub began_honest : {B : Type 0} (K : KeptOf B) {a b : B} {end : Result (Unit {0}) ListFault}

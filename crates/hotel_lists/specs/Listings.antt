@@ -7,15 +7,15 @@ use Rattle.keycard_rules.specs.{declared.kept.Kept.Ghosts as KeptOf}
 use Rattle.hotel_model.specs.{Rows.Rows, Rows.notes_at, Refinement.Lookups.room_at}
 use Rattle.hotel_model.specs.Refinement.ListsOnRows.{arrivals_on, in_house_on, chain_on, left_behind_on}
 use Rattle.hotel_model.specs.Refinement.ListsOnRows.{business_day_on, room_status_on, cards_inside_on, bookings_on}
-use Rattle.hotel_model.specs.Refinement.ListsOnRows.{availability_on, cards_given_on}
+use Rattle.hotel_model.specs.Refinement.ListsOnRows.{availability_on}
 use Rattle.hotel_streams.specs.Bytes.{AppendsPrefix}
+use Rattle.hotel_lock.specs.NoteLine.{audit_header, note_line}
 use Rattle.hotel_lists.specs.declared.fault.ListFault.{ListFault}
 use Rattle.hotel_lists.specs.RowLines.{LooksAt}
-use Rattle.hotel_lists.specs.RowLines.{arrivals_header, in_house_header, chain_header, left_behind_header, audit_header}
+use Rattle.hotel_lists.specs.RowLines.{arrivals_header, in_house_header, chain_header, left_behind_header}
 use Rattle.hotel_lists.specs.RowLines.{day_header, status_header, inside_header, free_header}
-use Rattle.hotel_lists.specs.RowLines.{arrival_line, house_line, chain_line, behind_line, note_line}
+use Rattle.hotel_lists.specs.RowLines.{arrival_line, house_line, chain_line, behind_line}
 use Rattle.hotel_lists.specs.RowLines.{day_line, status_line, inside_line, free_line, card_line, lock_line}
-use Rattle.hotel_lists.specs.RowLines.{given_header, given_line}
 use Rattle.hotel_lists.specs.{RowLines.card_header, RowLines.locks_header}
 use Rattle.hotel_model.specs.Refinement.ListsOnRows.{card_rows_on, locks_on}
 use Rattle.hotel_lists.specs.declared.fault.ListFault.TheVariants as fault
@@ -66,9 +66,6 @@ bookings_listing rows = Some (listing arrivals_header arrival_line (bookings_on 
 
 abbrev pub availability_listing : Rows → ℕ → ℕ → Option Listing
 availability_listing rows day nights = Some (listing free_header free_line (availability_on rows day nights))
-
-abbrev pub given_listing : Rows → ℕ → Option Listing
-given_listing rows party = Some (listing given_header given_line (cards_given_on rows party))
 
 abbrev pub card_listing : Rows → ℕ → Option Listing
 card_listing rows number = Some (listing card_header card_line (card_rows_on rows number))

@@ -3,14 +3,12 @@ use Rattle.std.specs.Prelude.{ℕ, ◌≡◌, ◌⊎◌, Bool, true, false, List
 use Rattle.std.specs.Prelude.{None, Result, Ok, Err}
 use Rattle.std.specs.Fmt.{decimal}
 use Rattle.std.specs.Io.KnownBytes.{Keeps}
-use Rattle.csv.specs.Writing.{default_writer, row_text}
 use Rattle.keycard_rules.specs.{declared.kept.Kept.Ghosts as KeptOf, declared.issued.LookFault.LookFault}
 use Rattle.keycard_rules.specs.{Leaves.Leaves, Calls.LastCallFailed, Calls.NoCallFailed, Calls.Passes, Calls.Told}
 use Rattle.keycard_rules.specs.Calls.{all_answer}
-use Rattle.keycard_rules.specs.{Numerals.code_text, declared.card.Card.Card, Note.Note, declared.note.Act.Act}
+use Rattle.keycard_rules.specs.{Numerals.code_text, declared.card.Card.Card}
 use Rattle.keycard_rules.specs.declared.issued.LookFault.TheVariants as look
-use Rattle.keycard_rules.specs.declared.note.Act.TheVariants.{Entered, Left, Recoded}
-use Rattle.hotel_nights.specs.{Days.day_text, Moments.Moment, Moments.moment_of, Moments.moment_text}
+use Rattle.hotel_nights.specs.{Days.day_text, Moments.Moment, Moments.moment_text}
 use Rattle.hotel_nights.specs.{declared.stay.Stay.Stay}
 use Rattle.hotel_model.specs.{declared.rows.RoomRow.RoomRow, declared.list_rows.HouseRow.HouseRow}
 use Rattle.hotel_model.specs.{declared.list_rows.ChainRow.ChainRow}
@@ -21,14 +19,11 @@ use Rattle.hotel_core.specs.declared.books.walks.WalkFault.{WalkFault}
 use Rattle.hotel_model.specs.declared.list_rows.CodeState.TheVariants as state
 use Rattle.hotel_core.specs.declared.books.walks.WalkFault.TheVariants as walk
 use Rattle.hotel_streams.specs.Bytes.{AppendsPrefix}
+use Rattle.hotel_lock.specs.Gathered.{line_of}
 use Rattle.hotel_lists.specs.declared.fault.ListFault.{ListFault}
 use Rattle.hotel_model.specs.declared.list_rows.CardRow.{CardRow}
 use Rattle.hotel_model.specs.declared.list_rows.LockRow.{LockRow}
 use Rattle.hotel_lists.specs.declared.fault.ListFault.TheVariants as fault
-
--- the line of these fields
-abbrev pub line_of : List (List ℕ) → List ℕ
-line_of fields = row_text default_writer fields
 
 -- a booked stay
 abbrev pub arrival_line : Stay → List ℕ
@@ -56,17 +51,6 @@ chain_line row = line_of (decimal row.place ∷ code_text row.code ∷ state_tex
 -- a room that is left behind
 abbrev pub behind_line : BehindRow → List ℕ
 behind_line row = line_of (decimal row.room ∷ code_text row.held ∷ code_text row.current ∷ decimal row.awaited ∷ [])
-
--- what happened, the card (none for a recoding), and the two codes
-abbrev pub act_fields : Act → List (List ℕ)
-act_fields (Entered card link) = codes "in" ∷ decimal card ∷ code_text link.old_code ∷ code_text link.new_code ∷ []
-act_fields (Left card link) = codes "out" ∷ decimal card ∷ code_text link.old_code ∷ code_text link.new_code ∷ []
-act_fields (Recoded from to) = codes "recode" ∷ [] ∷ code_text from ∷ code_text to ∷ []
-
--- a note
-abbrev pub note_line : Note → List ℕ
-note_line note = line_of (decimal note.room ∷ decimal note.fit ∷ decimal note.count ∷ act_fields note.act
-    ++ moment_text (moment_of note) ∷ [])
 
 -- the business day
 abbrev pub day_line : ℕ → List ℕ
@@ -121,9 +105,6 @@ chain_header = codes "place,code,state\n"
 abbrev pub left_behind_header : List ℕ
 left_behind_header = codes "room,held,current,awaited\n"
 
-abbrev pub audit_header : List ℕ
-audit_header = codes "room,fit,count,kind,card,old,new,at\n"
-
 abbrev pub day_header : List ℕ
 day_header = codes "day\n"
 
@@ -172,9 +153,11 @@ ListTold (Err fault.Memory) told = ListFailed look.Memory told
 ListTold (Err fault.Store) told = ListFailed look.Store told
 ListTold (Err fault.Write) told = all_answer told ≡ true
 
--- A list made these calls of the books, which reported what its end says, and left what was there.
+-- A list made these calls of the books, which reported what its end says, and left what was there; a stop leaves
+-- nothing new.
 pub record LooksAt {B : Type 0} (K : KeptOf B) (old new : B) (result : Result (Unit {0}) ListFault) : Type 0 where
   pub kept : K.is_clean new → K.is_kept old new
+  pub stop : K.leaves_no_more old new
   pub told : Told
   pub calls : Passes (Leaves K) old told new
   pub tells : ListTold result told

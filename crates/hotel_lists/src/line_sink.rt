@@ -5,9 +5,9 @@ ghost use Rattle.std.specs.Io.KnownBytes.{Appends};
 ghost use Rattle.hotel_lists.specs.{LineSink.SameEnds, LineSink.StopsAtWrite, LineSink.Finishes, RowLines.list_result};
 
 use crate::fault::ListFault;
-use crate::gathered::Gathered;
 use crate::row_lines::RowLine;
 use hotel_core::{Sink, Stop, WalkFault};
+use hotel_lock::Gathered;
 use hotel_streams::{IoCalls, write_bytes};
 use std::io::Write;
 

@@ -1,19 +1,17 @@
-//! The lists as text: a header, and a line for each row.
+//! The lists as text, each by its name: a header, and a line for each row. What has no name here `write_rows` writes.
 ghost use Rattle.hotel_lists.specs.Listings.{WritesList, WritesRoomList, arrivals_listing, audit_listing};
 ghost use Rattle.hotel_lists.specs.Listings.{availability_listing, bookings_listing, business_day_listing};
-ghost use Rattle.hotel_lists.specs.Listings.{card_listing, chain_listing, given_listing, in_house_listing};
+ghost use Rattle.hotel_lists.specs.Listings.{card_listing, chain_listing, in_house_listing};
 ghost use Rattle.hotel_lists.specs.Listings.{inside_listing, left_behind_listing, locks_listing, room_status_listing};
 
 use crate::fault::ListFault;
 use crate::write_lists::{
-    write_arrivals, write_audit_of, write_availability, write_bookings, write_business_day,
-    write_card_of, write_cards_given, write_chain_of, write_in_house, write_inside,
-    write_left_behind, write_locks, write_room_status,
+    write_business_day, write_card_of, write_locks, write_room_rows, write_rows,
 };
-use hotel_core::Walks;
+use hotel_core::{Walks, lists};
 use hotel_nights::{Day, Nights};
 use hotel_streams::IoCalls;
-use keycard_rules::{CardNo, PartyNo, RoomNo};
+use keycard_rules::{CardNo, RoomNo};
 use std::alloc::Global;
 use std::io::Write;
 
@@ -27,7 +25,13 @@ pub fn arrivals<B: Walks, W: Write>(
     ensures list { WritesList B.Kept (arrivals_listing (B.rows books.old) day) books.old books.new
         (W.contents writer.old) (W.contents writer.new) result }
 {
-    write_arrivals(alloc, books, day, writer, &mut IoCalls::none())
+    write_rows(
+        alloc,
+        books,
+        &lists::Arrivals(day),
+        writer,
+        &mut IoCalls::none(),
+    )
 }
 
 /// Writes the rooms with a registered party, by room.
@@ -39,7 +43,7 @@ pub fn in_house<B: Walks, W: Write>(
     ensures list { WritesList B.Kept (in_house_listing (B.rows books.old)) books.old books.new
         (W.contents writer.old) (W.contents writer.new) result }
 {
-    write_in_house(alloc, books, writer, &mut IoCalls::none())
+    write_rows(alloc, books, &lists::InHouse, writer, &mut IoCalls::none())
 }
 
 /// Writes the codes of a room in order of issue. `NoRoom` where it isn't there.
@@ -52,7 +56,14 @@ pub fn chain_of<B: Walks, W: Write>(
     ensures list { WritesRoomList B.Kept (chain_listing (B.rows books.old) room) books.old books.new
         (W.contents writer.old) (W.contents writer.new) result }
 {
-    write_chain_of(alloc, books, room, writer, &mut IoCalls::none())
+    write_room_rows(
+        alloc,
+        books,
+        room,
+        &lists::ChainOf(room),
+        writer,
+        &mut IoCalls::none(),
+    )
 }
 
 /// Writes the rooms whose lock awaits two codes or more, by room.
@@ -64,7 +75,13 @@ pub fn left_behind<B: Walks, W: Write>(
     ensures list { WritesList B.Kept (left_behind_listing (B.rows books.old)) books.old books.new
         (W.contents writer.old) (W.contents writer.new) result }
 {
-    write_left_behind(alloc, books, writer, &mut IoCalls::none())
+    write_rows(
+        alloc,
+        books,
+        &lists::LeftBehind,
+        writer,
+        &mut IoCalls::none(),
+    )
 }
 
 /// Writes the notes of a room, in the order in which they were taken. `NoRoom` where it isn't there.
@@ -77,7 +94,14 @@ pub fn audit_of<B: Walks, W: Write>(
     ensures list { WritesRoomList B.Kept (audit_listing (B.rows books.old) room) books.old books.new
         (W.contents writer.old) (W.contents writer.new) result }
 {
-    write_audit_of(alloc, books, room, writer, &mut IoCalls::none())
+    write_room_rows(
+        alloc,
+        books,
+        room,
+        &lists::AuditOf(room),
+        writer,
+        &mut IoCalls::none(),
+    )
 }
 
 /// Writes the business day, once it is set.
@@ -102,7 +126,13 @@ pub fn room_status<B: Walks, W: Write>(
     ensures list { WritesList B.Kept (room_status_listing (B.rows books.old)) books.old books.new
         (W.contents writer.old) (W.contents writer.new) result }
 {
-    write_room_status(alloc, books, writer, &mut IoCalls::none())
+    write_rows(
+        alloc,
+        books,
+        &lists::RoomStatus,
+        writer,
+        &mut IoCalls::none(),
+    )
 }
 
 /// Writes the cards inside rooms, by room and card, each with the party that it was given to.
@@ -114,7 +144,7 @@ pub fn inside<B: Walks, W: Write>(
     ensures list { WritesList B.Kept (inside_listing (B.rows books.old)) books.old books.new
         (W.contents writer.old) (W.contents writer.new) result }
 {
-    write_inside(alloc, books, writer, &mut IoCalls::none())
+    write_rows(alloc, books, &lists::Inside, writer, &mut IoCalls::none())
 }
 
 /// Writes the booked stays, by party.
@@ -126,7 +156,7 @@ pub fn bookings<B: Walks, W: Write>(
     ensures list { WritesList B.Kept (bookings_listing (B.rows books.old)) books.old books.new
         (W.contents writer.old) (W.contents writer.new) result }
 {
-    write_bookings(alloc, books, writer, &mut IoCalls::none())
+    write_rows(alloc, books, &lists::Bookings, writer, &mut IoCalls::none())
 }
 
 /// Writes the kinds, in the order of their letters: each with its rooms, and with how many bookings for so many
@@ -141,20 +171,13 @@ pub fn availability<B: Walks, W: Write>(
     ensures list { WritesList B.Kept (availability_listing (B.rows books.old) day nights) books.old books.new
         (W.contents writer.old) (W.contents writer.new) result }
 {
-    write_availability(alloc, books, day, nights, writer, &mut IoCalls::none())
-}
-
-/// Writes the cards that a party was given, by number; no row where there is no such party.
-pub fn cards_given<B: Walks, W: Write>(
-    alloc: Global,
-    books: &mut B,
-    party: PartyNo,
-    writer: &mut W,
-) -> Result<(), ListFault>
-    ensures list { WritesList B.Kept (given_listing (B.rows books.old) party) books.old books.new
-        (W.contents writer.old) (W.contents writer.new) result }
-{
-    write_cards_given(alloc, books, party, writer, &mut IoCalls::none())
+    write_rows(
+        alloc,
+        books,
+        &lists::Availability(day, nights),
+        writer,
+        &mut IoCalls::none(),
+    )
 }
 
 /// Writes the card of a number, with its party and its party's guest; no row where there is no such card.

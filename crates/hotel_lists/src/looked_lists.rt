@@ -3,12 +3,13 @@ ghost use Rattle.std.specs.Prelude.{option_map};
 ghost use Rattle.hotel_nights.specs.Moments.{moment_of};
 ghost use Rattle.hotel_model.specs.Refinement.Lookups.{note_at};
 ghost use Rattle.hotel_lists.specs.LookedLists.{FindsRows, one_or_none};
-ghost use Rattle.hotel_model.specs.Refinement.ListsOnRows.{card_rows_on, lock_at, locks_on, room_numbers};
+ghost use Rattle.hotel_model.specs.Refinement.ListsOnRows.{business_day_on, card_rows_on, lock_at, locks_on};
+ghost use Rattle.hotel_model.specs.Refinement.ListsOnRows.{room_numbers};
 
 use crate::fault::ListFault;
 use crate::line_sink::listed;
 use hotel_core::{Books, CardRow, LockRow, RoomRow, Sink, StatusRow, Stop, Walks};
-use hotel_nights::Moment;
+use hotel_nights::{Day, Moment};
 use keycard_rules::{CardNo, Count, RoomNo};
 use std::alloc::Global;
 
@@ -31,6 +32,14 @@ impl Sink<StatusRow> for RoomNumbers {
             Err(_) => Err(Stop),
         }
     }
+}
+
+/// The business day, once it is set.
+pub(crate) fn find_day<B: Books>(books: &mut B) -> Result<Option<Day>, ListFault>
+    ensures { FindsRows B.Kept one_or_none (business_day_on (B.rows books.old)) books.old books.new result }
+{
+    let day = books.day()?;
+    Ok(day)
 }
 
 /// The card of a number, with its party's guest.

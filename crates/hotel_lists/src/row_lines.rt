@@ -1,24 +1,32 @@
 //! The line of a row, as text of a CSV file.
 ghost use Rattle.std.specs.Prelude.{◌≡◌, ℕ, List, [], ◌∷◌, ◌++◌, OnOk};
 ghost use Rattle.std.specs.Fmt.{decimal};
-ghost use Rattle.keycard_rules.specs.Numerals.{code_text};
-ghost use Rattle.hotel_nights.specs.Moments.{moment_of, moment_text};
-ghost use Rattle.hotel_lists.specs.RowLines.{line_of, arrival_line, house_line, chain_line, behind_line, note_line};
+ghost use Rattle.hotel_lock.specs.{Gathered.line_of, NoteLine.audit_header, NoteLine.note_line};
+ghost use Rattle.hotel_lists.specs.RowLines.{arrival_line, house_line, chain_line, behind_line};
 ghost use Rattle.hotel_lists.specs.RowLines.{day_line, status_line, inside_line, free_line, card_line, lock_line};
 ghost use Rattle.hotel_lists.specs.RowLines.{given_line};
 ghost use Rattle.hotel_lists.specs.RowLines.{yes_or_no, state_text, party_field};
+ghost use Rattle.hotel_lists.specs.RowLines.{arrivals_header, in_house_header, chain_header, left_behind_header};
+ghost use Rattle.hotel_lists.specs.RowLines.{day_header, status_header, inside_header, free_header};
+ghost use Rattle.hotel_lists.specs.RowLines.{given_header, card_header, locks_header};
 
-use crate::gathered::Gathered;
 use hotel_core::{
     BehindRow, CardRow, ChainRow, CodeState, FreeRow, HouseRow, InsideRow, LockRow, StatusRow,
 };
-use hotel_nights::{Day, Moment, Stay};
-use keycard_rules::{Act, Card, Code, LockNote, Memory, PartyNo};
+use hotel_lock::{Gathered, audit_header};
+use hotel_nights::{Day, Stay};
+use keycard_rules::{Card, LockNote, Memory, PartyNo};
 
 /// A row that has a line.
-pub(crate) trait RowLine {
+pub trait RowLine {
+    /// The first line of a list of such rows.
+    ghost header: { List ℕ };
+
     /// The text of its line.
     ghost line: { Self → List ℕ };
+
+    fn header() -> &'static [u8]
+        ensures { result.now ≡ header };
 
     /// Puts its line behind the lines that are gathered.
     fn gather(&self, lines: &mut Gathered) -> Result<(), Memory>
@@ -26,7 +34,13 @@ pub(crate) trait RowLine {
 }
 
 impl RowLine for Stay {
+    ghost header = { arrivals_header };
+
     ghost line = { arrival_line };
+
+    fn header() -> &'static [u8] {
+        b"party,guest,kind,arrive,depart\n"
+    }
 
     fn gather(&self, lines: &mut Gathered) -> Result<(), Memory> {
         let mut party = itoa::Buffer::new();
@@ -50,7 +64,13 @@ fn secured_text<'a>(secured: bool) -> &'a [u8]
 }
 
 impl RowLine for HouseRow {
+    ghost header = { in_house_header };
+
     ghost line = { house_line };
+
+    fn header() -> &'static [u8] {
+        b"room,party,guest,kind,depart,secured\n"
+    }
 
     fn gather(&self, lines: &mut Gathered) -> Result<(), Memory> {
         let mut room = itoa::Buffer::new();
@@ -78,7 +98,13 @@ fn state_text(state: CodeState) -> &'static [u8]
 }
 
 impl RowLine for ChainRow {
+    ghost header = { chain_header };
+
     ghost line = { chain_line };
+
+    fn header() -> &'static [u8] {
+        b"place,code,state\n"
+    }
 
     fn gather(&self, lines: &mut Gathered) -> Result<(), Memory> {
         let mut place = itoa::Buffer::new();
@@ -92,7 +118,13 @@ impl RowLine for ChainRow {
 }
 
 impl RowLine for BehindRow {
+    ghost header = { left_behind_header };
+
     ghost line = { behind_line };
+
+    fn header() -> &'static [u8] {
+        b"room,held,current,awaited\n"
+    }
 
     fn gather(&self, lines: &mut Gathered) -> Result<(), Memory> {
         let mut room = itoa::Buffer::new();
@@ -108,58 +140,28 @@ impl RowLine for BehindRow {
     }
 }
 
-/// The line of a note whose act has this kind, card and codes.
-fn note_fields(
-    lines: &mut Gathered,
-    note: &LockNote,
-    kind: &[u8],
-    card: &[u8],
-    old: Code,
-    new: Code,
-) -> Result<(), Memory>
-    ensures { OnOk result (lines.new ≡ lines.old ++ line_of (
-        decimal note.now.room ∷ decimal note.now.fit ∷ decimal note.now.count ∷ kind.now ∷ card.now
-        ∷ code_text old ∷ code_text new ∷ moment_text (moment_of note.now) ∷ [])) }
-{
-    let mut room = itoa::Buffer::new();
-    let mut fit = itoa::Buffer::new();
-    let mut count = itoa::Buffer::new();
-    let old = old.print();
-    let new = new.print();
-    let at = Moment::of(note).print();
-    lines.push(&[
-        room.format(note.room.value()).as_bytes(),
-        fit.format(note.fit.value()).as_bytes(),
-        count.format(note.count.value()).as_bytes(),
-        kind,
-        card,
-        old.as_slice(),
-        new.as_slice(),
-        at.as_slice(),
-    ])
-}
-
 impl RowLine for LockNote {
+    ghost header = { audit_header };
+
     ghost line = { note_line };
 
+    fn header() -> &'static [u8] {
+        audit_header()
+    }
+
     fn gather(&self, lines: &mut Gathered) -> Result<(), Memory> {
-        let mut buffer = itoa::Buffer::new();
-        match self.act {
-            Act::Entered { card, link } => {
-                let card = buffer.format(card.value()).as_bytes();
-                note_fields(lines, self, b"in", card, link.old_code, link.new_code)
-            }
-            Act::Left { card, link } => {
-                let card = buffer.format(card.value()).as_bytes();
-                note_fields(lines, self, b"out", card, link.old_code, link.new_code)
-            }
-            Act::Recoded { from, to } => note_fields(lines, self, b"recode", b"", from, to),
-        }
+        lines.push_note(self)
     }
 }
 
 impl RowLine for Day {
+    ghost header = { day_header };
+
     ghost line = { day_line };
+
+    fn header() -> &'static [u8] {
+        b"day\n"
+    }
 
     fn gather(&self, lines: &mut Gathered) -> Result<(), Memory> {
         let day = self.print();
@@ -178,7 +180,13 @@ fn party_field<'b>(party: Option<PartyNo>, buffer: &'b mut itoa::Buffer) -> &'b 
 }
 
 impl RowLine for StatusRow {
+    ghost header = { status_header };
+
     ghost line = { status_line };
+
+    fn header() -> &'static [u8] {
+        b"room,kind,party,secured,awaited\n"
+    }
 
     fn gather(&self, lines: &mut Gathered) -> Result<(), Memory> {
         let mut room = itoa::Buffer::new();
@@ -195,7 +203,13 @@ impl RowLine for StatusRow {
 }
 
 impl RowLine for InsideRow {
+    ghost header = { inside_header };
+
     ghost line = { inside_line };
+
+    fn header() -> &'static [u8] {
+        b"room,card,party\n"
+    }
 
     fn gather(&self, lines: &mut Gathered) -> Result<(), Memory> {
         let mut room = itoa::Buffer::new();
@@ -210,7 +224,13 @@ impl RowLine for InsideRow {
 }
 
 impl RowLine for FreeRow {
+    ghost header = { free_header };
+
     ghost line = { free_line };
+
+    fn header() -> &'static [u8] {
+        b"kind,rooms,free\n"
+    }
 
     fn gather(&self, lines: &mut Gathered) -> Result<(), Memory> {
         let mut rooms = itoa::Buffer::new();
@@ -224,7 +244,13 @@ impl RowLine for FreeRow {
 }
 
 impl RowLine for Card {
+    ghost header = { given_header };
+
     ghost line = { given_line };
+
+    fn header() -> &'static [u8] {
+        b"card,old,new\n"
+    }
 
     fn gather(&self, lines: &mut Gathered) -> Result<(), Memory> {
         let mut number = itoa::Buffer::new();
@@ -239,7 +265,13 @@ impl RowLine for Card {
 }
 
 impl RowLine for CardRow {
+    ghost header = { card_header };
+
     ghost line = { card_line };
+
+    fn header() -> &'static [u8] {
+        b"card,party,guest,old,new\n"
+    }
 
     fn gather(&self, lines: &mut Gathered) -> Result<(), Memory> {
         let mut number = itoa::Buffer::new();
@@ -273,7 +305,13 @@ fn lock_fields(lines: &mut Gathered, lock: &LockRow, at: &[u8]) -> Result<(), Me
 }
 
 impl RowLine for LockRow {
+    ghost header = { locks_header };
+
     ghost line = { lock_line };
+
+    fn header() -> &'static [u8] {
+        b"room,fit,count,at\n"
+    }
 
     fn gather(&self, lines: &mut Gathered) -> Result<(), Memory> {
         match self.at {

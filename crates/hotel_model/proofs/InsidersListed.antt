@@ -1,7 +1,7 @@
 -- Each card that is inside a room is there, so that the list of the cards inside has it.
-use Rattle.std.proofs.Common.{ℕ, ◌≡◌, Bool, true, false, Option, Some, None, List, [], ◌∷◌, map, filter_map}
+use Rattle.std.proofs.Common.{◌≡◌, Bool, true, false, Option, Some, None, List, [], ◌∷◌, map, filter_map}
 use Rattle.std.proofs.Common.{option_map, refl, ap, ◌∙◌}
-use Rattle.hotel_model.proofs.Names.{History, Reached, at_number, cards, cons_option, fits_inside, insiders, list_all}
+use Rattle.hotel_model.proofs.Names.{History, at_number, cards, cons_option, fits_inside, insiders, list_all}
 use Rattle.hotel_model.proofs.Names.{rows_of, said_of}
 use Rattle.hotel_model.specs.declared.list_rows.InsideRow.{InsideRow}
 use Rattle.hotel_model.specs.{FurtherLaws.InsidersAreListed, Lists.inside_row, Rows.InsideKey, Rows.room_is}

@@ -7,6 +7,7 @@ pub mod Starts
 pub mod SoundRows
 pub mod Lifted
 pub mod LeadsOn
+pub mod RefusalsKept
 pub mod Reissued
 pub mod FreeNights
 pub mod InsidersListed

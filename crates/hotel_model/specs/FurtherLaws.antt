@@ -1,15 +1,22 @@
--- What is proved beside: what a reissue leaves as it is, which bookings are kept, where an issued code, a card and a
--- card inside are listed, and the limits.
+-- What is proved beside: that what is refused changes nothing, what a reissue leaves as it is, which bookings are kept,
+-- where an issued code, a card and a card inside are listed, and the limits.
 use Rattle.std.specs.Prelude.{ℕ, ◌≡◌, ◌≤◌, ◌<◌, ◌+◌, ◌↔◌, Bool, true, false, List, ◌∷◌, ◌++◌, length, map, Some}
+use Rattle.std.specs.Prelude.{is_none}
+use Rattle.rand_core.specs.Stream.{Stream}
 use Rattle.keycard_rules.specs.declared.card.Card.{Card}
-use Rattle.keycard_rules.specs.declared.numbers.TheConstants.{LAST_NUMBER, LAST_ROOM}
+use Rattle.keycard_rules.specs.declared.code.TheConstants.{CODES}
+use Rattle.keycard_rules.specs.declared.draw.TheConstants.{MOST_WORDS}
+use Rattle.keycard_rules.specs.declared.note.TheConstants.{LAST_DAY, LAST_SECOND}
+use Rattle.keycard_rules.specs.declared.numbers.TheConstants.{LAST_FIT, LAST_NUMBER, LAST_ROOM}
 use Rattle.hotel_nights.specs.declared.guest.TheConstants.{GUEST_BYTES}
 use Rattle.hotel_nights.specs.declared.kind.TheConstants.{KIND_BYTES}
+use Rattle.hotel_nights.specs.declared.nights.TheConstants.{MOST_NIGHTS}
 use Rattle.hotel_nights.specs.declared.stay.Stay.{Stay}
 use Rattle.hotel_model.specs.declared.rows.CodeRow.{CodeRow}
+use Rattle.hotel_model.specs.declared.command.Command.{Command}
 use Rattle.hotel_model.specs.declared.command.Command.TheVariants as command
 use Rattle.hotel_model.specs.declared.reply.Reply.{Reply}
-use Rattle.hotel_model.specs.declared.reply.Reply.TheVariants.{Refused}
+use Rattle.hotel_model.specs.declared.reply.Reply.TheVariants.{Refused, Seen}
 use Rattle.hotel_model.specs.declared.reply.Refusal.TheVariants.{PastArrival, PastEnd, KindFull}
 use Rattle.hotel_model.specs.Rows.{at_number}
 use Rattle.hotel_model.specs.Event.{Event}
@@ -19,9 +26,25 @@ use Rattle.hotel_model.specs.Guests.{insiders, registered}
 use Rattle.hotel_model.specs.Stays.{stays}
 use Rattle.hotel_model.specs.Cases.{is_kind}
 use Rattle.hotel_model.specs.Answer.{answer_to}
-use Rattle.hotel_model.specs.Run.{Reached}
+use Rattle.hotel_model.specs.Run.{Reached, Steps}
 use Rattle.hotel_model.specs.Cards.{cards}
 use Rattle.hotel_model.specs.Lists.{cards_inside, free}
+
+-- the reply tells of no change: the command was refused or failed, or the note was seen before
+abbrev pub tells_no_change : Reply → Bool
+tells_no_change (Refused why) = true
+tells_no_change Seen = true
+tells_no_change _ = false
+
+-- What is answered has no event exactly where the reply tells of no change.
+abbrev pub RefusalsHaveNoEvent : Type 0
+RefusalsHaveNoEvent = (h : History) (ahead : List ℕ) (command : Command)
+    → is_none (answer_to h ahead command).happens ≡ tells_no_change (answer_to h ahead command).reply
+
+-- A step whose reply tells of no change leaves the history as it was, and with it the rows.
+abbrev pub RefusalsKeep : Type 0
+RefusalsKeep = (h h' : History) (s s' : Stream) (command : Command) (reply : Reply)
+    → Steps h s command reply h' s' → tells_no_change reply ≡ true → h' ≡ h
 
 -- After an accepted reissue each room has the party that it had, and the stays are the same.
 abbrev pub ReissuesKeep : Type 0
@@ -69,6 +92,12 @@ CardsAreShown = (h : History) → Reached h → (number : ℕ) (card : Card) →
 -- Each limit is its number.
 pub record LimitsAre : Type 0 where
   pub room : LAST_ROOM ≡ 9999
+  pub fit : LAST_FIT ≡ 99
   pub number : LAST_NUMBER ≡ 9999999
+  pub code : CODES ≡ 281474976710656
+  pub words : MOST_WORDS ≡ 64
+  pub day : LAST_DAY ≡ 36524
+  pub second : LAST_SECOND ≡ 86399
+  pub nights : MOST_NIGHTS ≡ 90
   pub kind : KIND_BYTES ≡ 8
   pub guest : GUEST_BYTES ≡ 60

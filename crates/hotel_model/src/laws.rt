@@ -1,6 +1,7 @@
 //! Laws of the model, which make no call: what a caller may rest on beside the contracts of the calls.
 ghost use Rattle.hotel_model.specs.{Headline.Assured, History.History};
 ghost use Rattle.hotel_model.specs.FurtherLaws.{BookingsTakeOne, CodesAreListed, FreeIsKept, LimitsAre, ReissuesKeep};
+ghost use Rattle.hotel_model.specs.FurtherLaws.{RefusalsHaveNoEvent, RefusalsKeep};
 ghost use Rattle.hotel_model.specs.{Laws.RunsAgree, Laws.RunsCompute, Laws.RunsJoin, Laws.RunsReach, Laws.StartsStand};
 ghost use Rattle.hotel_model.specs.{FurtherLaws.CardsAreShown, FurtherLaws.InsidersAreListed, Run.Reached};
 ghost use Rattle.hotel_model.specs.{Sound.RulesAreTested, Refinement.Lift.AnswersLift, Refinement.Lift.ChangesFit};
@@ -46,6 +47,12 @@ pub fn starts_stand()
     ensures { StartsStand }
 {}
 
+/// A refused command and a note that was seen before have no event, and leave the history; any other answer has one.
+pub fn refusals_keep()
+    ensures event { RefusalsHaveNoEvent }
+    ensures history { RefusalsKeep }
+{}
+
 /// An accepted reissue leaves who is registered, and the stays.
 pub fn reissues_keep()
     ensures { ReissuesKeep }
@@ -74,7 +81,7 @@ pub fn cards_are_shown()
     ensures { CardsAreShown }
 {}
 
-/// Rooms, numbers, kinds and guests have the limits that they should have.
+/// Rooms, locks, numbers, codes, draws, days, seconds, nights, kinds and guests have the limits that they should have.
 pub fn limits_are()
     ensures { LimitsAre }
 {}

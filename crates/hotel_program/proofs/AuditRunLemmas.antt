@@ -1,6 +1,6 @@
 -- How an import ended.
 use Rattle.std.proofs.Common.{◌≡◌}
-use Rattle.hotel_audit.specs.declared.audit_file.AuditFault.TheVariants as file
+use Rattle.hotel_lock.specs.declared.audit_file.AuditFault.TheVariants as file
 use Rattle.hotel_audit.specs.declared.imports.ImportFault.{ImportFault}
 use Rattle.hotel_audit.specs.declared.imports.ImportFault.TheVariants.{File, Memory, Store}
 use Rattle.hotel_program.specs.Alone.AuditRuns.{import_fault}

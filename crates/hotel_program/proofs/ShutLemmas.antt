@@ -6,13 +6,14 @@ use Rattle.std.specs.Io.KnownBytes.{Appends}
 use Rattle.std.proofs.KnownBytes.{Appends-trans, Appends-nil}
 use Rattle.rand_core.specs.Stream.{Stream}
 use Rattle.keycard_rules.specs.{declared.kept.Kept.Ghosts as KeptOf, Since.Since}
+use Rattle.hotel_core.specs.declared.books.Books.{Ghosts as BooksOf}
 use Rattle.keycard_rules.specs.Calls.{BeganShut, Passes, last_answers}
 use Rattle.keycard_rules.proofs.{CallsTogether.shut_fail, CallsTogether.together, Sinces.since_refl, Sinces.since_then}
 use Rattle.hotel_core.proofs.Names.{false≢true, failure_in}
 use Rattle.hotel_core.proofs.OfCode.Counting.{untold}
 use Rattle.hotel_asks.specs.declared.asked.Ask.{Ask}
 use Rattle.hotel_asks.specs.declared.asked.Ask.TheVariants as ask
-use Rattle.hotel_model.specs.{declared.reply.Reply.Reply, History.History, History.start, Rows.Rows, Rows.no_rows}
+use Rattle.hotel_model.specs.{declared.reply.Reply.Reply, History.History, History.start, Rows.no_rows}
 use Rattle.hotel_model.specs.declared.reply.Reply.TheVariants as reply
 use Rattle.hotel_model.specs.declared.reply.Refusal.TheVariants as refusal
 use Rattle.hotel_model.proofs.SoundRows.NoRows.{none_sound}
@@ -23,8 +24,8 @@ use Rattle.hotel_asks.specs.Listings.{listing_over}
 use Rattle.hotel_audit.specs.declared.answer.LineAnswer.{LineAnswer}
 use Rattle.hotel_audit.specs.declared.imports.ImportFault.{ImportFault}
 use Rattle.hotel_audit.specs.declared.imports.ImportFault.TheVariants as import
-use Rattle.hotel_audit.specs.{AuditFile.audit_lines, declared.line.Line.Line}
-use Rattle.hotel_audit.specs.declared.line.Line.TheVariants as line
+use Rattle.hotel_lock.specs.{AuditFile.audit_lines, declared.line.Line.Line}
+use Rattle.hotel_lock.specs.declared.line.Line.TheVariants as line
 use Rattle.hotel_audit.specs.Import.{AreAnswered, EndsAfter, commands_of, failures_of, has_taken, told_by_import}
 use Rattle.hotel_http.specs.declared.tasks.Task.{Task}
 use Rattle.hotel_http.specs.declared.tasks.Task.TheVariants as task
@@ -57,14 +58,14 @@ ask_fails sure (Some (ask.Command command)) h h' s s' text told goes list shut s
 ask_fails sure (Some (ask.List its_list)) h h' s s' text told goes list shut some =
     told_so (tells_failure text) (λ k. shut (last_of told (list k, none_told goes.0 text told goes.1 k)))
 
-module _ {S R W : Type 0} (K : KeptOf S) (rows : S → Rows) (stream : R → Stream) (contents : W → Option (List ℕ)) where
-  since_lines : (old new : S × R × W) (lines : List (List ℕ)) → LinesAnswered K rows stream contents old lines new
+module _ {S R W : Type 0} (K : KeptOf S) (own : BooksOf S) (stream : R → Stream) (contents : W → Option (List ℕ)) where
+  since_lines : (old new : S × R × W) (lines : List (List ℕ)) → LinesAnswered K own stream contents old lines new
       → Since K old.0 new.0
   since_lines old new [] p = subst (λ (x : S × R × W). Since K old.0 x.0) (sym p) since_refl
   since_lines old new (line ∷ later) p =
       since_then (together K old.0 p.0.0 p.1.told p.1.calls).since (since_lines p.0 new later p.2)
 
-  pub scripts_nothing : ScriptsNothing K rows stream contents
+  pub scripts_nothing : ScriptsNothing K own stream contents
   scripts_nothing old new [] p shut = (
     [],
     tt,
@@ -147,15 +148,15 @@ took_nothing (Some (Err Closed)) h h' s s' told came k = tt
 took_nothing (Some (Err Read)) h h' s s' told came k = tt
 took_nothing (Some (Err Memory)) h h' s s' told came k = tt
 
-module _ {S R : Type 0} (K : KeptOf S) (rows : S → Rows) (stream : R → Stream) where
-  since_ends : (old new : S × R) (ends : List ConnectionEnd) → Passes (ConnectionHappens K rows stream) old ends new
+module _ {S R : Type 0} (K : KeptOf S) (own : BooksOf S) (stream : R → Stream) where
+  since_ends : (old new : S × R) (ends : List ConnectionEnd) → Passes (ConnectionHappens K own stream) old ends new
       → Since K old.0 new.0
   since_ends old new [] p = subst (λ (x : S × R). Since K old.0 x.0) (sym p) since_refl
   since_ends old new (end ∷ ends) p =
       since_then (together K old.0 p.0.0 p.1.told p.1.calls).since (since_ends p.0 new ends p.2)
 
   comes_to_nothing : (old new : S × R) (end : ConnectionEnd)
-      → ConnectionHappens K rows stream old end new → BeganShut K old.0 new.0 → ComesToNothing end
+      → ConnectionHappens K own stream old end new → BeganShut K old.0 new.0 → ComesToNothing end
   comes_to_nothing old new end it shut =
       let went = it.happened shut.0 (start no_rows) none_sound (λ clean. absurd (shut.1 clean)) in
       let fail = shut_fail K old.0 new.0 it.told it.calls shut in (
@@ -169,7 +170,7 @@ module _ {S R : Type 0} (K : KeptOf S) (rows : S → Rows) (stream : R → Strea
         took_nothing end (start no_rows) went.0 (stream old.1) (stream new.1) it.told went.3 fail,
       )
 
-  pub serves_nothing : ServesNothing K rows stream
+  pub serves_nothing : ServesNothing K own stream
   serves_nothing old new [] p shut = tt
   serves_nothing old new (end ∷ ends) p shut = (
     comes_to_nothing old p.0 end p.1 ((since_ends p.0 new ends p.2).was_honest shut.0, shut.1),

@@ -4,8 +4,9 @@ use Rattle.std.proofs.Common.{arith}
 use Rattle.rand_core.specs.Stream.{Stream}
 use Rattle.rand_chacha.specs.ChaCha.{ChaCha, of_seed}
 use Rattle.keycard_rules.specs.declared.kept.Kept.{Ghosts as KeptOf}
+use Rattle.hotel_core.specs.declared.books.Books.{Ghosts as BooksOf}
 use Rattle.hotel_core.specs.Memory.{Listed}
-use Rattle.hotel_model.specs.Rows.{Rows, no_rows}
+use Rattle.hotel_model.specs.Rows.{no_rows}
 use Rattle.hotel_model.specs.declared.reply.Refusal.{Refusal}
 use Rattle.hotel_model.specs.declared.reply.Refusal.TheVariants as refusal
 use Rattle.hotel_model.specs.declared.reply.Reply.{Reply}
@@ -24,7 +25,7 @@ use Rattle.hotel_program.specs.Alone.CommandRuns.{command_end}
 use Rattle.hotel_program.specs.Alone.ListRuns.{list_end}
 use Rattle.hotel_program.specs.Connections.{Sockets}
 use Rattle.hotel_program.specs.Faults.{end_status, fault_status}
-use Rattle.hotel_program.specs.Plan.{AfterFile, AfterOpen, AfterSeed, OverBooks, PlanEnds, amid}
+use Rattle.hotel_program.specs.Plan.{AfterFile, AfterOpen, AfterSeed, OverBooks, PlanEnds, amid, of_memory}
 use Rattle.hotel_program.specs.Program.{drawn, script_end}
 use Rattle.hotel_program.specs.Statuses.{exit_of_reply, refusal_status}
 use Rattle.hotel_program.specs.declared.command_line.plan.DeskAct.{DeskAct}
@@ -79,25 +80,25 @@ of_script (Ok end) e = omega (arith, e)
 of_script (Err script.Read) e = omega (arith, e)
 of_script (Err _) e = omega (arith, e)
 
-module _ {S R W F E : Type 0} (K : KeptOf S) (rows : S → Rows) (words : R → Stream) (contents : W → Option (List ℕ))
+module _ {S R W F E : Type 0} (K : KeptOf S) (own : BooksOf S) (words : R → Stream) (contents : W → Option (List ℕ))
     (told : F → Fault → F → Type 0) (port : Sockets) (bound : E → ℕ → Result port.Listener Fault → E → Type 0) where
   of_listener : (number count : ℕ) (listener : port.Listener) (failed : Bool) (status : ℕ) (old : S × R) (out : W × F)
       (new : S × R) (out' : W × F)
-      → ListensTo K rows words contents told port bound number count listener failed status old out new out'
+      → ListensTo K own words contents told port bound number count listener failed status old out new out'
       → status ≡ 2 → ⊥
   of_listener number count listener false status old out new out' ends e = let is = ends.0 in omega (arith, is, e)
   of_listener number count listener true status old out new out' ends e = of_fault fault.Write (sym ends.0.0 ∙ e)
 
   of_port : (number count : ℕ) (got : Result port.Listener Fault) (status : ℕ) (old : S × R) (out : W × F)
       (new : S × R) (out' : W × F)
-      → PortEnds K rows words contents told port bound number count got status old out new out' → status ≡ 2 → ⊥
+      → PortEnds K own words contents told port bound number count got status old out new out' → status ≡ 2 → ⊥
   of_port number count (Ok listener) status old out new out' ends e =
       of_listener number count listener ends.0 status old out new out' ends.1 e
   of_port number count (Err why) status old out new out' ends e = of_fault why (sym ends.0.0 ∙ e)
 
   of_act : {I : Type 0} (remaining : I → Option (List ℕ)) (bytes : List ℕ) (act : DeskAct) (status : ℕ) (old : S × R)
       (out : Outer I W F E) (new : S × R) (out' : Outer I W F E)
-      → ActEnds K rows words contents told port bound remaining bytes act status old out new out' → status ≡ 2 → ⊥
+      → ActEnds K own words contents told port bound remaining bytes act status old out new out' → status ≡ 2 → ⊥
   of_act remaining bytes (One command) status old out new out' ends e = of_command ends.0 ends.1 (sym ends.2.0 ∙ e)
   of_act remaining bytes (AList its_list) status old out new out' ends e = of_list ends.0 (sym ends.1.0 ∙ e)
   of_act remaining bytes (Audit name) status old out new out' ends e = of_audit ends.0 ends.1 (sym ends.2.0 ∙ e)
@@ -108,40 +109,40 @@ module _ {S R W F E : Type 0} (K : KeptOf S) (rows : S → Rows) (words : R → 
 module _ {D I W F E : Type 0} (remaining : I → Option (List ℕ)) (contents : W → Option (List ℕ)) (sink : FaultSinkOf F)
     (port : Sockets) (surroundings : SurroundingsOf E port.Listener port.Stream port.Caller)
     (databases : DatabasesOf E D port.Listener port.Stream port.Caller) (in_memory : KeptOf Listed)
-    (of_database : KeptOf D) (rows : D → Rows) where
+    (of_database : KeptOf D) (own : BooksOf D) where
   of_opened : (act : DeskAct) (bytes : List ℕ) (source : ChaCha) (got : Result D FileFault) (status : ℕ)
       (old new : Outer I W F E)
-      → AfterOpen remaining contents sink port surroundings databases in_memory of_database rows act bytes source got
+      → AfterOpen remaining contents sink port surroundings databases in_memory of_database own act bytes source got
       status old new → status ≡ 2 → ⊥
   of_opened act bytes source (Ok books) status old new ends e =
-      of_act of_database rows drawn contents sink.told port surroundings.port_bound remaining bytes act status
+      of_act of_database own drawn contents sink.told port surroundings.port_bound remaining bytes act status
       (books, source) old (ends.0, ends.1) (amid ends.2 new) ends.3 e
   of_opened act bytes source (Err why) status old new ends e = of_fault (fault.Books why) (sym ends.0 ∙ e)
 
   of_books : (act : DeskAct) (bytes : List ℕ) (source : ChaCha) (db : Option (List ℕ)) (status : ℕ)
       (old new : Outer I W F E)
-      → OverBooks remaining contents sink port surroundings databases in_memory of_database rows act bytes source db
+      → OverBooks remaining contents sink port surroundings databases in_memory of_database own act bytes source db
       status old new → status ≡ 2 → ⊥
   of_books act bytes source None status old new ends e =
-      of_act in_memory (λ books. books.rows) drawn contents sink.told port surroundings.port_bound remaining bytes act
+      of_act in_memory of_memory drawn contents sink.told port surroundings.port_bound remaining bytes act
       status (record { rows = no_rows; failures = 0 }, source) old (ends.0, ends.1) new ends.2 e
   of_books act bytes source (Some name) status old new ends e =
       of_opened act bytes source ends.0 status (amid ends.1 old) new ends.3 e
 
   of_file : (plan : Plan) (source : ChaCha) (file : Result (List ℕ) Fault) (status : ℕ) (old new : Outer I W F E)
-      → AfterFile remaining contents sink port surroundings databases in_memory of_database rows plan source file
+      → AfterFile remaining contents sink port surroundings databases in_memory of_database own plan source file
       status old new → status ≡ 2 → ⊥
   of_file plan source (Ok bytes) status old new ends e = of_books plan.act bytes source plan.db status old new ends e
   of_file plan source (Err why) status old new ends e = of_fault why (sym ends.0 ∙ e)
 
   of_seeded : (plan : Plan) (seed : Result (List ℕ) Fault) (status : ℕ) (old new : Outer I W F E)
-      → AfterSeed remaining contents sink port surroundings databases in_memory of_database rows plan seed
+      → AfterSeed remaining contents sink port surroundings databases in_memory of_database own plan seed
       status old new → status ≡ 2 → ⊥
   of_seeded plan (Ok seed) status old new ends e =
       of_file plan (of_seed seed) ends.0 status (amid ends.1 old) new ends.3 e
   of_seeded plan (Err why) status old new ends e = of_fault why (sym ends.0 ∙ e)
 
   pub of_plan : (plan : Plan) (status : ℕ) (old new : Outer I W F E)
-      → PlanEnds remaining contents sink port surroundings databases in_memory of_database rows plan status old new
+      → PlanEnds remaining contents sink port surroundings databases in_memory of_database own plan status old new
       → status ≡ 2 → ⊥
   of_plan plan status old new ends e = of_seeded plan ends.0 status (amid ends.1 old) new ends.3 e

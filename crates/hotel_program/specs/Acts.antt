@@ -4,8 +4,8 @@ use Rattle.std.specs.Fmt.{decimal}
 use Rattle.std.specs.Io.KnownBytes.{Appends}
 use Rattle.rand_core.specs.Stream.{Stream}
 use Rattle.keycard_rules.specs.declared.kept.Kept.{Ghosts as KeptOf}
+use Rattle.hotel_core.specs.declared.books.Books.{Ghosts as BooksOf}
 use Rattle.hotel_core.specs.Books.Stepped.{Stepped}
-use Rattle.hotel_model.specs.Rows.{Rows}
 use Rattle.hotel_model.specs.declared.command.Command.{Command}
 use Rattle.hotel_model.specs.declared.reply.Reply.{Reply}
 use Rattle.hotel_streams.specs.Bytes.{AppendsPrefix}
@@ -14,7 +14,8 @@ use Rattle.hotel_lists.specs.declared.fault.ListFault.{ListFault}
 use Rattle.hotel_asks.specs.declared.asked.ListAsk.{ListAsk}
 use Rattle.hotel_audit.specs.declared.answer.LineAnswer.{LineAnswer}
 use Rattle.hotel_audit.specs.declared.imports.ImportFault.{ImportFault}
-use Rattle.hotel_audit.specs.{AuditFile.audit_lines, Import.Imports}
+use Rattle.hotel_lock.specs.AuditFile.{audit_lines}
+use Rattle.hotel_audit.specs.Import.{Imports}
 use Rattle.hotel_program.specs.Alone.AuditRuns.{audit_end, WritesAnswers}
 use Rattle.hotel_program.specs.Alone.CommandRuns.{command_end, WritesReply}
 use Rattle.hotel_program.specs.Faults.{end_status, Reports}
@@ -45,14 +46,14 @@ abbrev pub EndsBy : {F : Type 0} → (F → Fault → F → Type 0) → Result �
 EndsBy told end status old new = (status ≡ end_status end) × Reports told old end new
 
 -- What acts come to over books and a source, by what contracts see of these and of what is outside.
-module _ {S R W F E : Type 0} (K : KeptOf S) (rows : S → Rows) (words : R → Stream) (contents : W → Option (List ℕ))
+module _ {S R W F E : Type 0} (K : KeptOf S) (own : BooksOf S) (words : R → Stream) (contents : W → Option (List ℕ))
     (told : F → Fault → F → Type 0) (port : Sockets) (bound : E → ℕ → Result port.Listener Fault → E → Type 0) where
   -- The line was written and so many connections were served, each to its end, with the faults of these ends reported;
   -- or a write of it failed, and none was.
   abbrev pub ListensTo : ℕ → ℕ → port.Listener → Bool → ℕ → S × R → W × F → S × R → W × F → Type 0
   ListensTo number count listener false status old out new out' = (status ≡ 0)
       × Appends (contents out.0) (contents out'.0) (listening_text number)
-      × ServesEach port K rows words told count listener old out.1 new out'.1
+      × ServesEach port K own words told count listener old out.1 new out'.1
   ListensTo number count listener true status old out new out' = EndsBy told (Err fault.Write) status out.1 out'.1
       × AppendsPrefix (contents out.0) (contents out'.0) (listening_text number)
       × (new.0 ≡ old.0) × (new.1 ≡ old.1)
@@ -75,14 +76,14 @@ module _ {S R W F E : Type 0} (K : KeptOf S) (rows : S → Rows) (words : R → 
     OneEnds command status old out new out' = (reply : Reply) × (write_failed : Bool)
         × EndsBy told (command_end reply write_failed) status out.faults out'.faults
         × WritesReply (contents out.writer) (contents out'.writer) reply write_failed
-        × Stepped K rows (old.0, words old.1) (command, reply) (new.0, words new.1)
+        × Stepped K own (old.0, words old.1) (command, reply) (new.0, words new.1)
         × (out'.reader ≡ out.reader) × (out'.around ≡ out.around)
 
     -- A list: its text over the history.
     abbrev pub AListEnds : ListAsk → ℕ → S × R → Outer I W F E → S × R → Outer I W F E → Type 0
     AListEnds its_list status old out new out' = (end : Result (Unit {0}) ListFault)
         × EndsBy told (list_end end) status out.faults out'.faults
-        × (K.is_honest new.0 → AnswerEndsFor (rows old.0) its_list (contents out.writer) (contents out'.writer) end)
+        × (K.is_honest new.0 → AnswerEndsFor (own.rows old.0) its_list (contents out.writer) (contents out'.writer) end)
         × LooksAt K old.0 new.0 end
         × (new.1 ≡ old.1) × (out'.reader ≡ out.reader) × (out'.around ≡ out.around)
 
@@ -91,14 +92,14 @@ module _ {S R W F E : Type 0} (K : KeptOf S) (rows : S → Rows) (words : R → 
     AuditEnds bytes status old out new out' = (outcome : Result (List LineAnswer) ImportFault) × (write_failed : Bool)
         × EndsBy told (audit_end outcome write_failed) status out.faults out'.faults
         × WritesAnswers contents out.writer out'.writer outcome write_failed
-        × Imports K rows (audit_lines bytes) old.0 new.0 outcome
+        × Imports K own (audit_lines bytes) old.0 new.0 outcome
         × (new.1 ≡ old.1) × (out'.reader ≡ out.reader) × (out'.around ≡ out.around)
 
     -- A script, which alone reads what the reader has: its lines one after the other, each answered before the next.
     abbrev pub ScriptEnds : ℕ → S × R → Outer I W F E → S × R → Outer I W F E → Type 0
     ScriptEnds status old out new out' = (end : Result ScriptEnd ScriptFault)
         × EndsBy told (script_end end) status out.faults out'.faults
-        × ScriptRan K rows words contents (remaining out.reader) (old.0, old.1, out.writer) end
+        × ScriptRan K own words contents (remaining out.reader) (old.0, old.1, out.writer) end
         (new.0, new.1, out'.writer) × (out'.around ≡ out.around)
 
     -- An act, with the bytes of its audit file.

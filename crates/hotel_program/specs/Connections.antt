@@ -4,8 +4,8 @@ use Rattle.std.specs.Prelude.{Ok, Err, IfOk, IfSome}
 use Rattle.std.specs.declared.io.Error.{Error}
 use Rattle.rand_core.specs.Stream.{Stream}
 use Rattle.keycard_rules.specs.{declared.kept.Kept.Ghosts as KeptOf, Calls.LeaveAll, Calls.Passes}
+use Rattle.hotel_core.specs.declared.books.Books.{Ghosts as BooksOf}
 use Rattle.hotel_model.specs.History.{History}
-use Rattle.hotel_model.specs.Rows.{Rows}
 use Rattle.hotel_http.specs.declared.origins.Origins.TheVariants.{Local}
 use Rattle.hotel_http.specs.declared.serve.Served.{Served}
 use Rattle.hotel_http.specs.declared.serve.ServeFault.{ServeFault}
@@ -47,10 +47,10 @@ ConnectionCame (Some (Err (serve.Write acted))) =
 ConnectionCame _ = NothingCame
 
 -- A connection was served to this end, by books and a source of words.
-abbrev pub ConnectionHappens : {S R : Type 0} → KeptOf S → (S → Rows) → (R → Stream) → S × R → ConnectionEnd → S × R
+abbrev pub ConnectionHappens : {S R : Type 0} → KeptOf S → BooksOf S → (R → Stream) → S × R → ConnectionEnd → S × R
     → Type 0
-ConnectionHappens K rows stream old end new =
-    HappensBy K rows old.0 (λ told h h'. ConnectionCame end h (stream old.1) told h' (stream new.1)) new.0
+ConnectionHappens K own stream old end new =
+    HappensBy K own old.0 (λ told h h'. ConnectionCame end h (stream old.1) told h' (stream new.1)) new.0
 
 -- What came of connections that ended so, one after the other.
 abbrev pub AllCame : List ConnectionEnd → History → Stream → Told → History → Stream → Type 0
@@ -59,14 +59,14 @@ AllCame (end ∷ ends) h s told h' s' = (mid : History) × (t : Stream) × (firs
     × ConnectionCame end h s first mid t × AllCame ends mid t more h' s' × (told ≡ first ++ more)
 
 -- Connections that were served one after the other: all of that came, and the books are left as their calls leave them.
-pub record ServesAll {S R : Type 0} (K : KeptOf S) (rows : S → Rows) (stream : R → Stream) (old : S × R)
+pub record ServesAll {S R : Type 0} (K : KeptOf S) (own : BooksOf S) (stream : R → Stream) (old : S × R)
     (ends : List ConnectionEnd) (new : S × R) : Type 0 where
-  pub went : HappensBy K rows old.0 (λ told h h'. AllCame ends h (stream old.1) told h' (stream new.1)) new.0
+  pub went : HappensBy K own old.0 (λ told h h'. AllCame ends h (stream old.1) told h' (stream new.1)) new.0
   pub leaves : LeaveAll K old.0 went.told new.0
 
-abbrev pub ServersFollow : {S R : Type 0} → KeptOf S → (S → Rows) → (R → Stream) → Type 0
-ServersFollow {S = S} {R = R} K rows stream = (old new : S × R) (ends : List ConnectionEnd)
-    → Passes (ConnectionHappens K rows stream) old ends new → ServesAll K rows stream old ends new
+abbrev pub ServersFollow : {S R : Type 0} → KeptOf S → BooksOf S → (R → Stream) → Type 0
+ServersFollow {S = S} {R = R} K own stream = (old new : S × R) (ends : List ConnectionEnd)
+    → Passes (ConnectionHappens K own stream) old ends new → ServesAll K own stream old ends new
 
 -- What contracts see of a listener: the types of its connections and callers, and what is asked of it and of these.
 pub record Sockets : Type 1 where
@@ -96,14 +96,14 @@ ThrowsAway calls stream false old new = new ≡ old.caller
 -- The request of a connection was served, by a caller that read it and one that wrote to it: the bytes of the request
 -- are those that the connection had, and those of the answer it was given; each read and write was made in the time
 -- that was left for it, and no more was read than is wanted.
-pub record ServesInTime {S L B R : Type 0} (calls : CallerOf L S) (K : KeptOf B) (rows : B → Rows) (words : R → Stream)
+pub record ServesInTime {S L B R : Type 0} (calls : CallerOf L S) (K : KeptOf B) (own : BooksOf B) (words : R → Stream)
     (stream : S) (reads writes : L) (old : B × R) (end : Result Exchange ServeFault) (reads' writes' : L)
     (new : B × R) : Type 0 where
   pub read : Reads L
   pub left : ℕ
   pub reads_in_time : ∥ ((readings : List Reading) × AreRead calls stream reads readings read) ∥₁
   pub writes_in_time : ∥ ((writings : List Writing) × AreWritten calls stream writes writings (writes', left)) ∥₁
-  pub serves : ServesOver Local K rows words (calls.remaining stream reads) (calls.remaining stream read.caller)
+  pub serves : ServesOver Local K own words (calls.remaining stream reads) (calls.remaining stream read.caller)
       (calls.contents stream writes) (calls.contents stream writes') old new (served_in end)
   pub wanted : ReadsWhile (WantsMore Local) (calls.remaining stream reads) (calls.remaining stream read.caller)
   pub follows : IfOk end (λ done. IfSome (calls.remaining stream reads) (λ input. MayFollow Local input done.follows))
@@ -119,37 +119,37 @@ Limits calls stream old both new = (first : Result (Unit {0}) Error)
 
 -- How a connection ended that was taken, by whether its limits were set: its request was served; or it wasn't, and
 -- nothing was asked of it or of the books.
-abbrev pub LimitedEnds : {S L B R : Type 0} → CallerOf L S → KeptOf B → (B → Rows) → (R → Stream) → S → Bool → L × L
+abbrev pub LimitedEnds : {S L B R : Type 0} → CallerOf L S → KeptOf B → BooksOf B → (R → Stream) → S → Bool → L × L
     → B × R → ConnectionEnd → L × L → B × R → Type 0
-LimitedEnds calls K rows words stream true callers old end callers' new = (exchange : Result Exchange ServeFault)
+LimitedEnds calls K own words stream true callers old end callers' new = (exchange : Result Exchange ServeFault)
     × (end ≡ Some (served_in exchange))
-    × ServesInTime calls K rows words stream callers.0 callers.1 old exchange callers'.0 callers'.1 new
-LimitedEnds calls K rows words stream false callers old end callers' new =
+    × ServesInTime calls K own words stream callers.0 callers.1 old exchange callers'.0 callers'.1 new
+LimitedEnds calls K own words stream false callers old end callers' new =
     (end ≡ None) × (callers'.0 ≡ callers.0) × (callers'.1 ≡ callers.1) × (new.0 ≡ old.0) × (new.1 ≡ old.1)
 
 -- A connection that was taken ended so: two callers were made, its limits were asked for, and at last it was closed.
-abbrev pub TakenEnds : {B R : Type 0} → (v : Sockets) → KeptOf B → (B → Rows) → (R → Stream) → v.Stream
+abbrev pub TakenEnds : {B R : Type 0} → (v : Sockets) → KeptOf B → BooksOf B → (R → Stream) → v.Stream
     → v.Listener → B × R → ConnectionEnd → v.Listener → B × R → Type 0
-TakenEnds v K rows words stream listener old end listener' new =
+TakenEnds v K own words stream listener old end listener' new =
     (reads writes : v.Caller) × (mid ready : v.Listener) × v.listens.caller_made listener reads mid
     × v.listens.caller_made mid writes ready
     × (both : Bool) × (callers callers' : v.Caller × v.Caller) × Limits v.calls stream (reads, writes) both callers
-    × LimitedEnds v.calls K rows words stream both callers old end callers' new
+    × LimitedEnds v.calls K own words stream both callers old end callers' new
     × v.listens.closed ready stream callers'.0 callers'.1 listener'
 
 -- What comes of a connection that was asked for: where it couldn't be taken, `PAUSE` was waited for, and nothing was
 -- served.
-abbrev pub AskedEnds : {B R : Type 0} → (v : Sockets) → KeptOf B → (B → Rows) → (R → Stream)
+abbrev pub AskedEnds : {B R : Type 0} → (v : Sockets) → KeptOf B → BooksOf B → (R → Stream)
     → Result v.Stream Error → v.Listener → B × R → ConnectionEnd → v.Listener → B × R → Type 0
-AskedEnds v K rows words (Ok stream) mid old end listener new = TakenEnds v K rows words stream mid old end listener new
-AskedEnds v K rows words (Err why) mid old end listener new =
+AskedEnds v K own words (Ok stream) mid old end listener new = TakenEnds v K own words stream mid old end listener new
+AskedEnds v K own words (Err why) mid old end listener new =
     v.listens.waited mid PAUSE listener × (end ≡ None) × (new.0 ≡ old.0) × (new.1 ≡ old.1)
 
 -- A connection was asked for, and ended so, over books and a source.
-abbrev pub Connects : {B R : Type 0} → (v : Sockets) → KeptOf B → (B → Rows) → (R → Stream)
+abbrev pub Connects : {B R : Type 0} → (v : Sockets) → KeptOf B → BooksOf B → (R → Stream)
     → v.Listener × (B × R) → ConnectionEnd → v.Listener × (B × R) → Type 0
-Connects v K rows words old end new = (got : Result v.Stream Error) × (mid : v.Listener)
-    × v.listens.taken old.0 got mid × AskedEnds v K rows words got mid old.1 end new.0 new.1
+Connects v K own words old end new = (got : Result v.Stream Error) × (mid : v.Listener)
+    × v.listens.taken old.0 got mid × AskedEnds v K own words got mid old.1 end new.0 new.1
 
 -- The fault of a request that wasn't served.
 abbrev pub connection_fault : ServeFault → Fault
@@ -170,18 +170,18 @@ faults_at (Ok done) = []
 faults_at (Err fault) = fault ∷ []
 
 -- A connection was asked for, and ended so; and its fault was reported, if there was one.
-abbrev pub ConnectsAndTells : {B R F : Type 0} → (v : Sockets) → KeptOf B → (B → Rows) → (R → Stream)
+abbrev pub ConnectsAndTells : {B R F : Type 0} → (v : Sockets) → KeptOf B → BooksOf B → (R → Stream)
     → (F → Fault → F → Type 0) → (v.Listener × (B × R)) × F → ConnectionEnd → (v.Listener × (B × R)) × F → Type 0
-ConnectsAndTells v K rows words tells old end new =
-    Connects v K rows words old.0 end new.0 × ReportsAll tells old.1 (faults_at (connection_end end)) new.1
+ConnectsAndTells v K own words tells old end new =
+    Connects v K own words old.0 end new.0 × ReportsAll tells old.1 (faults_at (connection_end end)) new.1
 
 -- So many connections were asked for, and their faults were reported, each in its order. What came of their requests
 -- came over the books as over their histories.
-pub record ServesEach {B R F : Type 0} (v : Sockets) (K : KeptOf B) (rows : B → Rows) (words : R → Stream)
+pub record ServesEach {B R F : Type 0} (v : Sockets) (K : KeptOf B) (own : BooksOf B) (words : R → Stream)
     (tells : F → Fault → F → Type 0) (count : ℕ) (listener : v.Listener) (old : B × R) (faults : F) (new : B × R)
     (faults' : F) : Type 0 where
   pub ends : List ConnectionEnd
   pub last : v.Listener
   pub all : length ends ≡ count
-  pub connects : Passes (ConnectsAndTells v K rows words tells) ((listener, old), faults) ends ((last, new), faults')
-  pub happened : Passes (ConnectionHappens K rows words) old ends new
+  pub connects : Passes (ConnectsAndTells v K own words tells) ((listener, old), faults) ends ((last, new), faults')
+  pub happened : Passes (ConnectionHappens K own words) old ends new

@@ -1,48 +1,42 @@
 -- What is said of a fault, and the exit status that goes with it.
 use Rattle.std.specs.Prelude.{ℕ, ◌≡◌, List, [], ◌∷◌, ◌++◌, codes, Result, Ok, Err}
+use Rattle.std.specs.Fmt.{decimal}
 use Rattle.hotel_asks.specs.Names.{name_text}
 use Rattle.hotel_asks.specs.declared.values.ValueName.{ValueName}
-use Rattle.hotel_audit.specs.Answers.{stopped_text}
+use Rattle.keycard_rules.specs.declared.issued.LookFault.{LookFault}
+use Rattle.keycard_rules.specs.declared.issued.LookFault.TheVariants as look
 use Rattle.hotel_streams.specs.Calls.{Calls}
 use Rattle.hotel_rows.specs.declared.open_fault.FileFault.TheVariants as books
 use Rattle.hotel_rows.specs.declared.open_fault.OpenFault.TheVariants as desk
-use Rattle.hotel_rows.specs.declared.stored.TableName.{TableName}
-use Rattle.hotel_rows.specs.declared.stored.TableName.TheVariants as table
+use Rattle.hotel_rows.specs.OpenFault.{file_fault_text}
 use Rattle.hotel_program.specs.declared.faults.Fault.{Fault}
 use Rattle.hotel_program.specs.declared.faults.Fault.TheVariants.{Memory, Store, Read, Write, TooLarge, NoHeader}
 use Rattle.hotel_program.specs.declared.faults.Fault.TheVariants.{WrongHeader, Stopped, Books, Seed, File, Port, Closed}
 
--- The name of a table, and the end of the line.
-abbrev pub table_text : TableName → List ℕ
-table_text table.Meta = codes "meta\n"
-table_text table.Kind = codes "kind\n"
-table_text table.Room = codes "room\n"
-table_text table.Stay = codes "stay\n"
-table_text table.Code = codes "code\n"
-table_text table.Card = codes "card\n"
-table_text table.Inside = codes "inside\n"
-table_text table.Note = codes "note\n"
-table_text table.Fit = codes "fit\n"
+-- What stopped an import.
+abbrev pub cause_text : LookFault → List ℕ
+cause_text look.Memory = codes ": Memory"
+cause_text look.Store = codes ": Store"
+
+-- What a fault prints.
+abbrev pub fault_words : Fault → List ℕ
+fault_words Memory = codes "memory"
+fault_words Store = codes "store"
+fault_words Read = codes "read"
+fault_words Write = codes "write"
+fault_words TooLarge = codes "too large"
+fault_words NoHeader = codes "no header"
+fault_words WrongHeader = codes "wrong header"
+fault_words (Stopped answered by) = codes "stopped after " ++ decimal answered ++ cause_text by
+fault_words (Books why) = file_fault_text why
+fault_words Seed = codes "seed"
+fault_words File = codes "file"
+fault_words Port = codes "port"
+fault_words Closed = codes "closed"
 
 -- The line that is said of a fault.
 abbrev pub fault_text : Fault → List ℕ
-fault_text Memory = codes "memory\n"
-fault_text Store = codes "store\n"
-fault_text Read = codes "read\n"
-fault_text Write = codes "write\n"
-fault_text TooLarge = codes "too large\n"
-fault_text NoHeader = codes "no header\n"
-fault_text WrongHeader = codes "wrong header\n"
-fault_text (Stopped answered by) = stopped_text answered by
-fault_text (Books books.File) = codes "file\n"
-fault_text (Books (books.Desk desk.Memory)) = codes "memory\n"
-fault_text (Books (books.Desk desk.Store)) = codes "store\n"
-fault_text (Books (books.Desk desk.NotADesk)) = codes "not a desk\n"
-fault_text (Books (books.Desk (desk.Damaged its_table))) = codes "damaged " ++ table_text its_table
-fault_text Seed = codes "seed\n"
-fault_text File = codes "file\n"
-fault_text Port = codes "port\n"
-fault_text Closed = codes "closed\n"
+fault_text fault = fault_words fault ++ codes "\n"
 
 -- The exit status: 4 where memory or the store failed, else 5.
 abbrev pub fault_status : Fault → ℕ

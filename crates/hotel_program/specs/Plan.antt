@@ -5,8 +5,9 @@ use Rattle.std.specs.Io.KnownBytes.{Appends}
 use Rattle.clap.specs.Words.{Text, fault_of, first_of, matches_of, subcommand_of}
 use Rattle.rand_chacha.specs.ChaCha.{ChaCha, of_seed}
 use Rattle.keycard_rules.specs.declared.kept.Kept.{Ghosts as KeptOf}
+use Rattle.hotel_core.specs.declared.books.Books.{Ghosts as BooksOf}
 use Rattle.hotel_core.specs.Memory.{Listed}
-use Rattle.hotel_model.specs.Rows.{Rows, no_rows}
+use Rattle.hotel_model.specs.Rows.{no_rows}
 use Rattle.hotel_streams.specs.Bytes.{AppendsPrefix}
 use Rattle.hotel_rows.specs.declared.open_fault.FileFault.{FileFault}
 use Rattle.hotel_program.specs.Acts.{ActEnds, Outer}
@@ -86,11 +87,19 @@ FileIsRead file_read _ old file new = (file ≡ Ok []) × (new ≡ old)
 abbrev pub amid : {I W F E : Type 0} → E → Outer I W F E → Outer I W F E
 amid around out = record { reader = out.reader; writer = out.writer; faults = out.faults; around = around }
 
+-- what contracts see of books in memory: no stop leaves anything of them, and no change fails but for lack of memory
+abbrev pub of_memory : BooksOf Listed
+of_memory = record {
+  rows = λ books. books.rows;
+  leaves_change = λ change old new. Unit {0};
+  change_fails = λ change old new. ⊥;
+}
+
 -- What plans come to, by what contracts see of what is outside, and of books in memory and over a database.
 module _ {D I W F E : Type 0} (remaining : I → Option (List ℕ)) (contents : W → Option (List ℕ)) (sink : FaultSinkOf F)
     (port : Sockets) (surroundings : SurroundingsOf E port.Listener port.Stream port.Caller)
     (databases : DatabasesOf E D port.Listener port.Stream port.Caller) (in_memory : KeptOf Listed)
-    (of_database : KeptOf D) (rows : D → Rows) where
+    (of_database : KeptOf D) (own : BooksOf D) where
   -- It stopped by a fault, which was reported; nothing was read or written, and nothing more was asked of the
   -- surroundings.
   abbrev pub EndsEarly : Fault → ℕ → Outer I W F E → Outer I W F E → Type 0
@@ -100,7 +109,7 @@ module _ {D I W F E : Type 0} (remaining : I → Option (List ℕ)) (contents : 
   -- What comes of a database that was asked for: after the act its books were given back.
   abbrev pub AfterOpen : DeskAct → List ℕ → ChaCha → Result D FileFault → ℕ → Outer I W F E → Outer I W F E → Type 0
   AfterOpen act bytes source (Ok books) status old new = (books' : D) × (later : ChaCha) × (done : E)
-      × ActEnds of_database rows drawn contents sink.told port surroundings.port_bound remaining
+      × ActEnds of_database own drawn contents sink.told port surroundings.port_bound remaining
       bytes act status (books, source) old (books', later) (amid done new)
       × databases.books_closed done books' new.around
   AfterOpen act bytes source (Err why) status old new = EndsEarly (fault.Books why) status old new
@@ -108,7 +117,7 @@ module _ {D I W F E : Type 0} (remaining : I → Option (List ℕ)) (contents : 
   -- An act over new books in memory, or over those of the database that is named.
   abbrev pub OverBooks : DeskAct → List ℕ → ChaCha → Option (List ℕ) → ℕ → Outer I W F E → Outer I W F E → Type 0
   OverBooks act bytes source None status old new = (books : Listed) × (later : ChaCha)
-      × ActEnds in_memory (λ books. books.rows) drawn contents sink.told port surroundings.port_bound remaining
+      × ActEnds in_memory of_memory drawn contents sink.told port surroundings.port_bound remaining
       bytes act status (record { rows = no_rows; failures = 0 }, source) old (books, later) new
   OverBooks act bytes source (Some name) status old new = (opened : Result D FileFault) × (then : E)
       × databases.books_opened old.around name opened then

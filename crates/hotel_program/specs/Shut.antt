@@ -4,7 +4,8 @@ use Rattle.std.specs.List.{AllByRecursion, concat}
 use Rattle.std.specs.Io.KnownBytes.{Appends}
 use Rattle.rand_core.specs.Stream.{Stream}
 use Rattle.keycard_rules.specs.{declared.kept.Kept.Ghosts as KeptOf, Calls.BeganShut, Calls.Passes}
-use Rattle.hotel_model.specs.{History.History, Rows.Rows}
+use Rattle.hotel_core.specs.declared.books.Books.{Ghosts as BooksOf}
+use Rattle.hotel_model.specs.{History.History}
 use Rattle.hotel_http.specs.declared.serve.ServeFault.TheVariants.{Write}
 use Rattle.keycard_rules.specs.Calls.{Told}
 use Rattle.hotel_program.specs.Script.{Asks.ask_in, ListAnswers.tells_failure, WholeScript.LinesAnswered}
@@ -20,9 +21,9 @@ TellFailures (line ∷ lines) [] = ⊥
 
 -- Lines that were answered one after the other, from a state on that was not clean: their answers were written, and
 -- tell failures.
-abbrev pub ScriptsNothing : {S R W : Type 0} → KeptOf S → (S → Rows) → (R → Stream) → (W → Option (List ℕ)) → Type 0
-ScriptsNothing {S = S} {R = R} {W = W} K rows stream contents = (old new : S × R × W) (lines : List (List ℕ))
-    → LinesAnswered K rows stream contents old lines new → BeganShut K old.0 new.0
+abbrev pub ScriptsNothing : {S R W : Type 0} → KeptOf S → BooksOf S → (R → Stream) → (W → Option (List ℕ)) → Type 0
+ScriptsNothing {S = S} {R = R} {W = W} K own stream contents = (old new : S × R × W) (lines : List (List ℕ))
+    → LinesAnswered K own stream contents old lines new → BeganShut K old.0 new.0
     → (texts : List (List ℕ)) × TellFailures lines texts × Appends (contents old.2) (contents new.2) (concat texts)
 
 -- nothing of a connection's request was taken
@@ -37,7 +38,7 @@ ComesToNothing end = (h h' : History) × (s s' : Stream) × (told : Told) × Con
     × AllByRecursion (λ t. IsSome t) told × TookNothing end
 
 -- connections that were served one after the other, from such a state on: each came to nothing
-abbrev pub ServesNothing : {S R : Type 0} → KeptOf S → (S → Rows) → (R → Stream) → Type 0
-ServesNothing {S = S} {R = R} K rows stream = (old new : S × R) (ends : List ConnectionEnd)
-    → Passes (ConnectionHappens K rows stream) old ends new → BeganShut K old.0 new.0
+abbrev pub ServesNothing : {S R : Type 0} → KeptOf S → BooksOf S → (R → Stream) → Type 0
+ServesNothing {S = S} {R = R} K own stream = (old new : S × R) (ends : List ConnectionEnd)
+    → Passes (ConnectionHappens K own stream) old ends new → BeganShut K old.0 new.0
     → AllByRecursion ComesToNothing ends

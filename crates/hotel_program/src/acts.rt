@@ -44,7 +44,7 @@ pub(crate) fn run_act<B: Walks, R: Rng, I: Read, W: Write, F: FaultSink, E: Surr
     faults: &mut F,
     around: &mut E,
 ) -> u8
-    ensures ends { ActEnds B.Kept B.rows R.stream W.contents F.told (sockets E.Port.Listener E.Port.Caller.Caller)
+    ensures ends { ActEnds B.Kept B.Books.own R.stream W.contents F.told (sockets E.Port.Listener E.Port.Caller.Caller)
         E.port_bound I.remaining file.now act.now result
         (books.old, source.old)
         (record { reader = reader.old; writer = writer.old; faults = faults.old; around = around.old })

@@ -69,7 +69,7 @@ fn serve_stream<I: Read, W: Write, B: Walks, R: Rng>(
     source: &mut R,
     calls: &mut IoCalls,
 ) -> Result<Exchange, ServeFault>
-    ensures serves { ServesOver Local B.Kept B.rows R.stream (I.remaining reader.old) (I.remaining reader.new)
+    ensures serves { ServesOver Local B.Kept B.Books.own R.stream (I.remaining reader.old) (I.remaining reader.new)
         (W.contents writer.old) (W.contents writer.new)
         (books.old, source.old) (books.new, source.new) (served_in result) }
     ensures follows { IfOk result
@@ -115,7 +115,7 @@ fn serve_limited<S, L: Caller<S>, K: Begun<S, L>, B: Walks, R: Rng>(
     requires stream { K.stream ≡ Some stream.now }
     requires reads { K.reads ≡ Some reads }
     requires writes { K.writes ≡ Some writes }
-    ensures served { ServesInTime L.Caller B.Kept B.rows R.stream stream.now reads writes (books.old, source.old)
+    ensures served { ServesInTime L.Caller B.Kept B.Books.own R.stream stream.now reads writes (books.old, source.old)
         result.end result.reads result.writes (books.new, source.new) }
     ensures calls { CountsCalls calls.old calls.new (OnErrOf result.end serve.Read)
         (IfUnwritten (served_in result.end)) }
@@ -151,7 +151,7 @@ fn serve_taken<L: Listener, B: Walks, R: Rng>(
     calls: &mut IoCalls,
 ) -> Result<(), Fault>
     ensures ends { (end : ConnectionEnd) × (result ≡ connection_end end)
-        × TakenEnds (sockets L.Listener L.Caller.Caller) B.Kept B.rows R.stream stream listener.old
+        × TakenEnds (sockets L.Listener L.Caller.Caller) B.Kept B.Books.own R.stream stream listener.old
         (books.old, source.old) end listener.new (books.new, source.new) }
     ensures calls { CountsCalls calls.old calls.new (OnErrOf result Read) (OnErrOf result Write) }
 {
@@ -181,7 +181,7 @@ fn serve_connection<L: Listener, B: Walks, R: Rng>(
     calls: &mut IoCalls,
 ) -> Result<(), Fault>
     ensures ends { (end : ConnectionEnd) × (result ≡ connection_end end)
-        × Connects (sockets L.Listener L.Caller.Caller) B.Kept B.rows R.stream
+        × Connects (sockets L.Listener L.Caller.Caller) B.Kept B.Books.own R.stream
         (listener.old, (books.old, source.old)) end (listener.new, (books.new, source.new)) }
     ensures calls { CountsCalls calls.old calls.new (OnErrOf result Read) (OnErrOf result Write) }
 {
@@ -203,8 +203,8 @@ fn serve_and_tell<L: Listener, B: Walks, R: Rng, F: FaultSink>(
     faults: &mut F,
     calls: &mut IoCalls,
 )
-    ensures ends { (end : ConnectionEnd) × ConnectsAndTells (sockets L.Listener L.Caller.Caller) B.Kept B.rows R.stream
-        F.told ((listener.old, (books.old, source.old)), faults.old) end
+    ensures ends { (end : ConnectionEnd) × ConnectsAndTells (sockets L.Listener L.Caller.Caller) B.Kept B.Books.own
+        R.stream F.told ((listener.old, (books.old, source.old)), faults.old) end
         ((listener.new, (books.new, source.new)), faults.new) }
     ensures calls { NoneForgotten calls.old calls.new }
 {
@@ -230,7 +230,7 @@ pub fn serve_connections<L: Listener + Drop, B: Walks, R: Rng, F: FaultSink>(
     faults: &mut F,
 ) -> u8
     ensures status { result ≡ 0 }
-    ensures ends { ServesEach (sockets L.Listener L.Caller.Caller) B.Kept B.rows R.stream F.told count listener
+    ensures ends { ServesEach (sockets L.Listener L.Caller.Caller) B.Kept B.Books.own R.stream F.told count listener
         (books.old, source.old) faults.old (books.new, source.new) faults.new }
 {
     let mut listener = listener;

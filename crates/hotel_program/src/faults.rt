@@ -1,17 +1,19 @@
 //! Faults of the program and of its calls: what is said of each, where it is said, and its exit status.
 
-ghost use Rattle.std.specs.Prelude.{◌≡◌, ◌≤◌, length};
+ghost use Rattle.std.specs.Prelude.{◌≡◌, ◌≤◌, Some, length};
 ghost use Rattle.hotel_streams.specs.Calls.{NoneForgotten};
 ghost use Rattle.hotel_streams.specs.Bytes.{Writes};
-ghost use Rattle.hotel_program.specs.Faults.{table_text, fault_text, fault_status, refused_text};
+ghost use Rattle.hotel_rows.specs.OpenFault.{table_name};
+ghost use Rattle.hotel_program.specs.Faults.{cause_text, fault_text, fault_words, fault_status, refused_text};
 ghost use Rattle.hotel_program.specs.Faults.{end_status, IsHeard, Reports};
 
 use crate::statuses::{BROKEN, FAILED};
 use hotel_asks::ValueName;
-use hotel_audit::stopped_text;
 use hotel_rows::{FileFault, OpenFault, TableName};
 use hotel_streams::{IoCalls, WriteFailed, write_bytes};
 use keycard_rules::{LookFault, ShortText};
+use std::error::Error;
+use std::fmt;
 use std::io::Write;
 
 /// Why the program or a call of it didn't do its work to the end. Words that ask for nothing are a `UsageFault`.
@@ -58,21 +60,32 @@ impl Fault {
     }
 }
 
-/// The name of a table, and the end of the line.
-fn table_text(table: TableName) -> &'static [u8]
-    ensures same { result.now ≡ table_text table }
-    ensures short { length result.now ≤ 7 }
+/// The name of a table.
+fn table_name(table: TableName) -> &'static [u8]
+    ensures same { result.now ≡ table_name table }
+    ensures short { length result.now ≤ 6 }
 {
     match table {
-        TableName::Meta => b"meta\n",
-        TableName::Kind => b"kind\n",
-        TableName::Room => b"room\n",
-        TableName::Stay => b"stay\n",
-        TableName::Code => b"code\n",
-        TableName::Card => b"card\n",
-        TableName::Inside => b"inside\n",
-        TableName::Note => b"note\n",
-        TableName::Fit => b"fit\n",
+        TableName::Meta => b"meta",
+        TableName::Kind => b"kind",
+        TableName::Room => b"room",
+        TableName::Stay => b"stay",
+        TableName::Code => b"code",
+        TableName::Card => b"card",
+        TableName::Inside => b"inside",
+        TableName::Note => b"note",
+        TableName::Fit => b"fit",
+    }
+}
+
+/// What stopped an import.
+fn cause_text<'a>(by: LookFault) -> &'a str
+    ensures same { result.now ≡ cause_text by }
+    ensures short { length result.now ≤ 8 }
+{
+    match by {
+        LookFault::Memory => ": Memory",
+        LookFault::Store => ": Store",
     }
 }
 
@@ -85,26 +98,58 @@ fn fault_text(fault: &Fault) -> FaultText
 {
     let mut text = FaultText::new();
     match fault {
-        Fault::Memory | Fault::Books(FileFault::Desk(OpenFault::Memory)) => text.push(b"memory\n"),
-        Fault::Store | Fault::Books(FileFault::Desk(OpenFault::Store)) => text.push(b"store\n"),
-        Fault::Read => text.push(b"read\n"),
-        Fault::Write => text.push(b"write\n"),
-        Fault::TooLarge => text.push(b"too large\n"),
-        Fault::NoHeader => text.push(b"no header\n"),
-        Fault::WrongHeader => text.push(b"wrong header\n"),
-        Fault::Stopped { answered, by } => text.push(stopped_text(*answered, *by).as_bytes()),
-        Fault::Books(FileFault::Desk(OpenFault::NotADesk)) => text.push(b"not a desk\n"),
+        Fault::Memory | Fault::Books(FileFault::Desk(OpenFault::Memory)) => text.push(b"memory"),
+        Fault::Store | Fault::Books(FileFault::Desk(OpenFault::Store)) => text.push(b"store"),
+        Fault::Read => text.push(b"read"),
+        Fault::Write => text.push(b"write"),
+        Fault::TooLarge => text.push(b"too large"),
+        Fault::NoHeader => text.push(b"no header"),
+        Fault::WrongHeader => text.push(b"wrong header"),
+        Fault::Stopped { answered, by } => {
+            text.push(b"stopped after ");
+            text.push_number::<20>(*answered as u128);
+            text.push(cause_text(*by).as_bytes());
+        }
+        Fault::Books(FileFault::Desk(OpenFault::NotADesk)) => text.push(b"not a desk"),
         Fault::Books(FileFault::Desk(OpenFault::Damaged(table))) => {
             text.push(b"damaged ");
-            text.push(table_text(*table));
+            text.push(table_name(*table));
         }
-        Fault::Seed => text.push(b"seed\n"),
-        Fault::File | Fault::Books(FileFault::File) => text.push(b"file\n"),
-        Fault::Port => text.push(b"port\n"),
-        Fault::Closed => text.push(b"closed\n"),
+        Fault::Seed => text.push(b"seed"),
+        Fault::File | Fault::Books(FileFault::File) => text.push(b"file"),
+        Fault::Port => text.push(b"port"),
+        Fault::Closed => text.push(b"closed"),
     }
+    text.push(b"\n");
     text
 }
+
+impl fmt::Display for Fault {
+    ghost output = { λ why. Some (fault_words why) };
+
+    fn fmt<W: fmt::Write>(&self, f: &mut fmt::Formatter<W>) -> fmt::Result {
+        match self {
+            Fault::Memory => f.write_str("memory"),
+            Fault::Store => f.write_str("store"),
+            Fault::Read => f.write_str("read"),
+            Fault::Write => f.write_str("write"),
+            Fault::TooLarge => f.write_str("too large"),
+            Fault::NoHeader => f.write_str("no header"),
+            Fault::WrongHeader => f.write_str("wrong header"),
+            Fault::Stopped { answered, by } => {
+                let cause = cause_text(*by);
+                write!(f, "stopped after {answered}{cause}")
+            }
+            Fault::Books(why) => write!(f, "{why}"),
+            Fault::Seed => f.write_str("seed"),
+            Fault::File => f.write_str("file"),
+            Fault::Port => f.write_str("port"),
+            Fault::Closed => f.write_str("closed"),
+        }
+    }
+}
+
+impl Error for Fault {}
 
 /// The line of a value of the command line that its reader refuses.
 pub(crate) fn refused_text(name: ValueName) -> FaultText

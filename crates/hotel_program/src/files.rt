@@ -9,7 +9,7 @@ ghost use Rattle.hotel_program.specs.Files.{read_fault};
 ghost use Rattle.hotel_program.specs.declared.faults.Fault.TheVariants.{File, Seed};
 
 use crate::faults::Fault;
-use hotel_audit::AUDIT_BYTES;
+use hotel_lock::AUDIT_BYTES;
 use hotel_streams::{IoCalls, ReadFault, read_prefix};
 use std::alloc::Global;
 use std::io::Read;

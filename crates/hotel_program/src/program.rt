@@ -57,7 +57,8 @@ fn run_over_books<I: Read, W: Write, F: FaultSink, B: Walks + Drop, E: Databases
     around: &mut E,
 ) -> u8
     ensures { OverBooks I.remaining W.contents F.FaultSink (sockets E.Port.Listener E.Port.Caller.Caller) E.Surroundings
-        E.Databases.own ⟦<ListBooks as Kept>⟧ B.Kept B.rows plan.now.act file.now source.old plan.now.db result
+        E.Databases.own ⟦<ListBooks as Kept>⟧ B.Kept B.Books.own
+        plan.now.act file.now source.old plan.now.db result
         (record { reader = reader.old; writer = writer.old; faults = faults.old; around = around.old })
         (record { reader = reader.new; writer = writer.new; faults = faults.new; around = around.new }) }
 {
@@ -105,7 +106,7 @@ fn run_plan<I: Read, W: Write, F: FaultSink, B: Walks + Drop, E: Databases<B>>(
     around: &mut E,
 ) -> u8
     ensures { PlanEnds I.remaining W.contents F.FaultSink (sockets E.Port.Listener E.Port.Caller.Caller) E.Surroundings
-        E.Databases.own ⟦<ListBooks as Kept>⟧ B.Kept B.rows plan.now result
+        E.Databases.own ⟦<ListBooks as Kept>⟧ B.Kept B.Books.own plan.now result
         (record { reader = reader.old; writer = writer.old; faults = faults.old; around = around.old })
         (record { reader = reader.new; writer = writer.new; faults = faults.new; around = around.new }) }
 {
@@ -162,7 +163,8 @@ fn run_words<I: Read, W: Write, F: FaultSink, B: Walks + Drop, E: Databases<B>>(
     around: &mut E,
 ) -> u8
     ensures { WordsEnd I.remaining W.contents F.FaultSink (sockets E.Port.Listener E.Port.Caller.Caller) E.Surroundings
-        E.Databases.own ⟦<ListBooks as Kept>⟧ B.Kept B.rows (map string_bytes words.now) result
+        E.Databases.own ⟦<ListBooks as Kept>⟧ B.Kept B.Books.own
+        (map string_bytes words.now) result
         (record { reader = reader.old; writer = writer.old; faults = faults.old; around = around.old })
         (record { reader = reader.new; writer = writer.new; faults = faults.new; around = around.new }) }
 {
@@ -209,7 +211,7 @@ pub fn run_program<I: Read, W: Write, F: FaultSink, B: Walks + Drop, E: Database
         × EndsOverNewDesk W.contents (I.remaining reader.old) writer.old writer.new end × (around.new ≡ around.old) }
     ensures words { IfWords words (λ texts. WordsEnd I.remaining W.contents F.FaultSink
         (sockets E.Port.Listener E.Port.Caller.Caller) E.Surroundings
-        E.Databases.own ⟦<ListBooks as Kept>⟧ B.Kept B.rows texts result
+        E.Databases.own ⟦<ListBooks as Kept>⟧ B.Kept B.Books.own texts result
         (record { reader = reader.old; writer = writer.old; faults = faults.old; around = around.old })
         (record { reader = reader.new; writer = writer.new; faults = faults.new; around = around.new })) }
 {

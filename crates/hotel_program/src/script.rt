@@ -89,10 +89,10 @@ fn answer_lines<W: Write, B: Walks, R: Rng>(
 ) -> Result<ScriptEnd, ScriptFault>
     requires { length script.now ≤ SCRIPT_LIMIT }
     ensures count { IfOk result (λ script_end. script_end.lines ≡ length (answered_lines script.now)) }
-    ensures ok { OnOk result (LinesAnswered B.Kept B.rows R.stream W.contents
+    ensures ok { OnOk result (LinesAnswered B.Kept B.Books.own R.stream W.contents
         (books.old, source.old, writer.old) (answered_lines script.now) (books.new, source.new, writer.new)) }
     ensures cut { IfCut result (λ done. (1 ≤ done) × (done ≤ length (answered_lines script.now))
-        × LinesCut B.Kept B.rows R.stream W.contents (books.old, source.old, writer.old)
+        × LinesCut B.Kept B.Books.own R.stream W.contents (books.old, source.old, writer.old)
         (take done (answered_lines script.now)) (books.new, source.new, writer.new)) }
     ensures sure { IfUnbegun result ⊥ }
     ensures calls { CountsWrites calls.old calls.new (OnErr result) }
@@ -124,7 +124,7 @@ pub fn run_script_by<I: Read, W: Write, B: Walks, R: Rng>(
     source: &mut R,
     calls: &mut IoCalls,
 ) -> Result<ScriptEnd, ScriptFault>
-    ensures ends { ScriptRan B.Kept B.rows R.stream W.contents (I.remaining reader.old)
+    ensures ends { ScriptRan B.Kept B.Books.own R.stream W.contents (I.remaining reader.old)
         (books.old, source.old, writer.old) result (books.new, source.new, writer.new) }
     ensures wanted { ReadsWhile (λ came. length came ≤ SCRIPT_LIMIT) (I.remaining reader.old) (I.remaining reader.new) }
     ensures calls { CountsCalls calls.old calls.new (OnErrOf result Read) (λ fact. IfCut result (λ _. fact)) }
@@ -141,7 +141,7 @@ pub fn run_script<I: Read, W: Write, B: Walks, R: Rng>(
     books: &mut B,
     source: &mut R,
 ) -> Result<ScriptEnd, ScriptFault>
-    ensures ends { ScriptRan B.Kept B.rows R.stream W.contents (I.remaining reader.old)
+    ensures ends { ScriptRan B.Kept B.Books.own R.stream W.contents (I.remaining reader.old)
         (books.old, source.old, writer.old) result (books.new, source.new, writer.new) }
     ensures wanted { ReadsWhile (λ came. length came ≤ SCRIPT_LIMIT) (I.remaining reader.old) (I.remaining reader.new) }
 {

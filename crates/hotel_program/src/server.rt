@@ -54,8 +54,9 @@ pub(crate) fn run_serve<B: Walks, R: Rng, W: Write, F: FaultSink, E: Surrounding
     faults: &mut F,
     around: &mut E,
 ) -> u8
-    ensures ends { ServeEnds B.Kept B.rows R.stream W.contents F.told (sockets E.Port.Listener E.Port.Caller.Caller)
-        E.port_bound port count result (books.old, source.old) (writer.old, faults.old) around.old
+    ensures ends { ServeEnds B.Kept B.Books.own R.stream W.contents F.told
+        (sockets E.Port.Listener E.Port.Caller.Caller) E.port_bound port count result
+        (books.old, source.old) (writer.old, faults.old) around.old
         (books.new, source.new) (writer.new, faults.new) around.new }
 {
     let mut calls = IoCalls::none();

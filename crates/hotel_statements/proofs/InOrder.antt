@@ -37,8 +37,8 @@ mapped_in_order cmp f (x ∷ y ∷ xs) ordered = (ordered.0, mapped_in_order cmp
 
 -- rows are in the order of their keys, where outputs that show them are
 pub shown_in_order : {O K V L : Type 0} (cmp : K → K → Ordering) (key : O → K) (value : O → V) (keys : V → K)
-    (shown : L → V) (order : L → L → Ordering) → ((a b : L) → cmp (keys (shown a)) (keys (shown b)) ≡ order a b) → (os : List O)
-    (ls : List L) → map shown ls ≡ map value os → AllByRecursion (λ o. key o ≡ keys (value o)) os
+    (shown : L → V) (order : L → L → Ordering) → ((a b : L) → cmp (keys (shown a)) (keys (shown b)) ≡ order a b)
+    → (os : List O) (ls : List L) → map shown ls ≡ map value os → AllByRecursion (λ o. key o ≡ keys (value o)) os
     → IsInOrder (λ a b. cmp (key a) (key b)) os → IsInOrder order ls
 shown_in_order cmp key value keys shown order same os [] is all ordered = tt
 shown_in_order cmp key value keys shown order same os (a ∷ []) is all ordered = tt

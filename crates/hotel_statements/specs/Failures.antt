@@ -103,39 +103,35 @@ NoteFails room old new =
 
 -- ---- walks
 
-abbrev pub ArrivalsFail : ℕ → State → State → Type 0
-ArrivalsFail day = WalkFails IsStay text.walk_arrivals (int day ∷ [])
-
-abbrev pub InHouseFails : State → State → Type 0
-InHouseFails = WalkFails IsInHouse text.walk_in_house []
-
-abbrev pub LeftBehindFails : State → State → Type 0
-LeftBehindFails = WalkFails IsBehind text.walk_left_behind []
-
-abbrev pub RoomStatusFails : State → State → Type 0
-RoomStatusFails = WalkFails IsOfStatus text.walk_room_status []
-
-abbrev pub CardsInsideFail : State → State → Type 0
-CardsInsideFail = WalkFails IsOfInside text.walk_inside []
-
-abbrev pub BookingsFail : State → State → Type 0
-BookingsFail = WalkFails IsStay text.walk_bookings []
-
-abbrev pub CardsGivenFail : ℕ → State → State → Type 0
-CardsGivenFail party = WalkFails IsCard text.walk_cards_given (int party ∷ [])
-
--- for the business day, and then over the kinds
-abbrev pub AvailabilityFails : State → State → Type 0
-AvailabilityFails old new = DayFails old new ⊎ WalkFails (FirstColumnIs IsKind) text.read_kind [] old new
-
-abbrev pub ChainFails : ℕ → State → State → Type 0
-ChainFails room old new = BareRoomFails room old new ⊎ WalkFails IsOfChain text.walk_chain (int room ∷ []) old new
+-- the lists that are walked
+pub data WalkedList : Type 0 where
+  arrivals : (day : ℕ) → WalkedList
+  in_house : WalkedList
+  chain : (room : ℕ) → WalkedList
+  left_behind : WalkedList
+  audit : (room : ℕ) → WalkedList
+  room_status : WalkedList
+  cards_inside : WalkedList
+  bookings : WalkedList
+  availability : WalkedList
+  cards_given : (party : ℕ) → WalkedList
 
 -- a note that a room with these fits has
 abbrev pub IsNoteUnder : List FitRow → Row → Type 0
 IsNoteUnder fits row = IsNote row × IsUnderFits fits (note_row_of row)
 
-abbrev pub AuditFails : ℕ → State → State → Type 0
-AuditFails room old new =
+-- Why the walk of a list fails: the look-up before it, if it makes one, or its statement.
+abbrev pub ListFails : WalkedList → State → State → Type 0
+ListFails (arrivals day) old new = WalkFails IsStay text.walk_arrivals (int day ∷ []) old new
+ListFails in_house old new = WalkFails IsInHouse text.walk_in_house [] old new
+ListFails (chain room) old new =
+    BareRoomFails room old new ⊎ WalkFails IsOfChain text.walk_chain (int room ∷ []) old new
+ListFails left_behind old new = WalkFails IsBehind text.walk_left_behind [] old new
+ListFails (audit room) old new =
     FitsFail room old new
     ⊎ WalkFails (IsNoteUnder (fits_at (fits_in old.now.trees) room)) text.walk_audit (int room ∷ []) old new
+ListFails room_status old new = WalkFails IsOfStatus text.walk_room_status [] old new
+ListFails cards_inside old new = WalkFails IsOfInside text.walk_inside [] old new
+ListFails bookings old new = WalkFails IsStay text.walk_bookings [] old new
+ListFails availability old new = DayFails old new ⊎ WalkFails (FirstColumnIs IsKind) text.read_kind [] old new
+ListFails (cards_given party) old new = WalkFails IsCard text.walk_cards_given (int party ∷ []) old new

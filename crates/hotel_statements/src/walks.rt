@@ -1,17 +1,12 @@
-//! The walks of the books over the connection: one statement each, but for a room's codes, its notes and what is free,
+//! The walks of the lists over the connection: one statement each, but for a room's codes, its notes and what is free,
 //! before which the room's row, its fits or the business day are looked up.
 ghost use Rattle.sqlite.specs.Held.{state};
 ghost use Rattle.hotel_model.specs.Sound.{IsSound};
-ghost use Rattle.hotel_model.specs.Refinement.ListsOnRows.{arrivals_on, in_house_on, chain_on, left_behind_on};
-ghost use Rattle.hotel_model.specs.Refinement.ListsOnRows.{room_status_on, cards_inside_on, bookings_on};
-ghost use Rattle.hotel_model.specs.Refinement.ListsOnRows.{availability_on, cards_given_on};
-ghost use Rattle.hotel_model.specs.Rows.{notes_at};
 ghost use Rattle.hotel_statements.specs.Books.{IsBooks, IsKept};
 ghost use Rattle.hotel_statements.specs.Tables.{rows_in};
 ghost use Rattle.hotel_statements.specs.Walks.{AreCounted, WalksList};
-ghost use Rattle.hotel_statements.specs.Failures.{ArrivalsFail, AuditFails, ChainFails, InHouseFails, LeftBehindFails};
-ghost use Rattle.hotel_statements.specs.Failures.{RoomStatusFails, CardsInsideFail, BookingsFail, AvailabilityFails};
-ghost use Rattle.hotel_statements.specs.Failures.{CardsGivenFail};
+ghost use Rattle.hotel_statements.specs.Failures.{WalkedList, ListFails, arrivals, audit, availability, bookings};
+ghost use Rattle.hotel_statements.specs.Failures.{cards_given, cards_inside, chain, in_house, left_behind, room_status};
 
 use crate::from_row::bare_rows::UnderFits;
 use crate::from_row::list_rows::{Alone, AtLock, FreeOn};
@@ -22,12 +17,16 @@ use crate::texts::{
     WALK_IN_HOUSE, WALK_INSIDE, WALK_LEFT_BEHIND, WALK_ROOM_STATUS,
 };
 use crate::walk::walk;
+use hotel_core::lists::{
+    Arrivals, AuditOf, Availability, Bookings, CardsGiven, ChainOf, InHouse, Inside, LeftBehind,
+    Listed, RoomStatus,
+};
 use hotel_core::{
     BehindRow, ChainRow, FreeRow, HouseRow, InsideRow, KindRooms, NightIndex, Sink, StatusRow,
     WalkFault,
 };
-use hotel_nights::{Day, Nights, Stay};
-use keycard_rules::{Card, LockNote, PartyNo, RoomNo};
+use hotel_nights::Stay;
+use keycard_rules::{Card, LockNote};
 use sqlite::{Alter, Connection};
 use std::alloc::Global;
 
@@ -40,168 +39,186 @@ pub struct Counts<'a> {
     pub nights: &'a NightIndex,
 }
 
-/// The booked stays that take the night of a day, by party.
-pub fn arrivals<S: Alter, K: Sink<Stay>>(
-    alloc: Global,
-    conn: &mut Connection<S>,
-    day: Day,
-    sink: &mut K,
-) -> Result<(), WalkFault>
-    requires { IsBooks (state S.Store conn.old) }
-    ensures { WalksList (ArrivalsFail day) K.Sink.after K.Sink.after_stop (λ rows. arrivals_on rows day)
-        (state S.Store conn.old) (state S.Store conn.new) sink.old sink.new result }
-{
-    walk(alloc, conn, WALK_ARRIVALS, &[dated(day)], &Alone, sink)
+/// A list that can be walked over a connection.
+pub trait WalkedOverTables: Listed {
+    /// Which one it is, for why its walk fails.
+    ghost named: { Self → WalkedList };
+
+    /// Hands its rows to a sink, in order, up to the first at which the sink stops.
+    fn walk_connection<S: Alter, K: Sink<Self::Row>>(
+        &self,
+        alloc: Global,
+        conn: &mut Connection<S>,
+        counts: Counts<'_>,
+        sink: &mut K,
+    ) -> Result<(), WalkFault>
+        requires books { IsBooks (state S.Store conn.old) }
+        requires sound { IsKept (state S.Store conn.old) → IsSound (rows_in (state S.Store conn.old).now.trees) }
+        requires counted { IsKept (state S.Store conn.old)
+            → AreCounted counts.kinds.now counts.nights.now (rows_in (state S.Store conn.old).now.trees) }
+        ensures { WalksList (ListFails (named self.now)) K.Sink.after K.Sink.after_stop (Self.rows_on self.now)
+            (state S.Store conn.old) (state S.Store conn.new) sink.old sink.new result };
 }
 
-/// The notes of a room, by fit and count.
-pub fn audit<S: Alter, K: Sink<LockNote>>(
-    alloc: Global,
-    conn: &mut Connection<S>,
-    room: RoomNo,
-    sink: &mut K,
-) -> Result<(), WalkFault>
-    requires { IsBooks (state S.Store conn.old) }
-    ensures { WalksList (AuditFails room) K.Sink.after K.Sink.after_stop (λ rows. notes_at rows.notes room)
-        (state S.Store conn.old) (state S.Store conn.new) sink.old sink.new result }
-{
-    let fits = look_ups::fits_of_room(alloc, conn, room)?;
-    let under = UnderFits { fits };
-    walk(alloc, conn, WALK_AUDIT, &[numbered(room)], &under, sink)
+impl WalkedOverTables for Arrivals {
+    ghost named = { λ list. arrivals list.0 };
+
+    fn walk_connection<S: Alter, K: Sink<Stay>>(
+        &self,
+        alloc: Global,
+        conn: &mut Connection<S>,
+        _: Counts<'_>,
+        sink: &mut K,
+    ) -> Result<(), WalkFault> {
+        walk(alloc, conn, WALK_ARRIVALS, &[dated(self.0)], &Alone, sink)
+    }
 }
 
-/// The codes of a room in order of issue; none where the room isn't there.
-pub fn chain<S: Alter, K: Sink<ChainRow>>(
-    alloc: Global,
-    conn: &mut Connection<S>,
-    room: RoomNo,
-    sink: &mut K,
-) -> Result<(), WalkFault>
-    requires books { IsBooks (state S.Store conn.old) }
-    requires sound { IsKept (state S.Store conn.old) → IsSound (rows_in (state S.Store conn.old).now.trees) }
-    ensures { WalksList (ChainFails room) K.Sink.after K.Sink.after_stop (λ rows. chain_on rows room)
-        (state S.Store conn.old) (state S.Store conn.new) sink.old sink.new result }
-{
-    let Some(row) = look_ups::bare_room(alloc, conn, room)? else {
-        return Ok(());
-    };
-    let lock = AtLock {
-        place: row.lock_place(),
-    };
-    walk(alloc, conn, WALK_CHAIN, &[numbered(room)], &lock, sink)
+impl WalkedOverTables for AuditOf {
+    ghost named = { λ list. audit list.0 };
+
+    fn walk_connection<S: Alter, K: Sink<LockNote>>(
+        &self,
+        alloc: Global,
+        conn: &mut Connection<S>,
+        _: Counts<'_>,
+        sink: &mut K,
+    ) -> Result<(), WalkFault> {
+        let fits = look_ups::fits_of_room(alloc, conn, self.0)?;
+        let under = UnderFits { fits };
+        walk(alloc, conn, WALK_AUDIT, &[numbered(self.0)], &under, sink)
+    }
 }
 
-/// The rooms with a registered party, by room.
-pub fn in_house<S: Alter, K: Sink<HouseRow>>(
-    alloc: Global,
-    conn: &mut Connection<S>,
-    sink: &mut K,
-) -> Result<(), WalkFault>
-    requires books { IsBooks (state S.Store conn.old) }
-    requires sound { IsKept (state S.Store conn.old) → IsSound (rows_in (state S.Store conn.old).now.trees) }
-    ensures { WalksList InHouseFails K.Sink.after K.Sink.after_stop in_house_on
-        (state S.Store conn.old) (state S.Store conn.new) sink.old sink.new result }
-{
-    walk(alloc, conn, WALK_IN_HOUSE, &[], &Alone, sink)
+impl WalkedOverTables for ChainOf {
+    ghost named = { λ list. chain list.0 };
+
+    fn walk_connection<S: Alter, K: Sink<ChainRow>>(
+        &self,
+        alloc: Global,
+        conn: &mut Connection<S>,
+        _: Counts<'_>,
+        sink: &mut K,
+    ) -> Result<(), WalkFault> {
+        let Some(row) = look_ups::bare_room(alloc, conn, self.0)? else {
+            return Ok(());
+        };
+        let lock = AtLock {
+            place: row.lock_place(),
+        };
+        walk(alloc, conn, WALK_CHAIN, &[numbered(self.0)], &lock, sink)
+    }
 }
 
-/// The rooms with two awaited codes or more, by room.
-pub fn left_behind<S: Alter, K: Sink<BehindRow>>(
-    alloc: Global,
-    conn: &mut Connection<S>,
-    sink: &mut K,
-) -> Result<(), WalkFault>
-    requires books { IsBooks (state S.Store conn.old) }
-    requires sound { IsKept (state S.Store conn.old) → IsSound (rows_in (state S.Store conn.old).now.trees) }
-    ensures { WalksList LeftBehindFails K.Sink.after K.Sink.after_stop left_behind_on
-        (state S.Store conn.old) (state S.Store conn.new) sink.old sink.new result }
-{
-    walk(alloc, conn, WALK_LEFT_BEHIND, &[], &Alone, sink)
+impl WalkedOverTables for InHouse {
+    ghost named = { λ _. in_house };
+
+    fn walk_connection<S: Alter, K: Sink<HouseRow>>(
+        &self,
+        alloc: Global,
+        conn: &mut Connection<S>,
+        _: Counts<'_>,
+        sink: &mut K,
+    ) -> Result<(), WalkFault> {
+        walk(alloc, conn, WALK_IN_HOUSE, &[], &Alone, sink)
+    }
 }
 
-/// All rooms, by room.
-pub fn room_status<S: Alter, K: Sink<StatusRow>>(
-    alloc: Global,
-    conn: &mut Connection<S>,
-    sink: &mut K,
-) -> Result<(), WalkFault>
-    requires { IsBooks (state S.Store conn.old) }
-    ensures { WalksList RoomStatusFails K.Sink.after K.Sink.after_stop room_status_on
-        (state S.Store conn.old) (state S.Store conn.new) sink.old sink.new result }
-{
-    walk(alloc, conn, WALK_ROOM_STATUS, &[], &Alone, sink)
+impl WalkedOverTables for LeftBehind {
+    ghost named = { λ _. left_behind };
+
+    fn walk_connection<S: Alter, K: Sink<BehindRow>>(
+        &self,
+        alloc: Global,
+        conn: &mut Connection<S>,
+        _: Counts<'_>,
+        sink: &mut K,
+    ) -> Result<(), WalkFault> {
+        walk(alloc, conn, WALK_LEFT_BEHIND, &[], &Alone, sink)
+    }
 }
 
-/// The cards inside rooms, by room and card.
-pub fn cards_inside<S: Alter, K: Sink<InsideRow>>(
-    alloc: Global,
-    conn: &mut Connection<S>,
-    sink: &mut K,
-) -> Result<(), WalkFault>
-    requires { IsBooks (state S.Store conn.old) }
-    ensures { WalksList CardsInsideFail K.Sink.after K.Sink.after_stop cards_inside_on
-        (state S.Store conn.old) (state S.Store conn.new) sink.old sink.new result }
-{
-    walk(alloc, conn, WALK_INSIDE, &[], &Alone, sink)
+impl WalkedOverTables for RoomStatus {
+    ghost named = { λ _. room_status };
+
+    fn walk_connection<S: Alter, K: Sink<StatusRow>>(
+        &self,
+        alloc: Global,
+        conn: &mut Connection<S>,
+        _: Counts<'_>,
+        sink: &mut K,
+    ) -> Result<(), WalkFault> {
+        walk(alloc, conn, WALK_ROOM_STATUS, &[], &Alone, sink)
+    }
 }
 
-/// The booked stays, by party.
-pub fn bookings<S: Alter, K: Sink<Stay>>(
-    alloc: Global,
-    conn: &mut Connection<S>,
-    sink: &mut K,
-) -> Result<(), WalkFault>
-    requires { IsBooks (state S.Store conn.old) }
-    ensures { WalksList BookingsFail K.Sink.after K.Sink.after_stop bookings_on
-        (state S.Store conn.old) (state S.Store conn.new) sink.old sink.new result }
-{
-    walk(alloc, conn, WALK_BOOKINGS, &[], &Alone, sink)
+impl WalkedOverTables for Inside {
+    ghost named = { λ _. cards_inside };
+
+    fn walk_connection<S: Alter, K: Sink<InsideRow>>(
+        &self,
+        alloc: Global,
+        conn: &mut Connection<S>,
+        _: Counts<'_>,
+        sink: &mut K,
+    ) -> Result<(), WalkFault> {
+        walk(alloc, conn, WALK_INSIDE, &[], &Alone, sink)
+    }
 }
 
-/// The cards that a party was given, by number.
-pub fn cards_given<S: Alter, K: Sink<Card>>(
-    alloc: Global,
-    conn: &mut Connection<S>,
-    party: PartyNo,
-    sink: &mut K,
-) -> Result<(), WalkFault>
-    requires { IsBooks (state S.Store conn.old) }
-    ensures { WalksList (CardsGivenFail party) K.Sink.after K.Sink.after_stop (λ rows. cards_given_on rows party)
-        (state S.Store conn.old) (state S.Store conn.new) sink.old sink.new result }
-{
-    walk(
-        alloc,
-        conn,
-        WALK_CARDS_GIVEN,
-        &[numbered(party)],
-        &Alone,
-        sink,
-    )
+impl WalkedOverTables for Bookings {
+    ghost named = { λ _. bookings };
+
+    fn walk_connection<S: Alter, K: Sink<Stay>>(
+        &self,
+        alloc: Global,
+        conn: &mut Connection<S>,
+        _: Counts<'_>,
+        sink: &mut K,
+    ) -> Result<(), WalkFault> {
+        walk(alloc, conn, WALK_BOOKINGS, &[], &Alone, sink)
+    }
 }
 
-/// The kinds, in order, each with its rooms and what is free of it from a day on, for so many nights.
-///
-/// The kinds are those of their table, and no night is looked up: the counts say how many stays take it.
-pub fn availability<S: Alter, K: Sink<FreeRow>>(
-    alloc: Global,
-    conn: &mut Connection<S>,
-    counts: Counts<'_>,
-    arrive: Day,
-    nights: Nights,
-    sink: &mut K,
-) -> Result<(), WalkFault>
-    requires books { IsBooks (state S.Store conn.old) }
-    requires counted { IsKept (state S.Store conn.old)
-        → AreCounted counts.kinds.now counts.nights.now (rows_in (state S.Store conn.old).now.trees) }
-    ensures { WalksList AvailabilityFails K.Sink.after K.Sink.after_stop (λ rows. availability_on rows arrive nights)
-        (state S.Store conn.old) (state S.Store conn.new) sink.old sink.new result }
-{
-    let today = look_ups::day(alloc, conn)?;
-    let free = FreeOn {
-        counts,
-        today,
-        arrive,
-        nights,
-    };
-    walk(alloc, conn, READ_KIND, &[], &free, sink)
+impl WalkedOverTables for CardsGiven {
+    ghost named = { λ list. cards_given list.0 };
+
+    fn walk_connection<S: Alter, K: Sink<Card>>(
+        &self,
+        alloc: Global,
+        conn: &mut Connection<S>,
+        _: Counts<'_>,
+        sink: &mut K,
+    ) -> Result<(), WalkFault> {
+        walk(
+            alloc,
+            conn,
+            WALK_CARDS_GIVEN,
+            &[numbered(self.0)],
+            &Alone,
+            sink,
+        )
+    }
+}
+
+impl WalkedOverTables for Availability {
+    ghost named = { λ _. availability };
+
+    fn walk_connection<S: Alter, K: Sink<FreeRow>>(
+        &self,
+        alloc: Global,
+        conn: &mut Connection<S>,
+        counts: Counts<'_>,
+        sink: &mut K,
+    ) -> Result<(), WalkFault> {
+        // The kinds are those of their table, and no night is looked up: the counts say how many stays take it.
+        let today = look_ups::day(alloc, conn)?;
+        let free = FreeOn {
+            counts,
+            today,
+            arrive: self.0,
+            nights: self.1,
+        };
+        walk(alloc, conn, READ_KIND, &[], &free, sink)
+    }
 }

@@ -2,11 +2,14 @@
 //!
 //! - src: bytes, calls; specs: Bytes, Calls, Reads, Asked: a writer took all of some bytes or a prefix of them; which
 //!   calls were interrupted or failed; when a reader is read, and how often it is asked again.
+//! - src: faults, laws; specs: Faults: what faults print; the limits.
 //! - src: test_streams; TestStreams: readers and writers for tests, of which a call goes wrong.
 #![tactic(auto)]
 
 mod bytes;
 mod calls;
+mod faults;
+mod laws;
 mod test_streams;
 
 pub use bytes::{

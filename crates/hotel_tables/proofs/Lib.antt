@@ -5,6 +5,7 @@ mod MadeDesk
 mod Opened
 mod KeptCounts
 mod Applied
+mod ChangesKept
 mod MayMake
 mod MemoryDesk
 mod Reread

@@ -15,10 +15,7 @@ use Rattle.hotel_statements.specs.Statements.{Statement, RunsStatements, stateme
 use Rattle.hotel_statements.specs.Failures.{BareRoomFails}
 use Rattle.hotel_statements.specs.Failures.{DayFails, KindFails, RoomFails, FitFails, StayFails, StaysFail, CodeFails}
 use Rattle.hotel_statements.specs.Failures.{CodeAtFails, CardFails, InsideFails, IsInsideFails, HasInsideFails}
-use Rattle.hotel_statements.specs.Failures.{NoteFails, NumbersFail}
-use Rattle.hotel_statements.specs.Failures.{ArrivalsFail, InHouseFails, ChainFails, LeftBehindFails, AuditFails}
-use Rattle.hotel_statements.specs.Failures.{RoomStatusFails, CardsInsideFail, BookingsFail, AvailabilityFails}
-use Rattle.hotel_statements.specs.Failures.{CardsGivenFail}
+use Rattle.hotel_statements.specs.Failures.{NoteFails, NumbersFail, ListFails, WalkedList}
 use Rattle.hotel_tables.specs.Applied.{known_for}
 
 -- One of the desk's look-ups or walks fails, of a connection from old to new.
@@ -37,16 +34,7 @@ pub data LookUpFails (old new : State) : Type 0 where
   of_has_inside : (room : ℕ) → HasInsideFails room old new → LookUpFails old new
   of_note : (room : ℕ) → NoteFails room old new → LookUpFails old new
   of_numbers : NumbersFail old new → LookUpFails old new
-  of_arrivals : (day : ℕ) → ArrivalsFail day old new → LookUpFails old new
-  of_in_house : InHouseFails old new → LookUpFails old new
-  of_chain : (room : ℕ) → ChainFails room old new → LookUpFails old new
-  of_left_behind : LeftBehindFails old new → LookUpFails old new
-  of_audit : (room : ℕ) → AuditFails room old new → LookUpFails old new
-  of_room_status : RoomStatusFails old new → LookUpFails old new
-  of_cards_inside : CardsInsideFail old new → LookUpFails old new
-  of_bookings : BookingsFail old new → LookUpFails old new
-  of_availability : AvailabilityFails old new → LookUpFails old new
-  of_cards_given : (party : ℕ) → CardsGivenFail party old new → LookUpFails old new
+  of_list : (list : WalkedList) → ListFails list old new → LookUpFails old new
 
 -- ---- changes
 

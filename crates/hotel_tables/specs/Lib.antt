@@ -1,6 +1,7 @@
 -- The definitions of this crate.
 pub mod Applied
 pub mod StopLaws
+pub mod ChangesStay
 pub mod Counted
 pub mod TableBooks
 pub mod Causes

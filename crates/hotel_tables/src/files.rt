@@ -17,6 +17,11 @@ use std::hash::{BuildHasher, RandomState};
 /// however often the log has it, so that a longer log copies fewer pages for each change.
 const CHECKPOINT_FRAMES: usize = 4_000;
 
+/// The log has 4,000 pages before it is copied.
+pub fn limits_are()
+    ensures { CHECKPOINT_FRAMES ≡ 4000 }
+{}
+
 /// The fault of a file that couldn't be opened as a database.
 fn connect_fault(error: Error) -> FileFault
     ensures { result ≡ connect_fault error }
@@ -50,6 +55,7 @@ fn books_of<S: Alter + Drop>(
 
 /// The options of a connection, with a salt that is drawn at random for its log.
 fn drawn_options(rt: &HostRuntime) -> Result<Options, Error>
+    ensures memory { IfOk result (λ options. (options.cache_pages ≡ 2000) × (options.spill_pages ≡ 2000)) }
     ensures log { IfOk result (λ options. options.checkpoint_frames ≡ CHECKPOINT_FRAMES) }
     ensures refused { IfErr result (λ e. e ≡ Error.SqliteFailure ErrorCode.CannotOpen) }
 {
@@ -68,6 +74,8 @@ fn files_at<D: PathDisk>(rt: &HostRuntime, path: &str) -> Result<(Files<D>, Opti
     ensures parts { IfOk result (λ opened. AreParts D.PathDisk.is_part opened.0) }
     ensures log { IfOk result (λ opened. IsTrue (D.Disk.is_usable opened.0.log)) }
     ensures db { IfOk result (λ opened. IsTrue (D.Disk.is_usable opened.0.db)) }
+    ensures memory { IfOk result (λ opened. (opened.1.cache_pages ≡ 2000) × (opened.1.spill_pages ≡ 2000)) }
+    ensures frames { IfOk result (λ opened. opened.1.checkpoint_frames ≡ CHECKPOINT_FRAMES) }
 {
     let files = D::open(rt, path)?;
     let options = drawn_options(rt)?;

@@ -6,7 +6,7 @@
 //!   it.
 //! - src: create, apply; Applied, Exits: a new desk and each change, as one transaction each.
 //! - src: desk_schema, entering, opening, migration, open_books, laws; Opening, Reopening: an opening, the upgrade in
-//!   it, and a close.
+//!   it, and a close. ChangesStay: what a crash leaves of the rows.
 //! - specs: Causes: why a call answers Store. Why there are no books is told by `hotel_rows`' `OpenFault`.
 //! - src: path_disk, system_disk, files; Paths, Files: disks opened at a path; the books of a file.
 #![tactic(auto)]
@@ -30,7 +30,7 @@ pub use hotel_rows::{
     FileFault, OpenFault, PlainCard, PlainCode, PlainFit, PlainInside, PlainKind, PlainNote,
     PlainRoom, PlainStay, Stored, TableName, first_damaged, undamaged_is_sound,
 };
-pub use laws::{files_are_clean, files_keep_books, memory_is_clean, read_undamaged};
+pub use laws::{changes_stay, files_are_clean, files_keep_books, memory_is_clean, read_undamaged};
 pub use path_disk::PathDisk;
 pub use system_disk::SystemDisk;
 pub use table_books::TableBooks;

@@ -114,7 +114,7 @@ room,fit,count,kind,card,old,new,at
         path: b"/business-day",
         text: b"day\n2031-05-01\n",
         calls: 1,
-        unwritten: 0,
+        unwritten: 1,
     },
     Asked {
         line: b"room-status",

@@ -19,6 +19,8 @@ mod failing_walks;
 #[cfg(test)]
 mod lists;
 #[cfg(test)]
+mod lone_locks;
+#[cfg(test)]
 mod one_byte;
 #[cfg(test)]
 mod stopped_commands;

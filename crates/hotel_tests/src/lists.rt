@@ -1,14 +1,16 @@
 //! Lists by their own calls, over books in memory.
 use hotel_asks::{Ask, ListAsk};
 use hotel_core::Walks;
+use hotel_core::lists::CardsGiven;
 use hotel_lists::{
-    ListFault, arrivals, audit_of, availability, bookings, business_day, card_of, cards_given,
-    chain_of, in_house, inside, left_behind, locks, room_status,
+    ListFault, arrivals, audit_of, availability, bookings, business_day, card_of, chain_of,
+    in_house, inside, left_behind, locks, room_status, write_rows,
 };
 use hotel_scenarios::chains::walks_end;
 use hotel_scenarios::desks::Desk;
 use hotel_scenarios::line_asks::ask_of;
 use hotel_scenarios::scenarios::{CHECKED_IN, LEFT_BEHIND_RECODED, NEXT_CHECKED_IN, OPENED};
+use hotel_streams::IoCalls;
 use std::alloc::Global;
 use std::io::Write;
 use std::test::Fail;
@@ -39,7 +41,10 @@ pub(crate) fn write_alone<B: Walks, W: Write>(
         ListAsk::Inside => inside(alloc, books, writer),
         ListAsk::Bookings => bookings(alloc, books, writer),
         ListAsk::Availability(day, nights) => availability(alloc, books, *day, *nights, writer),
-        ListAsk::CardsGiven(party) => cards_given(alloc, books, *party, writer),
+        ListAsk::CardsGiven(party) => {
+            let mut calls = IoCalls::none();
+            write_rows(alloc, books, &CardsGiven(*party), writer, &mut calls)
+        }
         ListAsk::CardOf(number) => card_of(alloc, books, *number, writer),
         ListAsk::Locks => locks(alloc, books, writer),
     }

@@ -1,8 +1,9 @@
 //! Imports that are stopped by a call of the books that fails, and the same file sent again.
 
 use crate::causes::{CAUSES, counts, counts_of};
-use hotel_audit::{AuditFault, ImportFault, LineAnswer, import};
+use hotel_audit::{ImportFault, LineAnswer, import};
 use hotel_core::Books;
+use hotel_lock::AuditFault;
 use hotel_scenarios::sent_again::{
     CUT, LATE, REPLACED_TWICE, Sent, TWICE, TWICE_WITH_FITS, comes_again,
 };

@@ -1,7 +1,10 @@
 //! The scenario `value-readers`; `.ci/bytes` gives each reader of values more texts, and that of locks its own, by the
 //! words of the built program.
+use hotel_asks::{AskFault, ValueFault, ValueName};
 use hotel_nights::{Day, Guest, GuestFault};
 use keycard_rules::{CardNo, Chain, Code, Link, Turned};
+use std::alloc::Global;
+use std::error::Error;
 use std::process::Abort;
 use std::test::Fail;
 
@@ -40,5 +43,21 @@ fn value_readers_of_a_chain(rt: HostRuntime) -> Result<(), Fail> {
         after: new_code,
     };
     assert!(rt; chain.enter(&link) == Some(turned));
+    Ok(())
+}
+
+fn prints<E: Error>(alloc: Global, fault: &E, text: &str) -> Result<bool, Fail> {
+    Ok(fault.to_string(alloc)?.as_str() == text)
+}
+
+/// Faults of values print what the program says of them, without a line feed.
+#[test]
+fn faults_of_values_printed(rt: HostRuntime) -> Result<(), Fail> {
+    let alloc = rt.alloc();
+    let unread = ValueFault::Value(ValueName::Nights);
+    assert!(rt; prints(alloc, &unread, "unread NIGHTS")?);
+    assert!(rt; prints(alloc, &ValueFault::Number, "too few or too many values")?);
+    assert!(rt; prints(alloc, &AskFault::Values(unread), "unread NIGHTS")?);
+    assert!(rt; prints(alloc, &AskFault::Memory, "memory")?);
     Ok(())
 }

@@ -5,11 +5,8 @@ ghost use Rattle.stopping_books.specs.Stops.{CountsFailure, EndsAs, IsLeft, Make
 
 use crate::calls::Calls;
 use crate::stopping_books::StoppingBooks;
-use hotel_core::{
-    BehindRow, ChainRow, FreeRow, HouseRow, InsideRow, Sink, StatusRow, Stop, WalkFault, Walks,
-};
-use hotel_nights::{Day, Nights, Stay};
-use keycard_rules::{Card, LockNote, LookFault, PartyNo, RoomNo};
+use hotel_core::{Sink, Stop, WalkFault, WalkedInMemory, Walks, WalksOf};
+use keycard_rules::LookFault;
 
 /// A sink that hands rows on to another one, up to the call that fails.
 #[derive(Drop)]
@@ -97,81 +94,12 @@ impl StoppingBooks {
     }
 }
 
-impl Walks for StoppingBooks {
-    fn walk_arrivals<S: Sink<Stay>>(&mut self, day: Day, sink: &mut S) -> Result<(), WalkFault> {
+impl<L: WalkedInMemory> WalksOf<L> for StoppingBooks {
+    fn walk<S: Sink<L::Row>>(&mut self, list: &L, sink: &mut S) -> Result<(), WalkFault> {
         let mut passing = Passing::new(sink, self.calls);
-        let end = self.books.walk_arrivals(day, &mut passing);
-        self.ended(end, passing.calls, passing.failed)
-    }
-
-    fn walk_in_house<S: Sink<HouseRow>>(&mut self, sink: &mut S) -> Result<(), WalkFault> {
-        let mut passing = Passing::new(sink, self.calls);
-        let end = self.books.walk_in_house(&mut passing);
-        self.ended(end, passing.calls, passing.failed)
-    }
-
-    fn walk_chain<S: Sink<ChainRow>>(
-        &mut self,
-        room: RoomNo,
-        sink: &mut S,
-    ) -> Result<(), WalkFault> {
-        let mut passing = Passing::new(sink, self.calls);
-        let end = self.books.walk_chain(room, &mut passing);
-        self.ended(end, passing.calls, passing.failed)
-    }
-
-    fn walk_left_behind<S: Sink<BehindRow>>(&mut self, sink: &mut S) -> Result<(), WalkFault> {
-        let mut passing = Passing::new(sink, self.calls);
-        let end = self.books.walk_left_behind(&mut passing);
-        self.ended(end, passing.calls, passing.failed)
-    }
-
-    fn walk_audit<S: Sink<LockNote>>(
-        &mut self,
-        room: RoomNo,
-        sink: &mut S,
-    ) -> Result<(), WalkFault> {
-        let mut passing = Passing::new(sink, self.calls);
-        let end = self.books.walk_audit(room, &mut passing);
-        self.ended(end, passing.calls, passing.failed)
-    }
-
-    fn walk_room_status<S: Sink<StatusRow>>(&mut self, sink: &mut S) -> Result<(), WalkFault> {
-        let mut passing = Passing::new(sink, self.calls);
-        let end = self.books.walk_room_status(&mut passing);
-        self.ended(end, passing.calls, passing.failed)
-    }
-
-    fn walk_inside<S: Sink<InsideRow>>(&mut self, sink: &mut S) -> Result<(), WalkFault> {
-        let mut passing = Passing::new(sink, self.calls);
-        let end = self.books.walk_inside(&mut passing);
-        self.ended(end, passing.calls, passing.failed)
-    }
-
-    fn walk_bookings<S: Sink<Stay>>(&mut self, sink: &mut S) -> Result<(), WalkFault> {
-        let mut passing = Passing::new(sink, self.calls);
-        let end = self.books.walk_bookings(&mut passing);
-        self.ended(end, passing.calls, passing.failed)
-    }
-
-    fn walk_availability<S: Sink<FreeRow>>(
-        &mut self,
-        day: Day,
-        nights: Nights,
-        sink: &mut S,
-    ) -> Result<(), WalkFault> {
-        let mut passing = Passing::new(sink, self.calls);
-        let end = self.books.walk_availability(day, nights, &mut passing);
-        self.ended(end, passing.calls, passing.failed)
-    }
-
-    fn walk_cards_given<S: Sink<Card>>(
-        &mut self,
-        party: PartyNo,
-        sink: &mut S,
-    ) -> Result<(), WalkFault> {
-        let mut passing = Passing::new(sink, self.calls);
-        let end = self.books.walk_cards_given(party, &mut passing);
+        let end = self.books.walk(list, &mut passing);
         self.ended(end, passing.calls, passing.failed)
     }
 }
+
+impl Walks for StoppingBooks {}

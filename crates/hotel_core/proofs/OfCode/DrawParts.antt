@@ -114,7 +114,10 @@ undrawn {K = K} {B = B} {start = start} {old = old} {new = new} {source = source
           );
       counted = λ honest w why. counted_told (failure_in (Refused e)) why _ _ _
           (s.counted (d.leaves.since.was_honest honest) why) (d.leaves.counted honest why);
-      stop = inl (K.no_more_trans _ _ _ s.stop d.stop);
+      stop = inl (
+        K.no_more_trans _ _ _ s.stop d.stop,
+        λ clean. d.same clean ∙ s.same (d.leaves.since.was_clean clean),
+      );
     })
 
 made_after : (b : Bool) (o : Outcome Change) (draw : Draw) (code : ℕ) (reply_with : ℕ → Reply)
@@ -189,7 +192,7 @@ drawn_ends {K = K} {B = B} {start = start} {old = old} {mid = mid} {new = new} {
           (counted_none why _ _ _ (s.counted (d.leaves.since.was_honest then) why) (d.leaves.counted then why))
           (t.counted honest (λ then. subst AreWhole (sym (d.same then ∙ s.same (d.leaves.since.was_clean then)))
           (w (s.since.was_clean (d.leaves.since.was_clean then)))) why);
-      stop = stops_from K B outcome (λ _. accepted (reply_with code) (change_with code)) start mid new after
+      stop = stops_from K B outcome (λ _. accepted (reply_with code) (change_with code)) start mid new after t.since
           (λ then. s.since.was_clean (d.leaves.since.was_clean then))
           (λ then. d.same then ∙ s.same (d.leaves.since.was_clean then)) (K.no_more_trans _ _ _ s.stop d.stop)
           (λ honest clean. d.leaves.vouched (t.since.was_honest honest) refl)

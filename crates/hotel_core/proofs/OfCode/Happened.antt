@@ -1,7 +1,7 @@
 -- What happened, also where books failed for good.
 use Rattle.std.proofs.Common.{◌≡◌, ◌⊎◌, Bool, true, false, inl, inr, refl, ap, sym, ◌∙◌, subst, arith}
 use Rattle.hotel_core.specs.{Refinement.StepOnRows.IsMadeWith, Refinement.StepOnRows.StopsIn}
-use Rattle.hotel_core.specs.{Books.Stepped.StopsStep}
+use Rattle.hotel_core.specs.{Books.Stops.StopsStep}
 use Rattle.hotel_model.specs.Leads.{Leads}
 use Rattle.hotel_core.proofs.Names.{Change, Outcome, Rows, answered, grown, made, made_by, past}
 use Rattle.hotel_core.proofs.Names.{Stream, words, Command, Reply, History, rows_of, Reached, Steps, StepsIf}

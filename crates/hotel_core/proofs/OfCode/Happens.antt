@@ -2,23 +2,26 @@
 use Rattle.std.proofs.Common.{◌≡◌, ◌∙◌, Bool, true, false, List, [], ◌∷◌, ◌++◌, length, map, zip, refl, sym, ap, arith}
 use Rattle.std.proofs.Common.{subst}
 use Rattle.hotel_core.proofs.Names.{Stream, Command, History, Reply, Rows, Runs, Passes, failure_in}
-use Rattle.hotel_core.proofs.Names.{StepsIf, false≢true, is_failed, rows_of, start}
+use Rattle.hotel_core.proofs.Names.{StepsIf, false≢true, rows_of, start}
 use Rattle.hotel_model.proofs.Starts.StartRows.{rows_of_start}
-use Rattle.hotel_model.proofs.{Invariants.Assurance.assured, LeadsOn.leads_of}
+use Rattle.hotel_model.proofs.{Invariants.Assurance.assured, LeadsOn.leads_of, RefusalsKept.refusals_keep}
 use Rattle.hotel_core.specs.Books.Happens.{Happens}
-use Rattle.hotel_core.specs.Books.Stepped.{Stepped, FailuresKeep, RunsFollow, StepsLead}
+use Rattle.hotel_core.specs.Books.Stepped.{Stepped, RefusalsKeepRows, RunsFollow, StepsLead}
 use Rattle.hotel_model.specs.Leads.{Leads}
 use Rattle.keycard_rules.specs.Leaves.{Leaves}
 use Rattle.keycard_rules.proofs.CallsTogether.{together}
 use Rattle.keycard_rules.specs.declared.kept.Kept.{Ghosts as KeptOf}
+use Rattle.hotel_core.specs.Books.Stops.{StopsThrough}
+use Rattle.hotel_core.proofs.{Names.Ghosts as BooksOf, OfCode.StopsAfter.no_stops}
+use Rattle.hotel_core.proofs.OfCode.StopsAfter.{stops_once, stops_then}
 
 -- what happened over books that are clean as it ends led on from the history that they stood for
 pub clean_leads : {S : Type 0} (K : KeptOf S) (rows : S → Rows) {went : History → History → Type 0} {old new : S}
     → Happens K rows old went new → K.is_clean new → Leads (rows old) went (rows new)
 clean_leads K rows {new = new} happened clean = leads_of clean (happened (K.clean_honest new clean))
 
-pub steps_lead : {S : Type 0} (K : KeptOf S) (rows : S → Rows) → StepsLead K rows
-steps_lead K rows old new asked step clean = clean_leads K rows step.happened clean
+pub steps_lead : {S : Type 0} (K : KeptOf S) (B : BooksOf S) → StepsLead K B
+steps_lead K B old new asked step clean = clean_leads K B.rows step.happened clean
 
 pub kept_by : (failed : Bool) (h : History) (s : Stream) (command : Command) (reply : Reply) (h' : History)
     (s' : Stream)
@@ -27,18 +30,18 @@ kept_by true h s command reply h' s' e step = step.0
 kept_by false h s command reply h' s' e step = absurd (false≢true e)
 
 -- sound rows are those of a history
-pub failures_keep : {S : Type 0} (K : KeptOf S) (rows : S → Rows) → FailuresKeep K rows
-failures_keep K rows old new asked step clean sound failed =
-    let h = start (rows old.0) in
-    let stands = sym (rows_of_start (rows old.0) sound) in
+pub refusals_keep_rows : {S : Type 0} (K : KeptOf S) (B : BooksOf S) → RefusalsKeepRows K B
+refusals_keep_rows K B old new asked step clean sound tells =
+    let h = start (B.rows old.0) in
+    let stands = sym (rows_of_start (B.rows old.0) sound) in
     let p = step.happened (K.clean_honest new.0 clean) h sound (λ _. stands) in
-    let same = kept_by (is_failed asked.1) h old.1 asked.0 asked.1 p.0 new.1 failed p.3 in
+    let same = refusals_keep h p.0 old.1 new.1 asked.0 asked.1 p.3 tells in
     p.2 clean ∙ ap rows_of same ∙ sym stands
 
-module _ {S : Type 0} (K : KeptOf S) (rows : S → Rows) where
+module _ {S : Type 0} (K : KeptOf S) (B : BooksOf S) where
   -- each command's call
   calls_of : (old new : S × Stream) (commands : List Command) (replies : List Reply)
-      → length replies ≡ length commands → Passes (Stepped K rows) old (zip commands replies) new
+      → length replies ≡ length commands → Passes (Stepped K B) old (zip commands replies) new
       → Passes (Leaves K) old.0 (map failure_in replies) new.0
   calls_of old new [] [] e p = ap (λ (s : S × Stream). s.0) p
   calls_of old new [] (reply ∷ replies) e p = absurd (omega (arith, e))
@@ -48,10 +51,10 @@ module _ {S : Type 0} (K : KeptOf S) (rows : S → Rows) where
 
   -- each command is a step of the run
   runs : (old new : S × Stream) (commands : List Command) (replies : List Reply)
-      → length replies ≡ length commands → Passes (Stepped K rows) old (zip commands replies) new
-      → Happens K rows old.0 (λ h h'. Runs h old.1 commands replies h' new.1) new.0
+      → length replies ≡ length commands → Passes (Stepped K B) old (zip commands replies) new
+      → Happens K B.rows old.0 (λ h h'. Runs h old.1 commands replies h' new.1) new.0
   runs old new [] [] e p =
-      subst (λ (s : S × Stream). Happens K rows old.0 (λ h h'. Runs h old.1 [] [] h' s.1) s.0) (sym p)
+      subst (λ (s : S × Stream). Happens K B.rows old.0 (λ h h'. Runs h old.1 [] [] h' s.1) s.0) (sym p)
       (λ honest h reached stands. (h, reached, stands, (refl, refl), assured h reached))
   runs old new [] (reply ∷ replies) e p = absurd (omega (arith, e))
   runs old new (command ∷ commands) [] e p = absurd (omega (arith, e))
@@ -62,14 +65,22 @@ module _ {S : Type 0} (K : KeptOf S) (rows : S → Rows) where
       let l = runs p.0 new commands replies n p.2 honest k.0 k.1 k.2 in
       (l.0, l.1, l.2, (k.0, p.0.1, k.3, l.3), l.4)
 
-  pub runs_follow : RunsFollow K rows
+  -- and each leaves to a stop what a command does
+  stops_of : (old new : S × Stream) (asked : List (Command × Reply)) → Passes (Stepped K B) old asked new
+      → StopsThrough K B old.0 new.0
+  stops_of old new [] p = no_stops (ap (λ (s : S × Stream). s.0) p)
+  stops_of old new (first ∷ later) p =
+      stops_then (stops_once old.1 first.0 p.1.leaves.since p.1.stop) (stops_of p.0 new later p.2)
+
+  pub runs_follow : RunsFollow K B
   runs_follow old new commands replies r =
       let calls = calls_of old new commands replies r.each r.through in
       record {
         happened = runs old new commands replies r.each r.through;
-        led = clean_leads K rows (runs old new commands replies r.each r.through);
+        led = clean_leads K B.rows (runs old new commands replies r.each r.through);
         calls = calls;
         leaves = together K old.0 new.0 (map failure_in replies) calls;
+        stops = stops_of old new (zip commands replies) r.through;
       }
 
 -- two lists of one length beside each other, with one more at the end of each

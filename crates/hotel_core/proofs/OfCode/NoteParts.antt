@@ -50,7 +50,7 @@ excluded {source = source} s h = record {
   moved = λ honest k. inl refl;
   counted = λ honest w why.
       let clean = s.vouched refl honest in absurd (h (w (s.since.was_clean clean)) (s.facts_hold clean));
-  stop = inl s.stop;
+  stop = inl (s.stop, s.same);
 }
 
 -- an answer that changes nothing, where the checks come to it
@@ -67,7 +67,7 @@ says {B = B} {start = start} {now = now} {outcome = outcome} {source = source} a
   stays = stays_so s;
   moved = λ honest e. absurd (false≢true (sym k ∙ e));
   counted = λ honest w why. none_more _ why _ _ (untold answer k) (s.counted honest why);
-  stop = inl s.stop;
+  stop = inl (s.stop, s.same);
 }
   where
     said_at : (b : Bool) (answer : Reply) (o : Outcome Change) (rows later : Rows) (source : Stream)

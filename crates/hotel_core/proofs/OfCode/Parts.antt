@@ -127,7 +127,10 @@ stopped_by {K = K} {B = B} {are_whole = are_whole} {wanted = wanted} {start = st
       counted = λ honest w why. counted_told (failure_in (Refused e)) why _ _ _
           (s.counted (f.since.was_honest honest) why) (f.counted honest (λ k before. subst are_whole
           (sym (s.same before)) (whole (w (s.since.was_clean before)) (s.facts_hold before))) why);
-      stop = inl (K.no_more_trans _ _ _ s.stop f.stop);
+      stop = inl (
+        K.no_more_trans _ _ _ s.stop f.stop,
+        λ clean. f.same clean ∙ s.same (f.since.was_clean clean),
+      );
     }
 
 -- the reply of a refusal that was passed on
@@ -179,7 +182,7 @@ refuses {B = B} {start = start} {now = now} {outcome = outcome} {source = source
   stays = stays_so s;
   moved = λ honest e. absurd (false≢true (sym k ∙ e));
   counted = λ honest w cause. none_more _ cause _ _ (untold (Refused why) k) (s.counted honest cause);
-  stop = inl s.stop;
+  stop = inl (s.stop, s.same);
 }
 
 -- where the source moved by what a step examines, it did by what an equal one does
@@ -193,15 +196,17 @@ moved_as mid was n m source rest h (inr (c, k)) = let d = h c in inr (d.0, subst
 
 -- what the end of a step says of a stop, it says of one from the start, where nothing new was left before it
 pub stops_from : {S : Type 0} (K : KeptOf S) (B : BooksOf S) (outcome last : Rows → Outcome Change) (start mid new : S)
-    → ChangesAfter K B.rows B.leaves_change → (K.is_clean mid → K.is_clean start)
+    → ChangesAfter K B.rows B.leaves_change → Since K mid new → (K.is_clean mid → K.is_clean start)
     → (K.is_clean mid → B.rows mid ≡ B.rows start) → K.leaves_no_more start mid
     → (K.is_honest new → K.is_clean start → K.is_clean mid)
     → ((change : Change) → K.is_clean mid → IsMadeWith change (last (B.rows mid))
     → IsMadeWith change (outcome (B.rows start)))
     → StopsIn K B last mid new → StopsIn K B outcome start new
-stops_from K B outcome last start mid new after was same before still as_last (inl none) =
-    inl (K.no_more_trans start mid new before none)
-stops_from K B outcome last start mid new after was same before still as_last (inr (change, stop, made)) = inr (
+stops_from K B outcome last start mid new after since was same before still as_last (inl (none, kept)) = inl (
+  K.no_more_trans start mid new before none,
+  λ clean. kept clean ∙ same (since.was_clean clean),
+)
+stops_from K B outcome last start mid new after since was same before still as_last (inr (change, stop, made)) = inr (
   change,
   after change start mid new was same before stop,
   λ honest clean. let then = still honest clean in as_last change then (made honest then),
@@ -233,7 +238,7 @@ ends {K = K} {B = B} {start = start} {old = old} {new = new} {outcome = outcome}
           )) (t.moved honest k);
       counted = λ honest w why. counted_told (failure_in answer) why _ _ _ (s.counted (t.since.was_honest honest) why)
           (t.counted honest (λ before. subst AreWhole (sym (s.same before)) (w (s.since.was_clean before))) why);
-      stop = stops_from K B outcome last start old new after s.since.was_clean s.same s.stop
+      stop = stops_from K B outcome last start old new after t.since s.since.was_clean s.same s.stop
           (λ honest clean. s.stays (t.since.was_honest honest) clean)
           (λ change then made_so. subst (λ o. IsMadeWith change o)
           (ap last (s.same then) ∙ sym (h (s.facts_hold then))) made_so) t.stop;

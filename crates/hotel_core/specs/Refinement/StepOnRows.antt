@@ -11,15 +11,17 @@ use Rattle.hotel_model.specs.{Refinement.OnRows.outcome_on, Run.is_failed, Range
 use Rattle.hotel_core.specs.Books.Failures.{failure_in}
 use Rattle.keycard_rules.specs.declared.kept.Kept.{Ghosts as KeptOf}
 use Rattle.hotel_core.specs.declared.books.Books.{Ghosts as BooksOf}
+use Rattle.hotel_core.specs.Books.Stops.{StopsIdle}
 
 -- this change happens, and the reply is in its ranges
 abbrev pub IsMadeWith : Change → Outcome Change → Type 0
 IsMadeWith change o = (o.happens ≡ Some change) × IsReply o.reply × (is_failed o.reply ≡ false)
 
--- A stop in a part of a step, or after it, from the state old to new, leaves nothing new, or what the books say of one
--- change: the one that the outcome says, where the state was clean and is honest at the end.
+-- A stop in a part of a step, or after it, from the state old to new, leaves nothing new, and no row changed, where the
+-- state is clean at the end; or it leaves what the books say of one change: the one that the outcome says, where the
+-- state was clean and is honest at the end.
 abbrev pub StopsIn : {S : Type 0} → KeptOf S → BooksOf S → (Rows → Outcome Change) → (old new : S) → Type 0
-StopsIn K B outcome old new = K.leaves_no_more old new
+StopsIn K B outcome old new = StopsIdle K B old new
     ⊎ ((change : Change) × B.leaves_change change old new
     × (K.is_honest new → K.is_clean old → IsMadeWith change (outcome (B.rows old))))
 

@@ -9,13 +9,11 @@ ghost use Rattle.hotel_core.specs.Books.Reads.{LooksUp, is_any};
 ghost use Rattle.hotel_core.specs.{Books.Walks.failure_of, declared.books.walks.WalkFault.TheVariants.Store};
 
 use crate::books::Books;
-use crate::books::walks::{Sink, WalkFault, Walks};
+use crate::books::walks::{Sink, WalkFault, Walks, WalksOf};
+use crate::memory::table_walks::WalkedInMemory;
 use crate::memory::tables::Tables;
-use hotel_model::{
-    BehindRow, ChainRow, Change, FitRow, FreeRow, HouseRow, InsideRow, NextNumbers, RoomRow,
-    StatusRow,
-};
-use hotel_nights::{Day, Guest, KindCode, Nights, Stay};
+use hotel_model::{Change, FitRow, NextNumbers, RoomRow};
+use hotel_nights::{Day, Guest, KindCode, Stay};
 use keycard_rules::{
     Card, CardNo, Code, Count, FitNo, Issued, Kept, LockNote, LookFault, PartyNo, RoomNo,
 };
@@ -251,62 +249,11 @@ impl Books for ListBooks {
     ghost issued_are = { λ a. refl };
 }
 
-impl Walks for ListBooks {
-    fn walk_arrivals<S: Sink<Stay>>(&mut self, day: Day, sink: &mut S) -> Result<(), WalkFault> {
-        self.tables.walk_arrivals(day, sink)
-    }
-
-    fn walk_in_house<S: Sink<HouseRow>>(&mut self, sink: &mut S) -> Result<(), WalkFault> {
-        let end = self.tables.walk_in_house(sink);
+impl<L: WalkedInMemory> WalksOf<L> for ListBooks {
+    fn walk<S: Sink<L::Row>>(&mut self, list: &L, sink: &mut S) -> Result<(), WalkFault> {
+        let end = list.walk_tables(&self.tables, sink);
         self.ended(end)
     }
-
-    fn walk_chain<S: Sink<ChainRow>>(
-        &mut self,
-        room: RoomNo,
-        sink: &mut S,
-    ) -> Result<(), WalkFault> {
-        self.tables.walk_chain(room, sink)
-    }
-
-    fn walk_left_behind<S: Sink<BehindRow>>(&mut self, sink: &mut S) -> Result<(), WalkFault> {
-        self.tables.walk_left_behind(sink)
-    }
-
-    fn walk_audit<S: Sink<LockNote>>(
-        &mut self,
-        room: RoomNo,
-        sink: &mut S,
-    ) -> Result<(), WalkFault> {
-        self.tables.walk_audit(room, sink)
-    }
-
-    fn walk_room_status<S: Sink<StatusRow>>(&mut self, sink: &mut S) -> Result<(), WalkFault> {
-        self.tables.walk_room_status(sink)
-    }
-
-    fn walk_inside<S: Sink<InsideRow>>(&mut self, sink: &mut S) -> Result<(), WalkFault> {
-        self.tables.walk_inside(sink)
-    }
-
-    fn walk_bookings<S: Sink<Stay>>(&mut self, sink: &mut S) -> Result<(), WalkFault> {
-        self.tables.walk_bookings(sink)
-    }
-
-    fn walk_availability<S: Sink<FreeRow>>(
-        &mut self,
-        day: Day,
-        nights: Nights,
-        sink: &mut S,
-    ) -> Result<(), WalkFault> {
-        self.tables.walk_availability(day, nights, sink)
-    }
-
-    fn walk_cards_given<S: Sink<Card>>(
-        &mut self,
-        party: PartyNo,
-        sink: &mut S,
-    ) -> Result<(), WalkFault> {
-        self.tables.walk_cards_given(party, sink)
-    }
 }
+
+impl Walks for ListBooks {}

@@ -1,24 +1,37 @@
-//! Walks over the tables in memory.
+//! Walks over the tables in memory, each list's own.
 ghost use Rattle.std.specs.Prelude.{◌≡◌, false, IfOk, IsOk, Err, None, filter_map, is_some};
 ghost use Rattle.std.specs.List.{range_with_len};
-ghost use Rattle.hotel_model.specs.Refinement.ListsOnRows.{arrivals_on, in_house_on, chain_on};
-ghost use Rattle.hotel_model.specs.Refinement.ListsOnRows.{left_behind_on, house_row_on, chain_row_on};
-ghost use Rattle.hotel_model.specs.Refinement.ListsOnRows.{behind_row_on, room_status_on, cards_inside_on};
-ghost use Rattle.hotel_model.specs.Refinement.ListsOnRows.{inside_row_on, bookings_on, availability_on};
-ghost use Rattle.hotel_model.specs.Refinement.ListsOnRows.{cards_given_on};
-ghost use Rattle.hotel_model.specs.{Lists.arrives_on, Lists.is_booking, Rows.notes_at};
-ghost use Rattle.hotel_core.specs.{Books.Reads.is_any, Books.Walks.Hands, Books.Walks.failure_of};
+ghost use Rattle.hotel_model.specs.Refinement.ListsOnRows.{house_row_on, chain_row_on, behind_row_on, inside_row_on};
+ghost use Rattle.hotel_model.specs.{Lists.arrives_on, Lists.is_booking};
+ghost use Rattle.hotel_core.specs.{Books.Walks.Hands, Books.Walks.failure_of};
 ghost use Rattle.hotel_core.specs.{declared.books.walks.WalkFault.TheVariants.Store};
 
 use crate::books::walks::{Sink, WalkFault};
 use crate::free_rows::free_row;
+use crate::lists::{
+    Arrivals, AuditOf, Availability, Bookings, CardsGiven, ChainOf, InHouse, Inside, LeftBehind,
+    Listed, RoomStatus,
+};
 use crate::memory::tables::Tables;
 use hotel_model::{
     BehindRow, ChainRow, CodeState, FreeRow, HouseRow, InsideRow, RoomRow, StatusRow,
 };
-use hotel_nights::{Day, Nights, Stay, StayState};
-use keycard_rules::{Card, CardNo, LockNote, PartyNo, RoomNo};
+use hotel_nights::{Day, Stay, StayState};
+use keycard_rules::{Card, CardNo, LockNote, RoomNo};
 use std::alloc::AllocError;
+
+/// A list that books in memory can walk.
+pub trait WalkedInMemory: Listed {
+    /// Hands its rows to a sink, in order, up to the first at which the sink stops.
+    fn walk_tables<S: Sink<Self::Row>>(
+        &self,
+        tables: &Tables,
+        sink: &mut S,
+    ) -> Result<(), WalkFault>
+        ensures hands { Hands S.after S.after_stop (Self.rows_on self.now tables.now) sink.old sink.new result }
+        ensures sure { Self.takes_memory tables.now ≡ false → failure_of result ≡ None }
+        ensures no_store { result ≡ Err Store → ⊥ };
+}
 
 /// Whether a stay is booked: not in house, done or cancelled.
 fn is_booking(stay: &Stay) -> bool
@@ -82,35 +95,6 @@ impl Tables {
         })
     }
 
-    pub(crate) fn walk_arrivals<S: Sink<Stay>>(
-        &self,
-        day: Day,
-        sink: &mut S,
-    ) -> Result<(), WalkFault>
-        ensures hands { Hands S.after S.after_stop (arrivals_on self.now day) sink.old sink.new result }
-        ensures sure { failure_of result ≡ None }
-    {
-        for stay in self.stays.map().values() {
-            if arrives(stay, day) {
-                sink.take(stay)?;
-            }
-        }
-        Ok(())
-    }
-
-    pub(crate) fn walk_in_house<S: Sink<HouseRow>>(&self, sink: &mut S) -> Result<(), WalkFault>
-        ensures hands { Hands S.after S.after_stop (in_house_on self.now) sink.old sink.new result }
-        ensures sure { is_any (in_house_on self.now) ≡ false → failure_of result ≡ None }
-        ensures no_store { result ≡ Err Store → ⊥ }
-    {
-        for row in self.rooms.values() {
-            if let Some(house) = self.house_row(row)? {
-                sink.take(&house)?;
-            }
-        }
-        Ok(())
-    }
-
     /// Walks the codes of a room that is there.
     fn walk_places<S: Sink<ChainRow>>(&self, row: &RoomRow, sink: &mut S) -> Result<(), WalkFault>
         ensures hands { Hands S.after S.after_stop (filter_map (chain_row_on self.now row.now)
@@ -121,53 +105,6 @@ impl Tables {
             if let Some(link) = self.chain_row(row, place) {
                 sink.take(&link)?;
             }
-        }
-        Ok(())
-    }
-
-    pub(crate) fn walk_chain<S: Sink<ChainRow>>(
-        &self,
-        room: RoomNo,
-        sink: &mut S,
-    ) -> Result<(), WalkFault>
-        ensures hands { Hands S.after S.after_stop (chain_on self.now room) sink.old sink.new result }
-        ensures sure { failure_of result ≡ None }
-    {
-        match self.room(room) {
-            Some(row) => self.walk_places(&row, sink),
-            None => Ok(()),
-        }
-    }
-
-    pub(crate) fn walk_left_behind<S: Sink<BehindRow>>(&self, sink: &mut S) -> Result<(), WalkFault>
-        ensures hands { Hands S.after S.after_stop (left_behind_on self.now) sink.old sink.new result }
-        ensures sure { failure_of result ≡ None }
-    {
-        for row in self.rooms.values() {
-            if let Some(behind) = self.behind_row(row) {
-                sink.take(&behind)?;
-            }
-        }
-        Ok(())
-    }
-
-    pub(crate) fn walk_audit<S: Sink<LockNote>>(
-        &self,
-        room: RoomNo,
-        sink: &mut S,
-    ) -> Result<(), WalkFault>
-        ensures hands { Hands S.after S.after_stop (notes_at self.now.notes room) sink.old sink.new result }
-        ensures sure { failure_of result ≡ None }
-    {
-        self.notes.walk(room, sink)
-    }
-
-    pub(crate) fn walk_room_status<S: Sink<StatusRow>>(&self, sink: &mut S) -> Result<(), WalkFault>
-        ensures hands { Hands S.after S.after_stop (room_status_on self.now) sink.old sink.new result }
-        ensures sure { failure_of result ≡ None }
-    {
-        for row in self.rooms.values() {
-            sink.take(&StatusRow::of_room(row))?;
         }
         Ok(())
     }
@@ -184,56 +121,128 @@ impl Tables {
             party,
         })
     }
+}
 
-    pub(crate) fn walk_inside<S: Sink<InsideRow>>(&self, sink: &mut S) -> Result<(), WalkFault>
-        ensures hands { Hands S.after S.after_stop (cards_inside_on self.now) sink.old sink.new result }
-        ensures sure { failure_of result ≡ None }
-    {
-        for pair in self.inside.set() {
-            if let Some(row) = self.inside_row(pair.0, pair.1) {
+impl WalkedInMemory for Arrivals {
+    fn walk_tables<S: Sink<Stay>>(&self, tables: &Tables, sink: &mut S) -> Result<(), WalkFault> {
+        for stay in tables.stays.map().values() {
+            if arrives(stay, self.0) {
+                sink.take(stay)?;
+            }
+        }
+        Ok(())
+    }
+}
+
+impl WalkedInMemory for InHouse {
+    fn walk_tables<S: Sink<HouseRow>>(
+        &self,
+        tables: &Tables,
+        sink: &mut S,
+    ) -> Result<(), WalkFault> {
+        for row in tables.rooms.values() {
+            if let Some(house) = tables.house_row(row)? {
+                sink.take(&house)?;
+            }
+        }
+        Ok(())
+    }
+}
+
+impl WalkedInMemory for ChainOf {
+    fn walk_tables<S: Sink<ChainRow>>(
+        &self,
+        tables: &Tables,
+        sink: &mut S,
+    ) -> Result<(), WalkFault> {
+        match tables.room(self.0) {
+            Some(row) => tables.walk_places(&row, sink),
+            None => Ok(()),
+        }
+    }
+}
+
+impl WalkedInMemory for LeftBehind {
+    fn walk_tables<S: Sink<BehindRow>>(
+        &self,
+        tables: &Tables,
+        sink: &mut S,
+    ) -> Result<(), WalkFault> {
+        for row in tables.rooms.values() {
+            if let Some(behind) = tables.behind_row(row) {
+                sink.take(&behind)?;
+            }
+        }
+        Ok(())
+    }
+}
+
+impl WalkedInMemory for AuditOf {
+    fn walk_tables<S: Sink<LockNote>>(
+        &self,
+        tables: &Tables,
+        sink: &mut S,
+    ) -> Result<(), WalkFault> {
+        tables.notes.walk(self.0, sink)
+    }
+}
+
+impl WalkedInMemory for RoomStatus {
+    fn walk_tables<S: Sink<StatusRow>>(
+        &self,
+        tables: &Tables,
+        sink: &mut S,
+    ) -> Result<(), WalkFault> {
+        for row in tables.rooms.values() {
+            sink.take(&StatusRow::of_room(row))?;
+        }
+        Ok(())
+    }
+}
+
+impl WalkedInMemory for Inside {
+    fn walk_tables<S: Sink<InsideRow>>(
+        &self,
+        tables: &Tables,
+        sink: &mut S,
+    ) -> Result<(), WalkFault> {
+        for pair in tables.inside.set() {
+            if let Some(row) = tables.inside_row(pair.0, pair.1) {
                 sink.take(&row)?;
             }
         }
         Ok(())
     }
+}
 
-    pub(crate) fn walk_bookings<S: Sink<Stay>>(&self, sink: &mut S) -> Result<(), WalkFault>
-        ensures hands { Hands S.after S.after_stop (bookings_on self.now) sink.old sink.new result }
-        ensures sure { failure_of result ≡ None }
-    {
-        for stay in self.stays.map().values() {
+impl WalkedInMemory for Bookings {
+    fn walk_tables<S: Sink<Stay>>(&self, tables: &Tables, sink: &mut S) -> Result<(), WalkFault> {
+        for stay in tables.stays.map().values() {
             if is_booking(stay) {
                 sink.take(stay)?;
             }
         }
         Ok(())
     }
+}
 
-    pub(crate) fn walk_availability<S: Sink<FreeRow>>(
+impl WalkedInMemory for Availability {
+    fn walk_tables<S: Sink<FreeRow>>(
         &self,
-        day: Day,
-        nights: Nights,
+        tables: &Tables,
         sink: &mut S,
-    ) -> Result<(), WalkFault>
-        ensures hands { Hands S.after S.after_stop (availability_on self.now day nights) sink.old sink.new result }
-        ensures sure { failure_of result ≡ None }
-    {
-        let index = self.stays.nights();
-        for kind in self.kinds.map().keys() {
-            let row = free_row(&self.kinds, index, self.day, kind, day, nights);
+    ) -> Result<(), WalkFault> {
+        let index = tables.stays.nights();
+        for kind in tables.kinds.map().keys() {
+            let row = free_row(&tables.kinds, index, tables.day, kind, self.0, self.1);
             sink.take(&row)?;
         }
         Ok(())
     }
+}
 
-    pub(crate) fn walk_cards_given<S: Sink<Card>>(
-        &self,
-        party: PartyNo,
-        sink: &mut S,
-    ) -> Result<(), WalkFault>
-        ensures hands { Hands S.after S.after_stop (cards_given_on self.now party) sink.old sink.new result }
-        ensures sure { failure_of result ≡ None }
-    {
-        self.cards.walk_given(party, sink)
+impl WalkedInMemory for CardsGiven {
+    fn walk_tables<S: Sink<Card>>(&self, tables: &Tables, sink: &mut S) -> Result<(), WalkFault> {
+        tables.cards.walk_given(self.0, sink)
     }
 }

@@ -29,7 +29,7 @@ type FitKey = (RoomNo, FitNo);
 
 /// The nine tables.
 #[derive(Drop)]
-pub(crate) struct Tables {
+pub struct Tables {
     pub(crate) alloc: Global,
     pub(crate) day: Option<Day>,
     pub(crate) kinds: KindRooms,

@@ -48,7 +48,8 @@ fresh_case : (h : History) (word : ℕ) (later : List ℕ) (c n : ℕ) (b : Bool
     → (cond b (record (draw_from (issued_codes h) later) { examined = n })
     (record { code = Some (code_of word); examined = 1 })).code
     ≡ Some c → is_fresh h c ≡ true
-fresh_case h word later c n false f ih e = let q : code_of word ≡ c = cc in subst (λ x. is_fresh h x ≡ true) q (ap not f)
+fresh_case h word later c n false f ih e =
+    let q : code_of word ≡ c = cc in subst (λ x. is_fresh h x ≡ true) q (ap not f)
 fresh_case h word later c n true f ih e = ih e
 
 -- a drawn code is fresh

@@ -1,5 +1,5 @@
 -- The rows of the lists, on the rows of a history and on the history itself.
-use Rattle.std.proofs.Common.{ℕ, zero, suc, ◌≡◌, ◌≤◌, ◌<◌, ◌+◌, ◌-◌, Bool, true, false, Option, Some, None, List, []}
+use Rattle.std.proofs.Common.{ℕ, zero, suc, ◌≡◌, ◌≤◌, ◌<◌, ◌+◌, ◌-◌, true, false, Option, Some, None, List, []}
 use Rattle.std.proofs.Common.{◌∷◌, ◌++◌, length, map, refl, ap, sym, ◌∙◌, arith, append_assoc, append-nil}
 use Rattle.std.proofs.Common.{length-append}
 use Rattle.std.proofs.Common.{◌==◌, ◌||◌, filter_map, option_map, nat_lt, nat_le, if◌then◌else◌}

@@ -1,5 +1,5 @@
 -- The present locks, off the rows that stand for a history and off the history.
-use Rattle.std.proofs.Common.{ℕ, suc, ◌≡◌, ◌≤◌, ◌-◌, ◌==◌, ◌||◌, Bool, true, false, Option, Some, None, List, [], ◌∷◌}
+use Rattle.std.proofs.Common.{ℕ, ◌≡◌, ◌≤◌, ◌-◌, ◌==◌, ◌||◌, true, Option, Some, None, List, [], ◌∷◌}
 use Rattle.std.proofs.Common.{length, map, filter_map, option_map, drop, if◌then◌else◌, arith, refl, ap, sym, ◌∙◌}
 use Rattle.std.specs.List.{last_or}
 use Rattle.hotel_nights.specs.Moments.{moment_of}

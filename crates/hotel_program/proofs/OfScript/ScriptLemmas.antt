@@ -11,6 +11,7 @@ use Rattle.std.specs.Prelude.{◌<◌, IfSome}
 use Rattle.std.specs.Io.KnownBytes.{Appends}
 use Rattle.std.proofs.KnownBytes.{Appends-trans, Appends-nil}
 use Rattle.keycard_rules.specs.{declared.kept.Kept.Ghosts as KeptOf, Leaves.Leaves}
+use Rattle.hotel_core.specs.declared.books.Books.{Ghosts as BooksOf}
 use Rattle.keycard_rules.proofs.CallsTogether.{passes_join, passes_push, together}
 use Rattle.rand_core.specs.Stream.{Stream}
 use Rattle.keycard_rules.proofs.Drawing.{past-zero}
@@ -22,8 +23,8 @@ use Rattle.hotel_model.specs.declared.reply.Refusal.TheVariants.{Memory}
 use Rattle.hotel_asks.specs.Asks.{ask_copies}
 use Rattle.keycard_rules.specs.Calls.{Told}
 use Rattle.hotel_core.specs.Books.Happens.{HappensBy}
+use Rattle.hotel_core.proofs.OfCode.StopsAfter.{no_stops, stops_then}
 use Rattle.hotel_program.specs.Script.Asks.{ask_in}
-use Rattle.hotel_model.specs.Rows.{Rows}
 use Rattle.hotel_model.specs.History.{History}
 use Rattle.hotel_core.specs.Texts.{reply_text}
 use Rattle.hotel_streams.specs.{Bytes.AppendsPrefix, declared.calls.WriteFailed.WriteFailed}
@@ -121,10 +122,10 @@ all_done all done h e =
           ∙ (ap (λ (ls : List (List ℕ)). take done all ++ ls) (sym e) ∙ take-append-drop done all),
     )
 
-module _ {S R W : Type 0} (K : KeptOf S) (rows : S → Rows) (stream : R → Stream) (contents : W → Option (List ℕ)) where
+module _ {S R W : Type 0} (K : KeptOf S) (own : BooksOf S) (stream : R → Stream) (contents : W → Option (List ℕ)) where
   -- lines that were answered went over the books
   abbrev Answered : S × R × W → List (List ℕ) → S × R × W → Type 0
-  Answered old ls new = HappensBy K rows old.0 (ScriptAnswered ls (stream old.1) (stream new.1) (contents old.2)
+  Answered old ls new = HappensBy K own old.0 (ScriptAnswered ls (stream old.1) (stream new.1) (contents old.2)
       (contents new.2) (K.is_clean new.0)) new.0
 
   none_answered : (old : S × R × W) → Answered old [] old
@@ -134,9 +135,10 @@ module _ {S R W : Type 0} (K : KeptOf S) (rows : S → Rows) (stream : R → Str
     happened = λ honest h reached stands.
         (h, reached, stands, ([], (refl, refl, refl), Appends-nil (contents old.2)), assured h reached);
     calls = refl;
+    stops = no_stops refl;
   }
 
-  answered : (old new : S × R × W) (ls : List (List ℕ)) → LinesAnswered K rows stream contents old ls new
+  answered : (old new : S × R × W) (ls : List (List ℕ)) → LinesAnswered K own stream contents old ls new
       → Answered old ls new
   unfolding ScriptGoes
   answered old new [] p = subst (λ x. Answered old [] x) (sym p) (none_answered old)
@@ -167,15 +169,16 @@ module _ {S R W : Type 0} (K : KeptOf S) (rows : S → Rows) (stream : R → Str
               l.4,
             );
         calls = passes_join (Leaves K) old.0 mid.0 new.0 one.told rest.told one.calls rest.calls;
+        stops = stops_then one.stops rest.stops;
       }
 
   -- and those before one that was cut short
   abbrev Cut : S × R × W → List (List ℕ) → S × R × W → Type 0
-  Cut old ls new = HappensBy K rows old.0 (ScriptCut ls (stream old.1) (stream new.1) (contents old.2)
+  Cut old ls new = HappensBy K own old.0 (ScriptCut ls (stream old.1) (stream new.1) (contents old.2)
       (contents new.2) (K.is_clean new.0)) new.0
 
   cut_last : (old mid new : S × R × W) (before : List (List ℕ)) (line : List ℕ) (failed : WriteFailed)
-      → Answered old before mid → LineEnds K rows stream contents (Err failed) mid line new
+      → Answered old before mid → LineEnds K own stream contents (Err failed) mid line new
       → Cut old (before ++ line ∷ []) new
   cut_last old mid new before line failed first last =
       let back = (together K mid.0 new.0 last.told last.calls).since in
@@ -206,9 +209,10 @@ module _ {S R W : Type 0} (K : KeptOf S) (rows : S → Rows) (stream : R → Str
               l.4,
             );
         calls = passes_join (Leaves K) old.0 mid.0 new.0 first.told last.told first.calls last.calls;
+        stops = stops_then first.stops last.stops;
       }
 
-  pub scripts_happen : ScriptsHappen K rows stream contents
+  pub scripts_happen : ScriptsHappen K own stream contents
   scripts_happen = record {
     answered = answered;
     cut = λ old new ls c. subst (λ (l : List (List ℕ)). Cut old l new) (sym c.2)
@@ -217,20 +221,20 @@ module _ {S R W : Type 0} (K : KeptOf S) (rows : S → Rows) (stream : R → Str
 
   -- one more line was answered, in the state that those before it left
   pub lines_next : (all : List (List ℕ)) (done : ℕ) (line : List ℕ) (later : List (List ℕ)) (old mid new : S × R × W)
-      → LinesAnswered K rows stream contents old (take done all) mid → drop done all ≡ line ∷ later
-      → ScriptLineHappens K rows stream contents mid line new
-      → LinesAnswered K rows stream contents old (take (done + 1) all) new
+      → LinesAnswered K own stream contents old (take done all) mid → drop done all ≡ line ∷ later
+      → ScriptLineHappens K own stream contents mid line new
+      → LinesAnswered K own stream contents old (take (done + 1) all) new
   lines_next all done line later old mid new before e next =
-      subst (λ (ls : List (List ℕ)). LinesAnswered K rows stream contents old ls new)
+      subst (λ (ls : List (List ℕ)). LinesAnswered K own stream contents old ls new)
       (sym (next_line all done line later e).2)
-      (passes_push (ScriptLineHappens K rows stream contents) old (take done all) before next)
+      (passes_push (ScriptLineHappens K own stream contents) old (take done all) before next)
 
   -- or cut short
   pub lines_cut : (all : List (List ℕ)) (done : ℕ) (line : List ℕ) (later : List (List ℕ)) (old mid new : S × R × W)
       (failed : WriteFailed)
-      → LinesAnswered K rows stream contents old (take done all) mid → drop done all ≡ line ∷ later
-      → LineEnds K rows stream contents (Err failed) mid line new
-      → LinesCut K rows stream contents old (take (done + 1) all) new
+      → LinesAnswered K own stream contents old (take done all) mid → drop done all ≡ line ∷ later
+      → LineEnds K own stream contents (Err failed) mid line new
+      → LinesCut K own stream contents old (take (done + 1) all) new
   lines_cut all done line later old mid new failed before e next =
       (take done all, line, (next_line all done line later e).2, mid, before, failed, next)
 
@@ -251,15 +255,15 @@ answered_more text later line cut e w h =
     let k : answered_lines text ≡ without_return line ∷ answered_lines later = rw (e, s) refl in
     k ∙ ap (λ (x : List ℕ). x ∷ answered_lines later) (sym w)
 
-module _ {S R W : Type 0} (K : KeptOf S) (rows : S → Rows) (stream : R → Stream) (contents : W → Option (List ℕ))
+module _ {S R W : Type 0} (K : KeptOf S) (own : BooksOf S) (stream : R → Stream) (contents : W → Option (List ℕ))
     (known : Option (List ℕ)) (old : S × R × W) where
   -- a script ran as its lines were answered
   pub script_ran : (new : S × R × W) (script : List ℕ) (end : Result ScriptEnd ScriptFault) → IsInput known script
       → IfOk end (λ e. e.lines ≡ length (answered_lines script))
-      → OnOk end (LinesAnswered K rows stream contents old (answered_lines script) new)
+      → OnOk end (LinesAnswered K own stream contents old (answered_lines script) new)
       → IfCut end (λ done. (1 ≤ done) × (done ≤ length (answered_lines script))
-      × LinesCut K rows stream contents old (take done (answered_lines script)) new)
-      → IfUnbegun end ⊥ → ScriptRan K rows stream contents known old end new
+      × LinesCut K own stream contents old (take done (answered_lines script)) new)
+      → IfUnbegun end ⊥ → ScriptRan K own stream contents known old end new
   script_ran new script (Ok end) input count ok cut begun = (script, input, count, ok)
   script_ran new script (Err (Write done)) input count ok cut begun = (script, input, cut.0, cut.1, cut.2)
   script_ran new script (Err Read) input count ok cut begun = absurd begun
@@ -269,13 +273,13 @@ module _ {S R W : Type 0} (K : KeptOf S) (rows : S → Rows) (stream : R → Str
   -- a script that wasn't read whole
   pub unread_ran : (end : Result ScriptEnd ScriptFault) (why : WholeFault) → IsErrAnd end (λ e. e ≡ fault_of_script why)
       → (why ≡ whole.TooLarge → IfSome known (λ input. SCRIPT_LIMIT < length input))
-      → ScriptRan K rows stream contents known old end old
+      → ScriptRan K own stream contents known old end old
   unread_ran (Ok end) why p large = absurd p
   unread_ran (Err fault) why p large =
-      subst (λ (f : ScriptFault). ScriptRan K rows stream contents known old (Err f) old) (sym p) (by why large)
+      subst (λ (f : ScriptFault). ScriptRan K own stream contents known old (Err f) old) (sym p) (by why large)
     where
       by : (why : WholeFault) → (why ≡ whole.TooLarge → IfSome known (λ input. SCRIPT_LIMIT < length input))
-          → ScriptRan K rows stream contents known old (Err (fault_of_script why)) old
+          → ScriptRan K own stream contents known old (Err (fault_of_script why)) old
       by whole.Read large = refl
       by whole.TooLarge large = (refl, large refl)
       by whole.Memory large = refl

@@ -6,8 +6,8 @@ use Rattle.hotel_streams.specs.Bytes.{AppendsPrefix}
 use Rattle.hotel_audit.specs.Answers.{answers_text}
 use Rattle.hotel_audit.specs.declared.answer.LineAnswer.{LineAnswer}
 use Rattle.hotel_audit.specs.declared.answer.LineAnswer.TheVariants.{Taken, Seen, Unread, Refused}
-use Rattle.hotel_audit.specs.declared.audit_file.AuditFault.{AuditFault}
-use Rattle.hotel_audit.specs.declared.audit_file.AuditFault.TheVariants as file
+use Rattle.hotel_lock.specs.declared.audit_file.AuditFault.{AuditFault}
+use Rattle.hotel_lock.specs.declared.audit_file.AuditFault.TheVariants as file
 use Rattle.hotel_audit.specs.declared.imports.ImportFault.{ImportFault}
 use Rattle.hotel_audit.specs.declared.imports.ImportFault.TheVariants.{File, Memory, Store}
 use Rattle.hotel_program.specs.declared.faults.Fault.{Fault}

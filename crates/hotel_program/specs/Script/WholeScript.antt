@@ -5,11 +5,11 @@ use Rattle.std.specs.List.{concat}
 use Rattle.std.specs.Io.KnownBytes.{Appends}
 use Rattle.rand_core.specs.Stream.{Stream}
 use Rattle.keycard_rules.specs.{declared.kept.Kept.Ghosts as KeptOf, Calls.Passes}
+use Rattle.hotel_core.specs.declared.books.Books.{Ghosts as BooksOf}
 use Rattle.keycard_rules.specs.Calls.{Told}
 use Rattle.hotel_core.specs.Books.Happens.{HappensBy}
 use Rattle.hotel_streams.specs.declared.calls.WriteFailed.{WriteFailed}
 use Rattle.hotel_model.specs.History.{History}
-use Rattle.hotel_model.specs.Rows.{Rows}
 use Rattle.hotel_program.specs.Script.Asks.{ask_in}
 use Rattle.hotel_program.specs.Script.LineAnswers.{AskEnds, ScriptLineGoes, Sure}
 use Rattle.hotel_program.specs.Script.Lines.{answered_lines}
@@ -46,36 +46,36 @@ ScriptCut lines s s' old new kept told h h' =
     × (n : ℕ) × (n ≤ length last) × Appends old new (concat texts ++ take n last)
 
 -- A line was carried out, by books, a source of words and a writer, and its answer was written so.
-abbrev pub LineEnds : {S R W : Type 0} → KeptOf S → (S → Rows) → (R → Stream) → (W → Option (List ℕ))
+abbrev pub LineEnds : {S R W : Type 0} → KeptOf S → BooksOf S → (R → Stream) → (W → Option (List ℕ))
     → Result (Unit {0}) WriteFailed → S × R × W → List ℕ → S × R × W → Type 0
-LineEnds K rows stream contents written old line new = HappensBy K rows old.0 (AskEnds (ask_in line) (stream old.1)
+LineEnds K own stream contents written old line new = HappensBy K own old.0 (AskEnds (ask_in line) (stream old.1)
     (stream new.1) (contents old.2) (contents new.2) written (K.is_clean old.0)) new.0
 
 -- A line was answered.
-abbrev pub ScriptLineHappens : {S R W : Type 0} → KeptOf S → (S → Rows) → (R → Stream) → (W → Option (List ℕ))
+abbrev pub ScriptLineHappens : {S R W : Type 0} → KeptOf S → BooksOf S → (R → Stream) → (W → Option (List ℕ))
     → S × R × W → List ℕ → S × R × W → Type 0
-ScriptLineHappens K rows stream contents old line new = LineEnds K rows stream contents (Ok tt) old line new
+ScriptLineHappens K own stream contents old line new = LineEnds K own stream contents (Ok tt) old line new
 
 -- Lines were answered, each in the state that the one before it left.
-abbrev pub LinesAnswered : {S R W : Type 0} → KeptOf S → (S → Rows) → (R → Stream) → (W → Option (List ℕ))
+abbrev pub LinesAnswered : {S R W : Type 0} → KeptOf S → BooksOf S → (R → Stream) → (W → Option (List ℕ))
     → S × R × W → List (List ℕ) → S × R × W → Type 0
-LinesAnswered K rows stream contents old lines new = Passes (ScriptLineHappens K rows stream contents) old lines new
+LinesAnswered K own stream contents old lines new = Passes (ScriptLineHappens K own stream contents) old lines new
 
 -- Those before the last one were answered, each in its turn, and then of the last one's answer a prefix was written.
-abbrev pub LinesCut : {S R W : Type 0} → KeptOf S → (S → Rows) → (R → Stream) → (W → Option (List ℕ)) → S × R × W
+abbrev pub LinesCut : {S R W : Type 0} → KeptOf S → BooksOf S → (R → Stream) → (W → Option (List ℕ)) → S × R × W
     → List (List ℕ) → S × R × W → Type 0
-LinesCut {S = S} {R = R} {W = W} K rows stream contents old lines new = (before : List (List ℕ)) × (last : List ℕ)
-    × (lines ≡ before ++ last ∷ []) × (mid : S × R × W) × LinesAnswered K rows stream contents old before mid
-    × (failed : WriteFailed) × LineEnds K rows stream contents (Err failed) mid last new
+LinesCut {S = S} {R = R} {W = W} K own stream contents old lines new = (before : List (List ℕ)) × (last : List ℕ)
+    × (lines ≡ before ++ last ∷ []) × (mid : S × R × W) × LinesAnswered K own stream contents old before mid
+    × (failed : WriteFailed) × LineEnds K own stream contents (Err failed) mid last new
 
 -- So they went over the books with their answers.
-pub record ScriptsHappen {S R W : Type 0} (K : KeptOf S) (rows : S → Rows) (stream : R → Stream)
+pub record ScriptsHappen {S R W : Type 0} (K : KeptOf S) (own : BooksOf S) (stream : R → Stream)
     (contents : W → Option (List ℕ)) : Type 0 where
-  pub answered : (old new : S × R × W) (lines : List (List ℕ)) → LinesAnswered K rows stream contents old lines new
-      → HappensBy K rows old.0 (ScriptAnswered lines (stream old.1) (stream new.1) (contents old.2) (contents new.2)
+  pub answered : (old new : S × R × W) (lines : List (List ℕ)) → LinesAnswered K own stream contents old lines new
+      → HappensBy K own old.0 (ScriptAnswered lines (stream old.1) (stream new.1) (contents old.2) (contents new.2)
       (K.is_clean new.0)) new.0
-  pub cut : (old new : S × R × W) (lines : List (List ℕ)) → LinesCut K rows stream contents old lines new
-      → HappensBy K rows old.0 (ScriptCut lines (stream old.1) (stream new.1) (contents old.2) (contents new.2)
+  pub cut : (old new : S × R × W) (lines : List (List ℕ)) → LinesCut K own stream contents old lines new
+      → HappensBy K own old.0 (ScriptCut lines (stream old.1) (stream new.1) (contents old.2) (contents new.2)
       (K.is_clean new.0)) new.0
 
 -- The script is what the reader had, where its bytes are known, and no more than a script may have.
@@ -95,17 +95,17 @@ IfUnbegun (Err fault) P = P
 
 -- A script ended so, of which these bytes are known: its lines were answered; or the answer of one was cut short, the
 -- last of those that were carried out; or it wasn't read whole, and nothing was begun.
-abbrev pub ScriptRan : {S R W : Type 0} → KeptOf S → (S → Rows) → (R → Stream) → (W → Option (List ℕ))
+abbrev pub ScriptRan : {S R W : Type 0} → KeptOf S → BooksOf S → (R → Stream) → (W → Option (List ℕ))
     → Option (List ℕ) → S × R × W → Result ScriptEnd ScriptFault → S × R × W → Type 0
-ScriptRan K rows stream contents known old (Ok end) new = (script : List ℕ) × IsInput known script
+ScriptRan K own stream contents known old (Ok end) new = (script : List ℕ) × IsInput known script
     × (end.lines ≡ length (answered_lines script))
-    × LinesAnswered K rows stream contents old (answered_lines script) new
-ScriptRan K rows stream contents known old (Err (Write done)) new = (script : List ℕ) × IsInput known script
+    × LinesAnswered K own stream contents old (answered_lines script) new
+ScriptRan K own stream contents known old (Err (Write done)) new = (script : List ℕ) × IsInput known script
     × (1 ≤ done) × (done ≤ length (answered_lines script))
-    × LinesCut K rows stream contents old (take done (answered_lines script)) new
-ScriptRan K rows stream contents known old (Err TooLarge) new =
+    × LinesCut K own stream contents old (take done (answered_lines script)) new
+ScriptRan K own stream contents known old (Err TooLarge) new =
     (new ≡ old) × IfSome known (λ input. SCRIPT_LIMIT < length input)
-ScriptRan K rows stream contents known old (Err why) new = new ≡ old
+ScriptRan K own stream contents known old (Err why) new = new ≡ old
 
 -- The fault of a script that was not read whole.
 abbrev pub fault_of_script : WholeFault → ScriptFault

@@ -7,12 +7,14 @@ ghost use Rattle.hotel_audit.specs.declared.imports.ImportFault.{ImportFault};
 ghost use Rattle.hotel_program.specs.Faults.{end_status, Reports};
 ghost use Rattle.hotel_program.specs.Alone.AuditRuns.{answers_status, audit_file_fault, import_fault, audit_end};
 ghost use Rattle.hotel_program.specs.Alone.AuditRuns.{WritesAnswers};
-ghost use Rattle.hotel_audit.specs.{AuditFile.audit_lines, Import.Imports};
+ghost use Rattle.hotel_lock.specs.AuditFile.{audit_lines};
+ghost use Rattle.hotel_audit.specs.Import.{Imports};
 
 use crate::faults::{Fault, FaultSink, finish};
 use crate::statuses::{DONE, REFUSED};
-use hotel_audit::{AuditFault, ImportFault, LineAnswer, import, write_answers};
+use hotel_audit::{ImportFault, LineAnswer, import, write_answers};
 use hotel_core::Books;
+use hotel_lock::AuditFault;
 use hotel_streams::{IoCalls, WriteFailed};
 use keycard_rules::LookFault;
 use std::alloc::Global;
@@ -71,7 +73,7 @@ fn import_and_write<B: Books, W: Write>(
     ensures ends { (outcome : Result (List LineAnswer) ImportFault) × (write_failed : Bool)
         × (result ≡ audit_end outcome write_failed)
         × WritesAnswers W.contents writer.old writer.new outcome write_failed
-        × Imports B.Kept B.rows (audit_lines bytes.now) books.old books.new outcome }
+        × Imports B.Kept B.Books.own (audit_lines bytes.now) books.old books.new outcome }
     ensures calls { CountsWrites calls.old calls.new (OnErrOf result Fault.Write) }
 {
     let answers = match import(alloc, books, bytes) {
@@ -98,7 +100,7 @@ pub fn run_audit<B: Books, W: Write, F: FaultSink>(
         × (result ≡ end_status (audit_end outcome write_failed))
         × Reports F.told faults.old (audit_end outcome write_failed) faults.new
         × WritesAnswers W.contents writer.old writer.new outcome write_failed
-        × Imports B.Kept B.rows (audit_lines bytes.now) books.old books.new outcome }
+        × Imports B.Kept B.Books.own (audit_lines bytes.now) books.old books.new outcome }
 {
     let mut calls = IoCalls::none();
     let end = import_and_write(alloc, bytes, books, writer, &mut calls);

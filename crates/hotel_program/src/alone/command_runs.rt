@@ -25,7 +25,7 @@ fn step_and_write<B: Books, R: Rng, W: Write>(
 ) -> Result<u8, Fault>
     ensures ends { (reply : Reply) × (write_failed : Bool) × (result ≡ command_end reply write_failed)
         × WritesReply (W.contents writer.old) (W.contents writer.new) reply write_failed
-        × Stepped B.Kept B.rows (books.old, R.stream source.old) (command.now, reply)
+        × Stepped B.Kept B.Books.own (books.old, R.stream source.old) (command.now, reply)
         (books.new, R.stream source.new) }
     ensures calls { CountsWrites calls.old calls.new (OnErrOf result Fault.Write) }
 {
@@ -49,7 +49,7 @@ pub fn run_one<B: Books, R: Rng, W: Write, F: FaultSink>(
     ensures ends { (reply : Reply) × (write_failed : Bool) × (result ≡ end_status (command_end reply write_failed))
         × Reports F.told faults.old (command_end reply write_failed) faults.new
         × WritesReply (W.contents writer.old) (W.contents writer.new) reply write_failed
-        × Stepped B.Kept B.rows (books.old, R.stream source.old) (command.now, reply)
+        × Stepped B.Kept B.Books.own (books.old, R.stream source.old) (command.now, reply)
         (books.new, R.stream source.new) }
 {
     let mut calls = IoCalls::none();

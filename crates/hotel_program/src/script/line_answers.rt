@@ -48,8 +48,8 @@ fn answer_command<W: Write, B: Books, R: Rng>(
     source: &mut R,
     calls: &mut IoCalls,
 ) -> Result<(), WriteFailed>
-    ensures went { HappensBy B.Kept B.rows books.old (AskEnds (Some (ask.Command command.now)) (R.stream source.old)
-        (R.stream source.new)
+    ensures went { HappensBy B.Kept B.Books.own books.old (AskEnds (Some (ask.Command command.now))
+        (R.stream source.old) (R.stream source.new)
         (W.contents writer.old) (W.contents writer.new) result (B.is_clean books.old)) books.new }
     ensures calls { CountsWrites calls.old calls.new (OnErr result) }
 {
@@ -68,7 +68,7 @@ pub(crate) fn answer_line<W: Write, B: Walks, R: Rng>(
     source: &mut R,
     calls: &mut IoCalls,
 ) -> Result<(), WriteFailed>
-    ensures went { HappensBy B.Kept B.rows books.old (AskEnds (ask_in line.now) (R.stream source.old)
+    ensures went { HappensBy B.Kept B.Books.own books.old (AskEnds (ask_in line.now) (R.stream source.old)
         (R.stream source.new)
         (W.contents writer.old) (W.contents writer.new) result (B.is_clean books.old)) books.new }
     ensures calls { CountsWrites calls.old calls.new (OnErr result) }

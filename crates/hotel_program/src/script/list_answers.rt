@@ -23,7 +23,7 @@ pub(crate) fn answer_list<W: Write, B: Walks>(
     books: &mut B,
     calls: &mut IoCalls,
 ) -> Result<(), WriteFailed>
-    ensures went { (s : Stream) → HappensBy B.Kept B.rows books.old
+    ensures went { (s : Stream) → HappensBy B.Kept B.Books.own books.old
         (AskEnds (Some (ask.List list.now)) s s (W.contents writer.old) (W.contents writer.new) result
         (B.is_clean books.old)) books.new }
     ensures calls { CountsWrites calls.old calls.new (OnErr result) }

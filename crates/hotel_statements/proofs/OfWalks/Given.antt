@@ -1,6 +1,5 @@
 -- The walk over the cards that a party was given.
 use Rattle.std.proofs.Common.{◌≡◌, ◌∙◌, refl, ap, ap₂, List, [], ◌∷◌, ℕ, filter, map, nat_cmp, eqb}
-use Rattle.std.specs.Map.{values_of}
 use Rattle.std.proofs.lemmas.Cmp.{nat_cmp_total}
 use Rattle.std.proofs.lemmas.List.Sorted.{IsPermutation-refl}
 use Rattle.sqlite_keyed.proofs.ListLemmas.{ascending-filter}

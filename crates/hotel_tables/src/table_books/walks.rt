@@ -6,12 +6,9 @@ ghost use Rattle.hotel_core.specs.Books.Walks.{failure_of};
 ghost use Rattle.hotel_tables.specs.TableBooks.{HandsOn};
 
 use crate::table_books::TableBooks;
-use hotel_core::{
-    BehindRow, ChainRow, FreeRow, HouseRow, InsideRow, Sink, StatusRow, WalkFault, Walks,
-};
-use hotel_nights::{Day, Nights, Stay};
-use hotel_statements::walks;
-use keycard_rules::{Card, LockNote, LookFault, PartyNo, RoomNo};
+use hotel_core::{Sink, WalkFault, Walks, WalksOf};
+use hotel_statements::walks::{Counts, WalkedOverTables};
+use keycard_rules::LookFault;
 use sqlite::Alter;
 
 impl<S: Alter> TableBooks<S> {
@@ -30,95 +27,17 @@ impl<S: Alter> TableBooks<S> {
     }
 }
 
-impl<S: Alter> Walks for TableBooks<S> {
-    fn walk_arrivals<K: Sink<Stay>>(&mut self, day: Day, sink: &mut K) -> Result<(), WalkFault> {
+impl<S: Alter, L: WalkedOverTables> WalksOf<L> for TableBooks<S> {
+    fn walk<K: Sink<L::Row>>(&mut self, list: &L, sink: &mut K) -> Result<(), WalkFault> {
         self.ask()?;
         self.answers = false;
-        let end = walks::arrivals(self.alloc, &mut self.conn, day, sink);
-        self.counting_walk(end)
-    }
-
-    fn walk_in_house<K: Sink<HouseRow>>(&mut self, sink: &mut K) -> Result<(), WalkFault> {
-        self.ask()?;
-        self.answers = false;
-        let end = walks::in_house(self.alloc, &mut self.conn, sink);
-        self.counting_walk(end)
-    }
-
-    fn walk_chain<K: Sink<ChainRow>>(
-        &mut self,
-        room: RoomNo,
-        sink: &mut K,
-    ) -> Result<(), WalkFault> {
-        self.ask()?;
-        self.answers = false;
-        let end = walks::chain(self.alloc, &mut self.conn, room, sink);
-        self.counting_walk(end)
-    }
-
-    fn walk_left_behind<K: Sink<BehindRow>>(&mut self, sink: &mut K) -> Result<(), WalkFault> {
-        self.ask()?;
-        self.answers = false;
-        let end = walks::left_behind(self.alloc, &mut self.conn, sink);
-        self.counting_walk(end)
-    }
-
-    fn walk_audit<K: Sink<LockNote>>(
-        &mut self,
-        room: RoomNo,
-        sink: &mut K,
-    ) -> Result<(), WalkFault> {
-        self.ask()?;
-        self.answers = false;
-        let end = walks::audit(self.alloc, &mut self.conn, room, sink);
-        self.counting_walk(end)
-    }
-
-    fn walk_room_status<K: Sink<StatusRow>>(&mut self, sink: &mut K) -> Result<(), WalkFault> {
-        self.ask()?;
-        self.answers = false;
-        let end = walks::room_status(self.alloc, &mut self.conn, sink);
-        self.counting_walk(end)
-    }
-
-    fn walk_inside<K: Sink<InsideRow>>(&mut self, sink: &mut K) -> Result<(), WalkFault> {
-        self.ask()?;
-        self.answers = false;
-        let end = walks::cards_inside(self.alloc, &mut self.conn, sink);
-        self.counting_walk(end)
-    }
-
-    fn walk_bookings<K: Sink<Stay>>(&mut self, sink: &mut K) -> Result<(), WalkFault> {
-        self.ask()?;
-        self.answers = false;
-        let end = walks::bookings(self.alloc, &mut self.conn, sink);
-        self.counting_walk(end)
-    }
-
-    fn walk_availability<K: Sink<FreeRow>>(
-        &mut self,
-        day: Day,
-        nights: Nights,
-        sink: &mut K,
-    ) -> Result<(), WalkFault> {
-        self.ask()?;
-        self.answers = false;
-        let counts = walks::Counts {
+        let counts = Counts {
             kinds: &self.kinds,
             nights: &self.nights,
         };
-        let end = walks::availability(self.alloc, &mut self.conn, counts, day, nights, sink);
-        self.counting_walk(end)
-    }
-
-    fn walk_cards_given<K: Sink<Card>>(
-        &mut self,
-        party: PartyNo,
-        sink: &mut K,
-    ) -> Result<(), WalkFault> {
-        self.ask()?;
-        self.answers = false;
-        let end = walks::cards_given(self.alloc, &mut self.conn, party, sink);
+        let end = list.walk_connection(self.alloc, &mut self.conn, counts, sink);
         self.counting_walk(end)
     }
 }
+
+impl<S: Alter> Walks for TableBooks<S> {}

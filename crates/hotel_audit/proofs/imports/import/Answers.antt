@@ -1,7 +1,7 @@
 use Rattle.std.proofs.Common.{◌≡◌, Err, ap, refl, inl, inr, ◌≢◌, ◌⊎◌}
-use Rattle.hotel_audit.specs.{declared.audit_file.AuditFault.AuditFault, AuditFile.audit_lines}
+use Rattle.hotel_lock.specs.{declared.audit_file.AuditFault.AuditFault, AuditFile.audit_lines}
 use Rattle.hotel_audit.specs.{declared.imports.ImportFault.TheVariants.File}
-use Rattle.hotel_audit.specs.declared.audit_file.AuditFault.TheVariants.{TooLarge, NoHeader, WrongHeader, Memory}
+use Rattle.hotel_lock.specs.declared.audit_file.AuditFault.TheVariants.{TooLarge, NoHeader, WrongHeader, Memory}
 use Rattle.hotel_audit.proofs.ImportEnds.{none_begun}
 use Rattle.hotel_audit.proofs.imports.import.Goals as goal
 
@@ -15,7 +15,7 @@ by_fault Memory P known = inl refl
 pub returns-in-Err-clause-imported : goal.returns-in-Err-clause-imported
 returns-in-Err-clause-imported g c =
     let why = by_fault c.in-Err.fault (λ fault. audit_lines c.args.bytes.now ≡ Err fault) c.in-Err.ensures.fault in
-    none_begun g.B.Kept g.B.Books.rows c.args.books.now (audit_lines c.args.bytes.now) c.in-Err.fault why
+    none_begun g.B.Kept g.B.Books c.args.books.now (audit_lines c.args.bytes.now) c.in-Err.fault why
 
 pub returns-in-Err-clause-large : goal.returns-in-Err-clause-large
 returns-in-Err-clause-large g c = λ big.

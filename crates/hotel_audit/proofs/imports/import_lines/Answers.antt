@@ -6,7 +6,7 @@ use Rattle.keycard_rules.specs.Calls.{Passes}
 use Rattle.hotel_core.proofs.Names.{take_more}
 use Rattle.hotel_audit.specs.{declared.answer.LineAnswer.LineAnswer, declared.imports.ImportFault.ImportFault}
 use Rattle.hotel_audit.specs.Import.{AreAnswered, Imports, LineImported, has_taken, stopped}
-use Rattle.hotel_audit.specs.declared.audit_file.AuditFault.TheVariants as fault
+use Rattle.hotel_lock.specs.declared.audit_file.AuditFault.TheVariants as fault
 use Rattle.hotel_audit.proofs.LineAnswers.{AreAnswered-append, passes_next}
 use Rattle.hotel_audit.proofs.ImportEnds.{answered_before, none_begun}
 use Rattle.hotel_audit.proofs.imports.import_lines.Goals as goal
@@ -20,7 +20,7 @@ loop-line-init g c = record {
 }
 
 pub returns-in_default : goal.returns-in_default
-returns-in_default g c = none_begun g.B.Kept g.B.Books.rows c.args.books.now (Ok c.args.lines.now) fault.Memory
+returns-in_default g c = none_begun g.B.Kept g.B.Books c.args.books.now (Ok c.args.lines.now) fault.Memory
     (inl refl)
 
 pub returns-in-Err : goal.returns-in-Err
@@ -30,15 +30,15 @@ returns-in-Err g c =
     let i = c.loop-line.line-index in
     let by = c.in-Err.by in
     let given = c.loop-line.answers.items in
-    let rows = g.B.Books.rows in
+    let own = g.B.Books in
     let old = c.args.books.now in
     let new = c.answer_line.new.books in
     let more : take (i + 1) xs ≡ take i xs ++ c.line-item.result ∷ [] =
     take_more xs i c.line-item.result c.loop-line-test.true ∙ ap (λ x. take i xs ++ x ∷ []) (sym c.line-item.is) in
     let why : c.stopped.result ≡ stopped by (length given) (has_taken given) =
     c.stopped.ensures ∙ ap (λ (l : List LineAnswer). stopped by (length l) (has_taken l)) c.as_slice.ensures.value in
-    subst (λ (fault : ImportFault). Imports g.B.Kept rows (Ok xs) old new (Err fault)) (sym why)
-    (answered_before g.B.Kept rows old c.loop-line.books new xs i given by inv.each inv.through c.line-item.result more
+    subst (λ (fault : ImportFault). Imports g.B.Kept own (Ok xs) old new (Err fault)) (sym why)
+    (answered_before g.B.Kept own old c.loop-line.books new xs i given by inv.each inv.through c.line-item.result more
     c.in-Err.ensures.went)
 
 pub returns : goal.returns
@@ -52,7 +52,7 @@ returns g c =
       each = subst (λ lines. AreAnswered lines given) all inv.each;
       ends = (refl, refl);
       behind = c.loop-line.books;
-      through = subst (λ lines. Passes (LineImported g.B.Kept g.B.Books.rows) c.args.books.now (zip lines given)
+      through = subst (λ lines. Passes (LineImported g.B.Kept g.B.Books) c.args.books.now (zip lines given)
           c.loop-line.books) all inv.through;
       leaves = refl;
     }
@@ -70,7 +70,7 @@ loop-line-preserved g c =
       number = omega (arith, c.in-Ok-push.ensures.len, inv.number);
       each = rw (e, c.in-Ok-push.ensures.items) (AreAnswered-append (take i xs) (c.line-item.result ∷ [])
           c.loop-line.answers.items (c.in-Ok-answer_line.answer ∷ []) inv.each (f.answer, tt));
-      through = rw (e, c.in-Ok-push.ensures.items) (passes_next (LineImported g.B.Kept g.B.Books.rows) c.args.books.now
+      through = rw (e, c.in-Ok-push.ensures.items) (passes_next (LineImported g.B.Kept g.B.Books) c.args.books.now
           (take i xs) c.loop-line.answers.items c.line-item.result c.in-Ok-answer_line.answer inv.each inv.through
           f.went);
     }

@@ -10,6 +10,6 @@ invariant-loop-line g l =
       room : length l.lines ≤ vec_capacity l.answers;
       number : vec_len l.answers ≡ l.line-index;
       each : AreAnswered (take l.line-index l.lines) l.answers.items;
-      through : Passes (LineImported g.B.Kept g.B.Books.rows) l.fn.books
+      through : Passes (LineImported g.B.Kept g.B.Books) l.fn.books
           (zip (take l.line-index l.lines) l.answers.items) l.books;
     }

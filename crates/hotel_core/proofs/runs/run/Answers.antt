@@ -20,8 +20,8 @@ loop-command-preserved g c =
           let n : length replies.items ≡ length (take i xs) =
           omega (arith, length-take-le i xs (omega (arith, c.loop-command-test.true)), replies.ok.0, so_far.answered) in
           rw (e, c.in-Ok-push.ensures.items, zip-push (take i xs) replies.items command reply n)
-          (passes_push (Stepped g.B.Kept g.B.Books.rows) _
-          (zip (take i xs) replies.items) so_far.through c.step-reply.ensures.stepped);
+          (passes_push (Stepped g.B.Kept g.B.Books) _
+          (zip (take i xs) replies.items) so_far.through c.step-reply.ensures);
       room = omega (arith, c.in-Ok-push.ensures.capacity, so_far.room);
       answered = omega (arith, c.in-Ok-push.ensures.len, so_far.answered);
     }

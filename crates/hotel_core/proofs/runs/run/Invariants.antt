@@ -5,10 +5,9 @@ use Rattle.hotel_core.proofs.runs.run.Given as goal
 
 abbrev pub invariant-loop-command : goal.invariant-loop-command
 invariant-loop-command g l =
-    let rows = g.B.Books.rows in
     let stream = g.R.Rng.stream in
     record {
-      through : Passes (Stepped g.B.Kept rows) (l.fn.books, stream l.fn.source)
+      through : Passes (Stepped g.B.Kept g.B.Books) (l.fn.books, stream l.fn.source)
           (zip (take l.command-index l.commands) l.replies.items) (l.books, stream l.source);
       room : length l.commands ≤ vec_capacity l.replies;
       answered : vec_len l.replies ≡ l.command-index;

@@ -21,12 +21,9 @@ returns-clause-noted g c = λ source.
       leaves = rw is (step_leaves c.known_sound.ensures (taken source));
       range = c.known_reply.ensures;
       sure = λ never takes. absurd (false≢true takes);
+      stop = step_stops source (command.Reported c.args.note.now) c.known_note.ensures (taken source);
     }
 
 pub returns-clause-note : goal.returns-clause-note
 returns-clause-note g c = λ honest.
     rw c.reply_of-reply.ensures (taken_reply _ _ (c.take_note-taken.ensures silent) honest)
-
-pub returns-clause-stop : goal.returns-clause-stop
-returns-clause-stop g c = λ source.
-    step_stops source (command.Reported c.args.note.now) c.known_note.ensures (c.take_note-taken.ensures source)

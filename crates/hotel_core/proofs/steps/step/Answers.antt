@@ -2,8 +2,8 @@ use Rattle.hotel_core.proofs.{OfCode.FailuresCounted.step_leaves, OfCode.Countin
 use Rattle.hotel_core.proofs.{OfCode.Happened.step_happened, OfCode.Happened.step_stops}
 use Rattle.hotel_core.proofs.steps.step.Goals as goal
 
-pub returns-clause-stepped : goal.returns-clause-stepped
-returns-clause-stepped g c =
+pub returns : goal.returns
+returns g c =
     let out = c.carry_out-outcome.ensures in
     let is = c.reply_of-reply.ensures in
     record {
@@ -13,7 +13,5 @@ returns-clause-stepped g c =
       leaves = rw is (step_leaves c.known_sound.ensures out.steps);
       range = c.known_reply.ensures;
       sure = λ never takes. rw is (untold _ (out.sure never takes));
+      stop = step_stops _ c.args.command.now c.known_command.ensures out.steps;
     }
-
-pub returns-clause-stop : goal.returns-clause-stop
-returns-clause-stop g c = step_stops _ c.args.command.now c.known_command.ensures c.carry_out-outcome.ensures.steps

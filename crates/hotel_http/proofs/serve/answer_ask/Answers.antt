@@ -9,6 +9,6 @@ returns-in-List-clause-went g c =
     let old = g.W.Write.contents c.args.writer.now in
     let new = g.W.Write.contents c.answer_list.new.writer in
     let s = g.R.Rng.stream c.args.source.now in
-    subst (λ (a : Ask). HappensBy g.B.Kept g.B.Books.rows c.args.books.now
+    subst (λ (a : Ask). HappensBy g.B.Kept g.B.Books c.args.books.now
     (Answered (AskComes a) s s [] old new c.answer_list.result) c.answer_list.new.books) (sym c.in-List.is)
     (c.answer_list.ensures.went s)

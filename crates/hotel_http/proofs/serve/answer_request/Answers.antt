@@ -9,9 +9,9 @@ returns-in-Audit-clause-went g c =
     let new = g.W.Write.contents c.answer_audit.new.writer in
     let s = g.R.Rng.stream c.args.source.now in
     let end = c.answer_audit.result in
-    let went = subst (λ (l : List ℕ). HappensBy g.B.Kept g.B.Books.rows c.args.books.now
+    let went = subst (λ (l : List ℕ). HappensBy g.B.Kept g.B.Books c.args.books.now
     (Answered (FileComes l) s s [] old new end) c.answer_audit.new.books) c.deref.ensures.value
     (c.answer_audit.ensures.went s) in
-    subst (λ (t : Task). HappensBy g.B.Kept g.B.Books.rows c.args.books.now
+    subst (λ (t : Task). HappensBy g.B.Kept g.B.Books c.args.books.now
     (Answered (TaskComes t c.args.request.now.body.items) s s [] old new end) c.answer_audit.new.books)
     (sym c.in-Audit.is) went

@@ -8,11 +8,11 @@ returns-clause-text g c =
     let hands = c.hand_rows-handed.ensures.hands in
     let (same, _) = list_ended g.W.Write.contents g.R.RowLine.line c.args.rows.now _ _ _ _ _ _ hands
     c.finish-end.ensures.same c.finish-end.ensures.ends c.listed.ensures in
-    let written = list_written g.W.Write.contents g.R.RowLine.line _ c.args.header.now _ c.args.rows.now _ _ _ _ _
-    (rw c.new-lines.ensures.unwritten c.in_ok-write_bytes.ensures.writes.ok)
+    let written = list_written g.W.Write.contents g.R.RowLine.line _ g.R.RowLine.header _ c.args.rows.now _ _ _ _ _
+    (rw c.new-lines.ensures.unwritten (rw c.header.ensures at c.in_ok-write_bytes.ensures.writes.ok))
     (c.new-lines.ensures.gathered ∙ c.none-gathered.ensures) refl hands c.finish-end.ensures.ends in
     let said : Ends g.R.RowLine.line (g.W.Write.contents c.args.writer.now)
-    (g.W.Write.contents c.finish-end.new.self.writer.now) c.args.header.now c.args.rows.now c.listed.result =
+    (g.W.Write.contents c.finish-end.new.self.writer.now) g.R.RowLine.header c.args.rows.now c.listed.result =
     rw c.listed.ensures written in
     let back = sym (same.writer ∙ c.new-lines.ensures.same_writer) in
     search rules

@@ -10,14 +10,16 @@ returns-in_err-write_bytes-clause-list g c = record {
   written = record {
     text = λ honest.
         let said : Ends g.L.Row.RowLine.line (g.W.Write.contents c.args.writer.now)
-        (g.W.Write.contents c.write_bytes.new.writer) c.args.header.now
-        (g.L.WalkedList.rows c.args.list.now (g.B.Books.rows c.args.books.now)) (Err Write) =
-        cut_ends g.L.Row.RowLine.line _ _ c.args.header.now
-        (g.L.WalkedList.rows c.args.list.now (g.B.Books.rows c.args.books.now))
-        (prefix_of_first _ _ c.args.header.now _ c.in_err-write_bytes.ensures.writes.err) in
+        (g.W.Write.contents c.write_bytes.new.writer) g.L.Row.RowLine.header
+        (g.L.Listed.rows_on c.args.list.now (g.B.Books.rows c.args.books.now)) (Err Write) =
+        cut_ends g.L.Row.RowLine.line _ _ g.L.Row.RowLine.header
+        (g.L.Listed.rows_on c.args.list.now (g.B.Books.rows c.args.books.now))
+        (prefix_of_first _ _ g.L.Row.RowLine.header _
+        (rw c.header.ensures at c.in_err-write_bytes.ensures.writes.err)) in
         search rules;
     books = record {
       kept = λ clean. g.B.Kept.kept_refl _;
+      stop = g.B.Kept.no_more_refl _;
       told = [];
       calls = refl;
       tells = search rules;
@@ -35,17 +37,18 @@ returns-clause-list g c =
     record {
       written = record {
         text = λ honest.
-            let written = list_written g.W.Write.contents g.L.Row.RowLine.line _ c.args.header.now _ handed _ _ _ _ _
-            (rw c.new-lines.ensures.unwritten c.in_ok-write_bytes.ensures.writes.ok)
+            let written = list_written g.W.Write.contents g.L.Row.RowLine.line _ g.L.Row.RowLine.header _ handed
+            _ _ _ _ _ (rw c.new-lines.ensures.unwritten (rw c.header.ensures at c.in_ok-write_bytes.ensures.writes.ok))
             (c.new-lines.ensures.gathered ∙ c.none-gathered.ensures) (all honest) hands c.finish-end.ensures.ends in
             let said : Ends g.L.Row.RowLine.line (g.W.Write.contents c.args.writer.now)
-            (g.W.Write.contents c.finish-end.new.self.writer.now) c.args.header.now
-            (g.L.WalkedList.rows c.args.list.now (g.B.Books.rows c.args.books.now)) c.listed.result =
+            (g.W.Write.contents c.finish-end.new.self.writer.now) g.L.Row.RowLine.header
+            (g.L.Listed.rows_on c.args.list.now (g.B.Books.rows c.args.books.now)) c.listed.result =
             rw c.listed.ensures written in
             let back = sym (same.writer ∙ c.new-lines.ensures.same_writer) in
             search rules;
         books = record {
           kept = walked.looks.kept;
+          stop = walked.looks.stop;
           told = failure_of c.walk-walked.result ∷ [];
           calls = (_, walked.looks.leaves, refl);
           tells = walk_told g.W.Write.contents _ _ c.walk-walked.result c.finish-end.result c.listed.result

@@ -15,7 +15,7 @@ loop-preserved g c =
       ends = (
         first.0 ++ next.0 ∷ [],
         simp length-append (omega (arith, first.1)),
-        passes_push (ConnectsAndTells (sockets g.L.Listener g.L.Caller.Caller) g.B.Kept g.B.Books.rows g.R.Rng.stream
+        passes_push (ConnectsAndTells (sockets g.L.Listener g.L.Caller.Caller) g.B.Kept g.B.Books g.R.Rng.stream
             g.F.FaultSink.told) _ first.0 first.2 next.1,
       );
     }
@@ -28,6 +28,6 @@ returns-clause-ends g c =
       last = _;
       all = omega (arith, ends.1);
       connects = ends.2;
-      happened = all_happened (sockets g.L.Listener g.L.Caller.Caller) g.B.Kept g.B.Books.rows g.R.Rng.stream
+      happened = all_happened (sockets g.L.Listener g.L.Caller.Caller) g.B.Kept g.B.Books g.R.Rng.stream
           g.F.FaultSink.told _ _ ends.0 ends.2;
     }

@@ -8,7 +8,7 @@ use Rattle.hotel_program.proofs.connections.serve_connections.Given as goal
 abbrev pub invariant-loop : goal.invariant-loop
 invariant-loop g l = record {
   ends : (ends : List ConnectionEnd) × (length ends ≡ l.counter)
-      × Passes (ConnectsAndTells (sockets g.L.Listener g.L.Caller.Caller) g.B.Kept g.B.Books.rows g.R.Rng.stream
+      × Passes (ConnectsAndTells (sockets g.L.Listener g.L.Caller.Caller) g.B.Kept g.B.Books g.R.Rng.stream
       g.F.FaultSink.told) ((l.initial.listener, (l.initial.books, l.initial.source)), l.initial.faults) ends
       ((l.listener, (l.books, l.source)), l.faults);
 }

@@ -51,7 +51,7 @@ returns-clause-served g c =
           ∥∥₁_map reader.timed (since_read g.L.Caller stream reader.stream.now c.args.reads read c.requires.reads of);
       writes_in_time = ∥∥₁_map timed
           (since_written g.L.Caller stream writer.stream.now c.args.writes (writes, left) c.requires.writes of');
-      serves = same_served g.B.Kept g.B.Books.rows g.R.Rng.stream _ _ _ known rest text grown
+      serves = same_served g.B.Kept g.B.Books g.R.Rng.stream _ _ _ known rest text grown
           c.serve_stream-end.ensures.serves;
       wanted = subst (λ (o : Option (List ℕ)). ReadsWhile (WantsMore Local) o
           (g.L.Caller.remaining stream reader.caller)) known (subst (ReadsWhile (WantsMore Local)

@@ -12,3 +12,6 @@ returns-clause-serves g c =
 
 pub returns-clause-wanted : goal.returns-clause-wanted
 returns-clause-wanted g c = none_read Local (g.I.Read.remaining c.args.reader.now)
+
+pub returns-in-Ok-clause-follows : goal.returns-in-Ok-clause-follows
+returns-in-Ok-clause-follows g c = rw c.local-service-in-Ok.ensures at c.serve_by-in-Ok.ensures.follows

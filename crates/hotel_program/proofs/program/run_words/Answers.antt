@@ -22,7 +22,7 @@ returns-in-Ok g c =
       to,
       c.run_plan.ensures,
       says_of_plan _ _ _ to (of_plan g.I.Read.remaining g.W.Write.contents g.F.FaultSink
-          (sockets g.E.Port.Listener g.E.Port.Caller.Caller) g.E.Surroundings g.E.Databases _ g.B.Kept g.B.Books.rows
+          (sockets g.E.Port.Listener g.E.Port.Caller.Caller) g.E.Surroundings g.E.Databases _ g.B.Kept g.B.Books
           c.in-Ok.plan c.run_plan.result
           (record {
             reader = c.args.reader.now;

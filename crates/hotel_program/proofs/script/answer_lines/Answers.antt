@@ -28,7 +28,7 @@ loop-line-preserved-in-Ok-1 g c =
     line c.in-Some.ensures.some c.without_return-line.ensures silent in
     let next = next_line all c.loop-line.done line _ left in
     let answered = c.answer_line-answered.ensures in
-    let ended = subst (λ (r : Result (Unit {0}) WriteFailed). HappensBy g.B.Kept g.B.Books.rows c.loop-line.books
+    let ended = subst (λ (r : Result (Unit {0}) WriteFailed). HappensBy g.B.Kept g.B.Books c.loop-line.books
     (AskEnds (ask_in line) (g.R.Rng.stream c.loop-line.source) (g.R.Rng.stream c.answer_line-answered.new.source)
     (g.W.Write.contents c.loop-line.writer) (g.W.Write.contents c.answer_line-answered.new.writer) r
     (g.B.Kept.is_clean c.loop-line.books)) c.answer_line-answered.new.books) c.in-Ok.is answered.went in
@@ -36,7 +36,7 @@ loop-line-preserved-in-Ok-1 g c =
       fits = omega (arith, c.loop-line.invariant.fits, c.in-Some.ensures.shorter);
       within = next.0;
       left = next.1;
-      went = lines_next g.B.Kept g.B.Books.rows g.R.Rng.stream g.W.Write.contents all c.loop-line.done line _ _ _ _
+      went = lines_next g.B.Kept g.B.Books g.R.Rng.stream g.W.Write.contents all c.loop-line.done line _ _ _ _
           c.loop-line.invariant.went left ended;
       calls = then_none_forgotten _ _ _ c.loop-line.invariant.calls answered.calls.none_forgotten;
     }
@@ -48,14 +48,14 @@ returns-in_default-answered-clause-cut g c =
     let silent : is_silent line ≡ false = sym c.is_silent.ensures ∙ c.if-not-is_silent.true in
     let left = c.loop-line.invariant.left ∙ answered_more c.loop-line.rest.now c.in-Some.later.now c.in-Some.line.now
     line c.in-Some.ensures.some c.without_return-line.ensures silent in
-    let ended = subst (λ (r : Result (Unit {0}) WriteFailed). HappensBy g.B.Kept g.B.Books.rows c.loop-line.books
+    let ended = subst (λ (r : Result (Unit {0}) WriteFailed). HappensBy g.B.Kept g.B.Books c.loop-line.books
     (AskEnds (ask_in line) (g.R.Rng.stream c.loop-line.source) (g.R.Rng.stream c.answer_line-answered.new.source)
     (g.W.Write.contents c.loop-line.writer) (g.W.Write.contents c.answer_line-answered.new.writer) r
     (g.B.Kept.is_clean c.loop-line.books)) c.answer_line-answered.new.books) c.in_default-answered.is
     c.answer_line-answered.ensures.went in (
       omega arith,
       (next_line all c.loop-line.done line _ left).0,
-      lines_cut g.B.Kept g.B.Books.rows g.R.Rng.stream g.W.Write.contents all c.loop-line.done line _ _ _ _ _
+      lines_cut g.B.Kept g.B.Books g.R.Rng.stream g.W.Write.contents all c.loop-line.done line _ _ _ _ _
           c.loop-line.invariant.went left ended,
     )
 
@@ -70,6 +70,6 @@ returns-clause-ok g c =
     let none : answered_lines c.loop-line.rest.now ≡ [] = rw (c.first_line.ensures.none c.in_default.is) refl in
     let whole = (all_done (answered_lines c.args.script.now) c.loop-line.done c.loop-line.invariant.within
     (c.loop-line.invariant.left ∙ none)).1 in
-    subst (λ (ls : List (List ℕ)). LinesAnswered g.B.Kept g.B.Books.rows g.R.Rng.stream g.W.Write.contents
+    subst (λ (ls : List (List ℕ)). LinesAnswered g.B.Kept g.B.Books g.R.Rng.stream g.W.Write.contents
     (c.args.books.now, c.args.source.now, c.args.writer.now) ls
     (c.loop-line.books, c.loop-line.source, c.loop-line.writer)) whole c.loop-line.invariant.went

@@ -10,7 +10,7 @@ invariant-loop-line g l = record {
   fits : l.done + length l.rest ≤ length l.script;
   within : l.done ≤ length (answered_lines l.script);
   left : drop l.done (answered_lines l.script) ≡ answered_lines l.rest;
-  went : LinesAnswered g.B.Kept g.B.Books.rows g.R.Rng.stream g.W.Write.contents
+  went : LinesAnswered g.B.Kept g.B.Books g.R.Rng.stream g.W.Write.contents
       (l.initial.books, l.initial.source, l.initial.writer)
       (take l.done (answered_lines l.script)) (l.books, l.source, l.writer);
   calls : NoneForgotten l.initial.calls l.calls;

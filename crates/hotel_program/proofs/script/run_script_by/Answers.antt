@@ -10,7 +10,7 @@ returns-clause-ends g c =
     let script = c.deref.result.now in
     let input : IsInput (g.I.Read.remaining c.args.reader.now) script = search rules in
     let ensured = c.answer_lines.ensures in
-    script_ran g.B.Kept g.B.Books.rows g.R.Rng.stream g.W.Write.contents _ _ _ script c.answer_lines.result input
+    script_ran g.B.Kept g.B.Books g.R.Rng.stream g.W.Write.contents _ _ _ script c.answer_lines.result input
     ensured.count ensured.ok ensured.cut ensured.sure
 
 pub returns-clause-calls : goal.returns-clause-calls
@@ -23,7 +23,7 @@ returns-clause-calls g c = record {
 
 pub returns-in_err-script-clause-ends : goal.returns-in_err-script-clause-ends
 returns-in_err-script-clause-ends g c =
-    unread_ran g.B.Kept g.B.Books.rows g.R.Rng.stream g.W.Write.contents _ _ c.from_residual.result _
+    unread_ran g.B.Kept g.B.Books g.R.Rng.stream g.W.Write.contents _ _ c.from_residual.result _
     c.from_residual.ensures.1 (λ e. c.in_err-script.ensures.large (ap the_err e))
 
 pub returns-in_err-script-clause-calls : goal.returns-in_err-script-clause-calls

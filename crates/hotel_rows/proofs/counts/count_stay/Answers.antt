@@ -1,8 +1,7 @@
 use Rattle.std.proofs.Common.{◌≡◌, ◌&&◌, ◌∙◌, false, ap, option_map, rules, string_bytes, sym}
-use Rattle.hotel_nights.specs.{Guests.is_guest, Kinds.is_kind}
+use Rattle.hotel_nights.specs.Kinds.{is_kind}
 use Rattle.hotel_model.specs.SoundRooms.{is_day}
-use Rattle.keycard_rules.specs.declared.numbers.TheConstants.{LAST_NUMBER}
-use Rattle.hotel_rows.specs.{Counts.tells_state, Counts.tells_stay, RowTests.is_number_up_to, Stored.number_of}
+use Rattle.hotel_rows.specs.{Counts.tells_state, Counts.tells_stay, Stored.number_of}
 use Rattle.hotel_rows.proofs.OfCounts.Untold.{amid_fails, last_fails, told_anyway}
 use Rattle.hotel_rows.proofs.counts.count_stay.Goals as goal
 

@@ -50,8 +50,8 @@ returns-in_err-add_plain-in-Ok-Some g c =
     let whole = c.requires.whole in
     let fault = c.in_err-add_plain-in-Ok-Some.field-0.0 in
     let done = left g.S.Store c.args.version g.L.PlainRow.statement whole.query whole.asks c.args.conn.now
-    c.requires.ours c.rows.rows c.next.follows.lender-at-none _ c.next.follows.holds-at-none c.rows.invariant.1 c.in-Ok-Some.row
-    (search rules) (BeginsAs g.L.PlainRow.shown)
+    c.requires.ours c.rows.rows c.next.follows.lender-at-none _ c.next.follows.holds-at-none c.rows.invariant.1
+    c.in-Ok-Some.row (search rules) (BeginsAs g.L.PlainRow.shown)
     (λ (plain_rows : Vec _ Global) db. AreRowsInOrder g.L.PlainRow.columns g.L.PlainRow.shown
     g.L.PlainRow.order plain_rows.items (db g.L.PlainRow.tree)) fault c.in_err-add_plain-in-Ok-Some.ensures.unread in
     moved_to _ _ _ _ (sym (err_is c.from_residual.result fault c.from_residual.ensures)) (search rules) done

@@ -11,7 +11,7 @@ returns-in-Ok-clause-ends g c =
       ap Ok c.status_of.ensures.status,
       subst (λ (t : List ℕ). Appends (g.W.Write.contents c.args.writer.now)
           (g.W.Write.contents c.write_bytes.new.writer) t) text c.in-Ok.ensures.writes.ok,
-      c.step-reply.ensures.stepped,
+      c.step-reply.ensures,
     )
 
 pub returns-in-Err-clause-ends : goal.returns-in-Err-clause-ends
@@ -22,5 +22,5 @@ returns-in-Err-clause-ends g c =
       refl,
       subst (λ (t : List ℕ). AppendsPrefix (g.W.Write.contents c.args.writer.now)
           (g.W.Write.contents c.write_bytes.new.writer) t) text c.in-Err.ensures.writes.err,
-      c.step-reply.ensures.stepped,
+      c.step-reply.ensures,
     )

@@ -10,7 +10,7 @@ pub returns-in-Ok-Some-Command-clause-went : goal.returns-in-Ok-Some-Command-cla
 returns-in-Ok-Some-Command-clause-went g c =
     let is = c.in-Ok-Some-Command.field-0-is ∙ ap (λ (a : Ask). Some a) c.in-Ok-Some-Command.field-0-0-is in
     let wanted = sym is ∙ c.in-Ok-Some-Command.ensures.read in
-    subst (λ (w : Option Ask). HappensBy g.B.Kept g.B.Books.rows c.args.books.now
+    subst (λ (w : Option Ask). HappensBy g.B.Kept g.B.Books c.args.books.now
     (AskEnds w (g.R.Rng.stream c.args.source.now) (g.R.Rng.stream c.answer_command.new.source)
     (g.W.Write.contents c.args.writer.now) (g.W.Write.contents c.answer_command.new.writer) c.answer_command.result
     (g.B.Kept.is_clean c.args.books.now)) c.answer_command.new.books) wanted c.answer_command.ensures.went
@@ -20,7 +20,7 @@ returns-in-Ok-Some-List-clause-went g c =
     let is = c.in-Ok-Some-List.field-0-is ∙ ap (λ (a : Ask). Some a) c.in-Ok-Some-List.field-0-0-is in
     let wanted = sym is ∙ c.in-Ok-Some-List.ensures.read in
     let s = g.R.Rng.stream c.args.source.now in
-    subst (λ (w : Option Ask). HappensBy g.B.Kept g.B.Books.rows c.args.books.now (AskEnds w s s
+    subst (λ (w : Option Ask). HappensBy g.B.Kept g.B.Books c.args.books.now (AskEnds w s s
     (g.W.Write.contents c.args.writer.now) (g.W.Write.contents c.answer_list.new.writer) c.answer_list.result
     (g.B.Kept.is_clean c.args.books.now)) c.answer_list.new.books) wanted (c.answer_list.ensures.went s)
 

@@ -1,7 +1,0 @@
-use Rattle.std.proofs.Common.{◌≡◌, map, take}
-use Rattle.csv.specs.Records.{fields_of}
-use Rattle.hotel_audit.specs.Line.{read_line}
-use Rattle.hotel_audit.proofs.audit_file.read_notes.Given as goal
-
-abbrev pub invariant-loop-row : goal.invariant-loop-row
-invariant-loop-row l = l.lines.items ≡ map (read_line l.columns) (map fields_of (take l.row-index l.later))
