@@ -2,9 +2,10 @@
 
 import { commands } from "./commands.js";
 import { date, isWeekend, longDay, nightsOf, plus, shortDay, weekday } from "./days.js";
-import { hotel, isFault, list } from "./desk.js";
-import { $, acts, button, el, field, form, guestName, head, many } from "./dom.js";
+import { hotel, isEmpty, isFault, list } from "./desk.js";
+import { $, acts, button, el, field, form, guestName, head } from "./dom.js";
 import { checkInButton, done, run } from "./windows.js";
+import { words } from "./words.js";
 
 const NIGHTS = 14; // of the picture
 const LONGEST = 90; // nights of a booking
@@ -26,18 +27,18 @@ export function book() {
     booking.from = atLeastToday(plus(booking.from, days));
     fillBooking();
   };
-  return [head("Book"), el("div", { class: "beside" },
+  return [head(words.book), el("div", { class: "beside" },
     form({ class: "card", id: "booking", oninput: changed }, reserve,
-      field("Guest", input("guest", { autocomplete: "off", spellcheck: "false", "aria-describedby": "length" })),
+      field(words.guest, input("guest", { autocomplete: "off", spellcheck: "false", "aria-describedby": "length" })),
       el("p", { id: "length", class: "hint" }),
       el("div", { class: "row" },
-        field("Arrival", input("arrive", { type: "date", min: hotel.today, max: "2099-12-30" })),
-        field("Nights", input("nights", { type: "number", min: 1, max: LONGEST }))),
+        field(words.arrival, input("arrive", { type: "date", min: hotel.today, max: "2099-12-30" })),
+        field(words.nightsField, input("nights", { type: "number", min: 1, max: LONGEST }))),
       el("p", { id: "until", "aria-live": "polite" }),
-      el("fieldset", { class: "choice" }, el("legend", {}, "Room type"), kinds),
-      acts(el("button", { class: "main", "data-key": "book" }, "Book"))),
-    el("section", { class: "card" }, el("div", { class: "head" }, el("h2", {}, "Free rooms"),
-      acts(button("Earlier", shift(-NIGHTS), "earlier"), button("Later", shift(NIGHTS), "later"))),
+      el("fieldset", { class: "choice" }, el("legend", {}, words.roomType), kinds),
+      acts(el("button", { class: "main", "data-key": "book" }, words.book))),
+    el("section", { class: "card" }, el("div", { class: "head" }, el("h2", {}, words.freeRooms),
+      acts(button(words.earlier, shift(-NIGHTS), "earlier"), button(words.later, shift(NIGHTS), "later"))),
     el("div", { id: "grid", class: "scroll" })))];
 }
 
@@ -51,6 +52,12 @@ export function renewBooking() {
   fillBooking();
 }
 
+// Leads to the form, for this day and kind.
+export function bookFrom(day, kind) {
+  Object.assign(booking, { arrive: day, from: day, kind });
+  location.hash = "book";
+}
+
 const NAME = 60; // bytes of a guest's name, as UTF-8
 const bytesOf = text => new TextEncoder().encode(text).length;
 
@@ -60,7 +67,7 @@ const tooMany = (name, letters = [...name]) =>
 
 function measureName() {
   const more = tooMany(booking.guest.trim());
-  const told = more ? `This name is too long for the desk: leave out ${many(more, "letter")}.` : "";
+  const told = more ? words.nameTooLong(more) : "";
   guestField().setCustomValidity(told);
   $("length").textContent = told;
 }
@@ -75,16 +82,25 @@ function changed({ target }) {
   else fillBooking();
 }
 
+// Puts a name into the field, if that is shown, or for when it is shown again.
+function putName(guest) {
+  booking.guest = guest;
+  if (!guestField()) return;
+  guestField().value = guest;
+  measureName();
+}
+
+// Books. The field is free for the next name at once, so that a second Enter books nothing twice; the name comes back
+// if nothing was booked, unless the next one is being typed.
 function reserve({ kind, arrive, nights, guest: typed }) {
   const guest = typed.trim(), depart = plus(arrive, Number(nights));
+  putName("");
   run(commands.reserve(kind, arrive, nights, guest), answer => {
     const party = answer.slice("party ".length);
-    booking.guest = "";
-    if (guestField()) guestField().value = "";
-    done(`Booking ${party}: `, guestName(guest), `, ${kind}, ${shortDay(arrive)} to ${shortDay(depart)}.`,
+    done(...words.booked(party, guestName(guest), kind, shortDay(arrive), shortDay(depart)),
       arrive === hotel.today ? checkInButton({ party, guest, kind, arrive, depart }) : "");
     guestField()?.focus();
-  });
+  }, () => booking.guest || putName(typed));
 }
 
 let nightly; // the rows of each night of the picture, asked once while the lists stay the same
@@ -108,9 +124,16 @@ const typedNights = () => booking.arrive >= hotel.today && booking.nights >= 1 &
 
 // The typed stay in words, or what is wrong with it.
 const stayInWords = () => typedNights()
-  ? `${longDay(booking.arrive)} to ${longDay(plus(booking.arrive, typedNights()))}`
-  : booking.nights > LONGEST ? `A booking has at most ${LONGEST} nights.`
-  : booking.arrive && booking.arrive < hotel.today ? "This day is over. Look at the year too." : "";
+  ? words.fromTo(longDay(booking.arrive), longDay(plus(booking.arrive, typedNights())))
+  : booking.nights > LONGEST ? words.tooLong(LONGEST)
+  : booking.arrive && booking.arrive < hotel.today ? words.dayIsOver : "";
+
+// How many rooms of a kind are empty now, for a stay from today, if fewer than are free: of the others the guests are
+// still to check out.
+function emptyOf(kind, free) {
+  const empty = hotel.rooms.filter(row => row.kind === kind && isEmpty(row)).length;
+  return booking.arrive === hotel.today && empty < free ? words.emptyCount(empty) : "";
+}
 
 // Fills in how many rooms are free: of the typed nights, and of each kind on the nights of the picture.
 export async function fillBooking() {
@@ -125,7 +148,9 @@ export async function fillBooking() {
     for (const { kind } of hotel.kinds) {
       const free = stay.find(row => row.kind === kind)?.free;
       const shown = $(`free-${kind}`);
-      if (shown) shown.textContent = free === undefined ? "" : free === "0" ? "full" : `${free} free`;
+      if (!shown) continue;
+      shown.textContent = free === undefined ? "" : free === "0" ? words.full
+        : words.freeCount(free) + emptyOf(kind, free);
     }
     showGrid(days, each);
   } catch (fault) {
@@ -155,12 +180,12 @@ function showGrid(days, each) {
   const cell = (kind, day, at) => {
     const row = each[at].find(one => one.kind === kind) ?? { free: "0", rooms: "0" };
     const isMine = kind === booking.kind && day >= booking.arrive && day <= last;
-    const told = `${kind}, ${shortDay(day)}: ${row.free} of ${row.rooms} free`;
+    const told = words.freeOf(kind, shortDay(day), row.free, row.rooms);
     return el("td", { class: `f${shareOf(row)}${isMine ? " mine" : ""}` }, button(row.free, () => takeNight(day, kind),
       null, { tabindex: -1, title: told, "aria-label": told }));
   };
   $("grid").replaceChildren(el("table", { class: "grid" },
-    el("caption", { class: "away" }, "Free rooms of each type on each night"),
+    el("caption", { class: "away" }, words.freeByNight),
     el("thead", {}, el("tr", {}, el("td"), heads)),
     el("tbody", {}, hotel.kinds.map(({ kind }) => el("tr", {}, el("th", { scope: "row" }, kind),
       days.map((day, at) => cell(kind, day, at)))))));

@@ -1,5 +1,7 @@
 // Days of the calendar, as the desk writes them: 2031-05-01. None depends on the clock, the time zone or the language
-// of this computer, except `clockDay`.
+// of this computer, except `clockDay`. They are written in the page's language.
+
+import { words } from "./words.js";
 
 const dateOf = day => new Date(`${day}T00:00Z`);
 
@@ -9,11 +11,15 @@ export function plus(day, days) {
   return date.toISOString().slice(0, 10);
 }
 
+// Whether this is a day of the calendar: 2031-02-31 isn't.
+export const isDay = text =>
+  /^\d{4}-\d\d-\d\d$/.test(text) && !Number.isNaN(dateOf(text).getTime()) && plus(text, 0) === text;
+
 export const nightsOf = (arrive, depart) => Math.round((dateOf(depart) - dateOf(arrive)) / 86_400_000);
 export const isWeekend = day => [0, 6].includes(dateOf(day).getUTCDay());
 
 const writer = options => {
-  const format = new Intl.DateTimeFormat("en-GB", { timeZone: "UTC", ...options });
+  const format = new Intl.DateTimeFormat(words.locale, { timeZone: "UTC", ...options });
   return day => format.format(dateOf(day));
 };
 export const longDay = writer({ weekday: "long", day: "numeric", month: "long", year: "numeric" });

@@ -1,26 +1,19 @@
 // The desk as the page asks it: requests, its lists, and what they say.
 
-import { knowYear, plus } from "./days.js";
+import { knowYear } from "./days.js";
+import { words } from "./words.js";
 
 // The desk gave no answer, or one that doesn't say whether a command was done.
 export class NoAnswer extends Error {}
 // Nothing was done: the text that the desk answered, or what is so and what to do in the page's own words.
 export class Refused extends Error {
-  constructor(text, ...words) {
+  constructor(text, ...todo) {
     super(text);
-    this.words = words.length ? [text, ...words] : undefined;
+    this.words = todo.length ? [text, ...todo] : undefined;
   }
 }
 
 export const isFault = fault => fault instanceof NoAnswer || fault instanceof Refused;
-
-// What the server in front of the desk refuses by itself.
-const SERVER = {
-  401: ["You aren't logged in.", "Load the page again."],
-  403: ["The server lets in only this page, and only what your login may do.", "Load the page again."],
-  413: ["The file is too large.", "Send the file of each lock by itself."],
-  429: ["These were too many requests at once.", "Wait a moment, and try again."],
-};
 
 // The desk answers one request after the other. So only a few lists are asked at once.
 let places = 4;
@@ -46,16 +39,17 @@ export async function ask(method, path, body) {
     answer = await fetch(`${location.origin}/desk${path}${mark}`, { method, body, cache: "no-store", signal });
     text = await answer.text();
   } catch {
-    throw new NoAnswer("The desk can't be reached.");
+    throw new NoAnswer(words.unreachable);
   }
   document.dispatchEvent(new CustomEvent("login", { detail: answer.headers.get("Desk-Login") }));
   if (answer.status === 200) return text;
-  if (answer.status === 429 && method === "POST") throw new NoAnswer("The answer is lost."); // sent twice, perhaps
+  if (answer.status === 429 && method === "POST") throw new NoAnswer(words.answerLost); // sent twice, perhaps
   if (answer.status >= 500 && answer.status !== 501) {
-    throw new NoAnswer(/^(refused|stopped)/.test(text) ? text : "The desk doesn't answer.");
+    throw new NoAnswer(/^(refused|stopped)/.test(text) ? text : words.silent);
   }
   if (answer.headers.get("Content-Type")?.startsWith("text/plain")) throw new Refused(text);
-  throw new Refused(...SERVER[answer.status] ?? [`The server answered ${answer.status}.`, "Load the page again."]);
+  // what the server in front of the desk refuses by itself
+  throw new Refused(...words.server[answer.status] ?? words.serverAnswered(answer.status));
 }
 
 // The rows of a list, each an object with the fields of the header. A field in quotes can contain commas and quotes.
@@ -67,6 +61,7 @@ function rows(csv) {
 }
 
 export const list = path => inTurn(async () => rows(await ask("GET", path)));
+export const cardRow = async number => (await list(`/cards/${number}`))[0];
 export const chainOf = room => list(`/rooms/${room}/chain`);
 
 // Sends an audit file. The same file can be sent again: so a lost answer needs no look.
@@ -140,19 +135,20 @@ export const guestOf = party => hotel.house.find(row => row.party === party);
 export const cardsIn = room => hotel.inside.filter(row => row.room === room);
 export const isOver = booking => booking.depart <= hotel.today;
 export const isDue = booking => booking.arrive <= hotel.today && !isOver(booking);
-export const arrivals = () => hotel.bookings.filter(isDue);
+export const byName = rows => rows.toSorted((a, b) => a.guest.localeCompare(b.guest, words.locale));
+export const arrivals = () => byName(hotel.bookings.filter(isDue));
 export const departures = () => hotel.house.filter(isOver);
-export const tomorrow = () => plus(hotel.today, 1);
 
 // A room's state: its class, its word on the tile, and what it means.
 export function stateOf(row) {
-  if (row.party) {
-    return row.secured === "yes" ? ["taken", "Entered", "The guest has entered with the newest card."]
-      : ["waiting", "Not entered", "The guest hasn't entered with the newest card yet."];
-  }
-  return cardsIn(row.room).length ? ["leaving", "Still inside", "Nobody is registered, but a card is still inside."]
-    : ["free", "Free", ""];
+  const state = row.party ? row.secured === "yes" ? "taken" : "waiting" : isEmpty(row) ? "free" : "leaving";
+  return [state, ...words.states[state]];
 }
+
+// Whether nobody is in a room now, as far as the lists tell. A room can be free for a night although its last guest is
+// still to check out.
+export const isEmpty = row => !row.party && !cardsIn(row.room).length;
+export const freeTonight = () => hotel.kinds.reduce((sum, { free }) => sum + Number(free), 0);
 
 // Whether the newest card doesn't open the lock; or, in a room without a guest, the next one won't.
 export const isStuck = row => Number(row.awaited) >= (row.party ? 2 : 1);

@@ -1,6 +1,7 @@
 // The one window of the page: what it shows, and where the keyboard is in it and after it.
 
 import { $, acts, button, el, first, hint, hushPassing, p } from "./dom.js";
+import { words } from "./words.js";
 
 export const isShown = () => $("dialog").open;
 export const shut = () => $("dialog").close();
@@ -30,10 +31,10 @@ function back() {
   (from ?? $("main")).focus({ preventScroll: !from });
 }
 
-// A window that asks once more before what can't be undone: the keyboard is on "Don't".
+// A window that asks once more before what can't be undone: the keyboard is on what does nothing.
 export function askOnce(title, content, doing, onyes) {
   show(title, content, acts(button(doing, onyes, null, { class: "main" }),
-    button("Don't", shut, null, { autofocus: true })));
+    button(words.dont, shut, null, { autofocus: true })));
 }
 
 const SLOW = 400; // milliseconds, after which a clerk is told that the page waits
@@ -44,7 +45,7 @@ export async function whileHeld(what, doing) {
   for (const one of isShown() ? $("dialog").querySelectorAll("button, input") : []) one.disabled = true;
   const timer = setTimeout(() => {
     isHeld = true;
-    show("Please wait", what, hint("The desk does one thing after the other. A large import takes half a minute."));
+    show(words.pleaseWait, what, hint(words.oneAfterTheOther));
   }, SLOW);
   try {
     return await doing();
@@ -60,7 +61,7 @@ export async function showWhenReady(coming, onready) {
   let mine = showing += 1;
   const timer = setTimeout(() => {
     if (mine !== showing) return;
-    show("Please wait", p("The desk is asked for its lists."), acts(first("Close", shut)));
+    show(words.pleaseWait, p(words.asksLists), acts(first(words.close, shut)));
     mine = showing;
   }, SLOW);
   const ready = await coming;

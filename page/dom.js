@@ -1,5 +1,7 @@
 // Elements of the page, and its messages. Texts of the desk become text nodes, never markup.
 
+import { words } from "./words.js";
+
 // An element with these attributes, listeners (`onclick`) and children. What is missing or false is left out.
 export function el(tag, props = {}, ...children) {
   const made = document.createElement(tag);
@@ -24,13 +26,13 @@ export const card = (title, ...content) => el("section", { class: "card" }, el("
 export const pair = (...cards) => el("div", { class: "pair" }, cards);
 export const head = (title, ...more) => el("div", { class: "head" }, el("h1", {}, title), more);
 
+export const titled = (title, sum) => el("div", {}, el("h1", {}, title), el("p", { class: "sum" }, sum));
+
 // A guest's name, isolated from the direction of the text around it.
 export const guestName = guest => el("bdi", { class: "guest" }, guest);
 
 // A code in three groups.
 export const code = text => el("span", { class: "code" }, text.match(/.{4}/g).map(part => el("span", {}, part)));
-
-export const many = (count, one, more = `${one}s`) => `${count} ${count === 1 ? one : more}`;
 
 // A button; `key` finds it again after the view is drawn anew.
 export const button = (text, onclick, key, props = {}) =>
@@ -47,21 +49,23 @@ export const printer = text => button(text, () => print(), `print ${text}`);
 
 // A button that copies this text. `what` says which text it is to those who don't see what is beside the button.
 export function copier(text, what) {
-  const copy = button("Copy", async () => {
+  const copy = button(words.copy, async () => {
     try {
       await navigator.clipboard.writeText(text);
-      copy.textContent = "Copied";
+      copy.textContent = words.copied;
     } catch {
-      copy.textContent = "Not copied";
+      copy.textContent = words.notCopied;
     }
     copy.setAttribute("aria-label", `${copy.textContent}: ${what}`);
-  }, null, { "aria-label": `Copy ${what}`, class: "copy" });
+  }, null, { "aria-label": words.copyWhat(what), class: "copy" });
   return copy;
 }
 
 // A table: its columns are pairs of a header and what is shown of a row.
 export function table(caption, columns, rows) {
-  const cell = (row, [, shown], at) => at ? el("td", {}, shown(row)) : el("th", { scope: "row" }, shown(row));
+  // In a narrow window a cell has its header above it (desk.css).
+  const cell = (row, [title, shown], at) => el(at ? "td" : "th", { scope: at ? null : "row",
+    "data-title": title.nodeType ? null : title }, shown(row));
   return el("table", {}, el("caption", { class: "away" }, caption),
     el("thead", {}, el("tr", {}, columns.map(([title]) => el("th", { scope: "col" }, title)))),
     el("tbody", {}, rows.map(row => el("tr", {}, columns.map((column, at) => cell(row, column, at))))));
@@ -71,7 +75,7 @@ const MOST = 150; // rows of a table: more take long to draw
 
 // The first rows of a table, and how many more there are; `more` says how to find those.
 export const tableOfFirst = (caption, columns, rows, more = "") => [table(caption, columns, rows.slice(0, MOST)),
-  rows.length > MOST ? none(`${rows.length - MOST} more aren't shown. ${more}`) : null];
+  rows.length > MOST ? none(`${words.moreRows(rows.length - MOST)} ${more}`) : null];
 
 export const field = (text, input, below) =>
   el("label", { class: "field" }, el("span", {}, text), input, below ? el("small", {}, below) : null);
@@ -95,10 +99,10 @@ function hush() {
 export const hushPassing = () => mustStay || hush();
 
 // Says something, aloud to a screen reader too. It passes, unless it has a button of its own, or must be closed.
-export function say(words, { mustClose = false } = {}) {
+export function say(told, { mustClose = false } = {}) {
   clearTimeout(passing);
   mustStay = mustClose;
-  const isKept = mustClose || words.some(word => word instanceof HTMLButtonElement);
-  $("said").replaceChildren(p(words), button("Close", hush, null, { class: "plain" }));
+  const isKept = mustClose || told.some(part => part instanceof HTMLButtonElement);
+  $("said").replaceChildren(p(told), button(words.close, hush, null, { class: "plain" }));
   if (!isKept) passing = setTimeout(hush, 12_000);
 }

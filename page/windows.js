@@ -2,26 +2,27 @@
 
 import { act, cardOf, commands, Lost, roomOfCard } from "./commands.js";
 import { longDay, nightsOf, shortDay } from "./days.js";
-import { cardsIn, chainOf, freeRooms, guestOf, ifSoon, isDue, isFault, isStuck, list, refresh, Refused, rowOf, stateOf }
-  from "./desk.js";
+import { cardRow, cardsIn, chainOf, freeRooms, guestOf, hotel, ifSoon, isDue, isEmpty, isFault, isStuck, list, refresh,
+  Refused, rowOf, stateOf } from "./desk.js";
 import { askOnce, isShown, show, showWhenReady, shut, whileHeld } from "./dialog.js";
-import { acts, button, code, copier, el, first, form, guestName, hint, many, none, p, pair, printer, rowButton, say, so,
+import { acts, button, code, copier, el, first, form, guestName, hint, none, p, pair, printer, rowButton, say, so,
   tableOfFirst, table } from "./dom.js";
-import { explained, stateWord } from "./words.js";
+import { explained, stateWord, words } from "./words.js";
 
 // --- doing ----------------------------------------------------------------------------------------------------------
 
 let doing; // in words, what is being done
 export const isDoing = () => doing !== undefined;
 
-const copied = words => words.map(word => word.cloneNode?.(true) ?? word);
-const asked = (command, more = ".") => el("p", { class: "what" }, "The desk was asked to ", copied(command.what), more);
+// What is being done, once more: an element can be in one place alone.
+const again = what => what.map(part => part.cloneNode?.(true) ?? part);
+const asked = (command, tell = words.asked) => el("p", { class: "what" }, tell(again(command.what)));
 
-// Does this, unless something else is being done.
+// Does this, unless something else is being done. Whether it was begun.
 export async function exclusively(what, does) {
   if (doing) {
-    say(["One thing after the other: the desk is still asked to ", ...copied(doing), "."]);
-    return;
+    say(words.stillAsked(again(doing)));
+    return false;
   }
   doing = what;
   document.body.classList.add("busy");
@@ -31,225 +32,259 @@ export async function exclusively(what, does) {
     doing = undefined;
     document.body.classList.remove("busy");
   }
+  return true;
 }
 
 // Carries out a command, and shows what came of it: `onanswer` gets the answer, and whether the lists are of after it.
-export const run = (command, onanswer) => exclusively(command.what, async () => {
-  try {
-    const answer = await whileHeld(asked(command), () => act(command));
-    await onanswer(answer, Boolean(await ifSoon(refresh())));
-  } catch (fault) {
-    if (fault instanceof Lost) await showLost(fault);
-    else await showFault(fault, command);
-  }
-});
-
-const UNSENT = ["The desk doesn't answer.", "Nothing was sent. Try again in a moment."];
+// `onundone` is called if nothing was done.
+export async function run(command, onanswer, onundone = () => undefined) {
+  const isBegun = await exclusively(command.what, async () => {
+    try {
+      const answer = await whileHeld(asked(command), () => act(command));
+      await onanswer(answer, Boolean(await ifSoon(refresh())));
+    } catch (fault) {
+      if (fault instanceof Lost) await showLost(fault, onundone);
+      else await showFault(fault, command, onundone);
+    }
+  });
+  if (!isBegun) onundone();
+}
 
 // What is so, and what to do.
 export const wordsOf = fault =>
-  fault instanceof Refused ? fault.words ?? explained(fault.message, longDay) : UNSENT;
+  fault instanceof Refused ? fault.words ?? explained(fault.message, longDay) : words.unsent;
 
-async function showFault(fault, command) {
+async function showFault(fault, command, onundone) {
   if (!isFault(fault)) throw fault;
+  onundone();
   const [is, todo] = wordsOf(fault);
   await ifSoon(refresh());
-  show("It wasn't done", asked(command), so(is), p(todo), acts(first("Close", shut)));
+  show(words.wasntDone, asked(command), so(is), p(todo), acts(first(words.close, shut)));
 }
 
-const TITLES = new Map([[true, "It was done"], [false, "It wasn't done"], [undefined, "It may have been done"]]);
-const THEN = new Map([[true, "So say the lists. If somebody else did the same just now, it was that."],
-  [false, "You can do it again."]]);
+const TITLES = new Map([[true, words.wasDone], [false, words.wasntDone], [undefined, words.maybeDone]]);
+const THEN = new Map([[true, words.listsSay], [false, words.canRepeat]]);
 
 // A lost answer: the command may have been done. The lists say whether it was; the clerk decides what comes next.
-async function showLost(lost) {
-  const wait = so("The lists are asked whether it was. Please wait.");
-  show("It may have been done", asked(lost.command, ", and gave no answer."), wait, acts(button("Close", shut)));
-  const [isDone, told] = await lost.found();
+async function showLost(lost, onundone) {
+  const wait = so(words.listsAreAsked);
+  show(words.maybeDone, asked(lost.command, words.askedInVain), wait, acts(button(words.close, shut)));
+  const [isDone, told, isOthers] = await lost.found();
+  if (isDone === false) onundone();
   await ifSoon(refresh());
   if (!isShown() || !wait.isConnected) { // the clerk has closed it, or opened another one
-    say([`${TITLES.get(isDone)}: `, ...copied(lost.command.what), `. ${told}`], { mustClose: true });
+    say(words.result(TITLES.get(isDone), again(lost.command.what), told), { mustClose: true });
     return;
   }
   const cause = /refused (29|30)/.test(lost.message) ? explained(lost.message).join(" ") : "";
   const guest = isDone !== false && guestOf(lost.command.card);
-  const isOthers = told.startsWith("Somebody else");
-  show(TITLES.get(isDone), asked(lost.command, ", and gave no answer."), cause ? p(cause) : null, so(told),
+  show(TITLES.get(isDone), asked(lost.command, words.askedInVain), cause ? p(cause) : null, so(told),
     THEN.has(isDone) && !isOthers ? p(THEN.get(isDone)) : null,
-    guest ? acts(first("Spare card", () => spare(guest)), button("Close", shut)) : acts(first("Close", shut)));
+    guest ? acts(first(words.spareCard, () => spare(guest)), button(words.close, shut))
+      : acts(first(words.close, shut)));
 }
 
 // Closes the window, and says what was done.
-export const done = (...words) => {
+export const done = (...told) => {
   if (isShown()) shut();
-  say(words);
+  say(told);
 };
 
 // --- cards ----------------------------------------------------------------------------------------------------------
 
 // What is to be written or set, each with its name, in big letters, and ready to be copied.
 const slipRow = ([term, id, text, shown = text]) =>
-  [el("dt", {}, term), el("dd", { id }, shown), el("dd", {}, copier(text, term.toLowerCase()))];
+  [el("dt", {}, term), el("dd", { id }, shown), el("dd", {}, copier(text, term))];
 const slip = (rows, ...top) => el("div", { class: "slip" }, top, el("dl", {}, rows.map(slipRow)));
 const codeRow = (term, id, text) => [term, id, text, code(text)];
 
-const WRITE = "Write the number and both codes onto the card.";
-const STUCK = "The lock doesn't open to this card yet: it waits for an earlier one. Set the lock to the new code by "
-  + "hand, then import its file (Locks).";
-const STALE = "The desk is busy: it isn't known whether the lock waits for an earlier card. Look at Locks in a minute.";
-const NOWHERE = "It isn't known for which room this card is. Look at the guest before you hand it out: somebody else "
-  + "may have moved the guest just now.";
-
 // A new card: its number and codes, to be written, copied or printed. `room` is the one that its codes are of, if that
-// is known; `note` says what to do with it, after these warnings.
-function showCard(answer, { guest, depart }, { room, isFresh, note = WRITE, warnings = [] }) {
+// is known; `note` says what to do with it, after these warnings, and `ifStuck` what to do if the lock waits.
+function showCard(answer, { guest, depart }, { room, isFresh, note = words.write, ifStuck = note, warnings = [] }) {
   const card = cardOf(answer);
-  const stuck = !room ? NOWHERE : !isFresh ? STALE : isStuck(rowOf(room)) ? STUCK : "";
-  show(room ? `Card ${card.number} for room ${room}` : `Card ${card.number}`,
-    slip([["Card", "card-number", card.number], codeRow("Old code", "card-old", card.old),
-      codeRow("New code", "card-new", card.fresh)], p(guestName(guest), `, until ${shortDay(depart)}`)),
-    [...warnings, stuck].filter(Boolean).map(warning => so(warning)), p(note),
-    acts(first("Done", shut), printer("Print slip"),
-      button("Spare card", () => spare({ party: card.party, guest, depart }))));
+  const isWaiting = room && isFresh && isStuck(rowOf(room));
+  const stuck = !room ? words.roomUnknown : !isFresh ? words.lockUnknown : isWaiting ? words.lockIsStuck : "";
+  show(room ? words.cardForRoom(card.number, room) : words.cardNo(card.number),
+    slip([[words.card, "card-number", card.number], codeRow(words.oldCode, "card-old", card.old),
+      codeRow(words.newCode, "card-new", card.fresh)], p(words.guestUntil(guestName(guest), shortDay(depart)))),
+    [...warnings, stuck].filter(Boolean).map(warning => so(warning)), p(isWaiting ? ifStuck : note),
+    acts(first(words.done, shut), printer(words.printSlip),
+      button(words.spareCard, () => spare({ party: card.party, guest, depart }))));
 }
 
 // Shows a card for the room in which the guest is now. Another clerk may have moved the guest since the guest's row was
 // drawn.
-const cardOfGuest = (guest, note) => async (answer, isFresh) => {
+const cardOfGuest = (guest, notes) => async (answer, isFresh) => {
   const room = isFresh ? await roomOfCard(cardOf(answer)) : undefined;
   const isMoved = room && guest.room && room !== guest.room;
-  const warnings = isMoved ? [`Somebody else has moved the guest from ${guest.room} to ${room}.`] : [];
-  showCard(answer, guest, { room, isFresh, note, warnings });
+  const warnings = isMoved ? [words.othersMovedGuest(guest.room, room)] : [];
+  showCard(answer, guest, { room, isFresh, warnings, ...notes });
 };
 
 const spare = guest => run(commands.spare(guest), cardOfGuest(guest));
 
-const AT_ONCE = "Have the guest enter with this card at once: until then the lost card opens the door. The guest's "
-  + "other cards open no more after that: write a spare card for each.";
-
-const lostCard = guest => askOnce("Replace a lost card", p(`Room ${guest.room}, `, guestName(guest.guest),
-  ". The next card has a fresh code. When it enters, the lost card opens no more."), "Write the new card",
-() => run(commands.reissue(guest), cardOfGuest(guest, AT_ONCE)));
+const lostCard = guest => askOnce(words.replaceLost, p(words.lostAsked(guest.room, guestName(guest.guest))),
+  words.writeNew,
+  () => run(commands.reissue(guest), cardOfGuest(guest, { note: words.enterAtOnce, ifStuck: words.setAtOnce })));
 
 // --- a guest --------------------------------------------------------------------------------------------------------
 
-// The rooms to choose from, as large radio buttons; the first one is chosen.
-const roomChoice = rooms => el("fieldset", { class: "choice" }, el("legend", {}, "Room"), rooms.map((row, at) =>
-  el("label", {}, el("input", { type: "radio", name: "room", value: row.room, checked: at === 0, autofocus: at === 0 }),
-    el("strong", {}, row.room),
-    isStuck(row) ? el("small", {}, "lock waits") : cardsIn(row.room).length ? el("small", {}, "still inside") : null)));
+const inTheWay = row =>
+  [isStuck(row) && words.lockWaits, !isEmpty(row) && words.stillInside].filter(Boolean).join(", ");
 
-const WAITS = "“Lock waits”: the lock hasn't met an earlier card. Staff must set it before a new card opens it.";
+// The rooms to choose from, as large radio buttons. The first one is chosen, unless somebody may still be in it.
+const roomChoice = rooms => el("fieldset", { class: "choice" }, el("legend", {}, words.room), rooms.map((row, at) =>
+  el("label", {}, el("input", { type: "radio", name: "room", value: row.room, required: true, autofocus: at === 0,
+    checked: at === 0 && isEmpty(row) }), el("strong", {}, row.room),
+    inTheWay(row) ? el("small", {}, inTheWay(row)) : null)));
 
-// Asks for a free room of the guest's type, by lists that are asked anew.
-const chooseRoom = (title, guest, lead, doing, onroom) => showWhenReady(refresh(), isFresh => {
+const NAMED = 5; // rooms whose guests who are still inside are named
+
+// The free rooms of the guest's type, by lists that are asked anew, and who is still inside.
+async function roomsFor(guest) {
+  const isFresh = await refresh();
   const rooms = freeRooms(guest.kind).filter(row => row.room !== guest.room);
+  const left = rooms.filter(row => cardsIn(row.room).length).slice(0, NAMED);
+  const names = await Promise.all(left.map(row => showInside(row.room).catch(() => [])));
+  const inside = left.flatMap((row, at) => names[at].length ? [` ${row.room}: `, ...names[at]] : []);
+  return { isFresh, rooms, inside };
+}
+
+// Asks for one of these.
+const chooseRoom = (title, guest, lead, doing, onroom) => showWhenReady(roomsFor(guest), found => {
+  const { isFresh, rooms, inside } = found;
   if (!isFresh || !rooms.length) {
-    const [is, todo] = isFresh ? [`No room of the type ${guest.kind} is free.`,
-      "Check out a guest who has left, or book another type."] : UNSENT;
-    show(title, p(lead), so(is), p(todo), acts(first("Close", shut)));
+    const [is, todo] = isFresh ? words.noneFree(guest.kind) : words.unsent;
+    show(title, p(lead), so(is), p(todo), acts(first(words.close, shut)));
     return;
   }
   show(title, form({}, values => onroom(values.room), p(lead), roomChoice(rooms),
-    rooms.some(isStuck) ? hint(WAITS) : null,
-    acts(el("button", { class: "main" }, doing), button("Don't", shut))));
+    rooms.some(isEmpty) ? null : so(words.maybeInside),
+    rooms.every(isEmpty) ? null : hint(words.insideMeans, inside), rooms.some(isStuck) ? hint(words.waitsMeans) : null,
+    acts(el("button", { class: "main" }, doing), button(words.dont, shut))));
 });
 
-const stay = row => `${row.kind}, ${many(nightsOf(row.arrive, row.depart), "night")}`;
+const nights = row => nightsOf(row.arrive, row.depart);
 
-const checkIn = booking => chooseRoom(["Check in ", guestName(booking.guest)], booking,
-  `${stay(booking)} until ${shortDay(booking.depart)}`, "Check in", room => run(commands.checkIn(booking, room),
-    (answer, isFresh) => showCard(answer, booking, { room, isFresh })));
+const checkIn = booking => chooseRoom(words.checkInWhom(guestName(booking.guest)), booking,
+  words.stayUntil(booking.kind, nights(booking), shortDay(booking.depart)), words.checkIn,
+  room => run(commands.checkIn(booking, room), (answer, isFresh) => showCard(answer, booking, { room, isFresh })));
 
-const move = guest => chooseRoom(["Move ", guestName(guest.guest)], guest,
-  `From ${guest.room} to another ${guest.kind}.`, "Move", room => run(commands.transfer(guest, room),
-    (answer, isFresh) => showCard(answer, guest, { room, isFresh,
-      note: `${WRITE} It is for room ${room}: collect the cards for the other room.` })));
+const move = guest => chooseRoom(words.moveWhom(guestName(guest.guest)), guest, words.moveFrom(guest.room, guest.kind),
+  words.move, room => run(commands.transfer(guest, room),
+    (answer, isFresh) => showCard(answer, guest, { room, isFresh, note: words.writeAndCollect(room) })));
 
-export const checkOut = guest => askOnce(["Check out ", guestName(guest.guest)],
-  p(`Room ${guest.room}, booked until ${shortDay(guest.depart)}. This can't be undone.`), "Check out",
-  () => run(commands.checkOut(guest), () => done(guestName(guest.guest), " is checked out.")));
+export const checkOut = guest => askOnce(words.checkOutWhom(guestName(guest.guest)),
+  p(words.outAsked(guest.room, shortDay(guest.depart))), words.checkOut,
+  () => run(commands.checkOut(guest), () => done(...words.isOut(guestName(guest.guest)))));
 
-export const cancel = booking => askOnce(["Cancel ", guestName(booking.guest)],
-  p(`Booking ${booking.party}: ${stay(booking)} from ${shortDay(booking.arrive)}. This can't be undone.`),
-  "Cancel the booking", () => run(commands.cancel(booking), () => done("Cancelled: ", guestName(booking.guest), ".")));
+export const cancel = booking => askOnce(words.cancelWhose(guestName(booking.guest)),
+  p(words.cancelAsked(booking.party, booking.kind, nights(booking), shortDay(booking.arrive))), words.cancelBooking,
+  () => run(commands.cancel(booking), () => done(...words.isCancelled(guestName(booking.guest)))));
 
-const GUEST_ACTS = [["Check out", checkOut], ["Spare card", spare], ["Lost card", lostCard], ["Move", move]];
+const GUEST_ACTS = [[words.checkOut, checkOut], [words.spareCard, spare], [words.lostCard, lostCard],
+  [words.move, move]];
 
 export const guestActs = guest => GUEST_ACTS.map(([text, onRow]) => rowButton(text, onRow, guest));
-export const checkInButton = (booking, props) => rowButton("Check in", checkIn, booking, { class: "main", ...props });
+export const checkInButton = (booking, props) =>
+  rowButton(words.checkIn, checkIn, booking, { class: "main", ...props });
 
 export const bookingActs = (booking, props) => [isDue(booking) ? checkInButton(booking, props) : null,
-  rowButton("Cancel", cancel, booking)];
+  rowButton(words.cancel, cancel, booking)];
 
 // What the desk can't do, and what is done in its place.
-const OTHERWISE = {
-  inHouse: [["To stay longer", "Book the further nights. On the first of them check the guest out, check the new "
-    + "booking in at the same room, and write its card. Book early: the nights after a booked stay count as free."],
-  ["Another type of room", "Book it from today, check the guest out, and check the new booking in."]],
-  booked: [["Another name, day, length or type", "Book anew, then cancel this booking."],
-    ["To come early", "Book the nights from today too."]],
-};
-const otherwise = rows => el("details", {}, el("summary", {}, "Something else?"),
+const otherwise = rows => el("details", {}, el("summary", {}, words.somethingElse),
   el("dl", { class: "otherwise" }, rows.map(([term, todo]) => [el("dt", {}, term), el("dd", {}, todo)])));
 
 // The guest's window. The keyboard is on what does no harm: "Check in" asks for a room first.
 export function showGuest(guest) {
-  const where = guest.room ? `Room ${guest.room}, ${guest.kind}, until ${shortDay(guest.depart)}`
-    : `Booking ${guest.party}: ${guest.kind}, ${shortDay(guest.arrive)} to ${shortDay(guest.depart)}`;
+  const where = guest.room ? words.guestAt(guest.room, guest.kind, shortDay(guest.depart))
+    : words.bookingOf(guest.party, guest.kind, shortDay(guest.arrive), shortDay(guest.depart));
   const isAwaited = !guest.room && isDue(guest);
   show(guestName(guest.guest), p(where),
     acts(guest.room ? guestActs(guest) : bookingActs(guest, { autofocus: true }),
-      button("Close", shut, null, { autofocus: !isAwaited })),
-    otherwise(guest.room ? OTHERWISE.inHouse : OTHERWISE.booked));
+      button(words.close, shut, null, { autofocus: !isAwaited })),
+    otherwise(guest.room ? words.otherwiseInHouse : words.otherwiseBooked));
 }
+
+// --- whose card -----------------------------------------------------------------------------------------------------
+
+const OWNED = [[words.card, row => row.card], [words.oldCode, row => code(row.old)],
+  [words.newCode, row => code(row.new)]];
+
+async function cardLists(number) {
+  try {
+    const card = await cardRow(number);
+    return { card, cards: card ? await list(`/parties/${card.party}/cards`) : [] };
+  } catch (fault) {
+    if (!isFault(fault)) throw fault;
+    return { why: wordsOf(fault) };
+  }
+}
+
+// Whose card has this number, and the guest's other cards.
+export const showWhose = number => showWhenReady(cardLists(number), ({ card, cards, why }) => {
+  if (!card) {
+    const [is, todo] = why ?? words.noSuchCard;
+    show(words.cardNo(number), so(is), p(todo), acts(first(words.close, shut)));
+    return;
+  }
+  const guest = guestOf(card.party), room = hotel.inside.find(row => row.card === card.card)?.room;
+  const isNewest = cards.at(-1).new === card.new;
+  show(words.whoseCard(card.card, guestName(card.guest)),
+    p(guest ? words.roomUntil(guest.room, shortDay(guest.depart)) : words.hasCheckedOut),
+    room ? p(words.cardInside(room)) : null,
+    guest ? p(isNewest ? words.isNewest : words.isOlder) : null,
+    acts(guest ? button(words.toGuest, () => showGuest(guest)) : null, first(words.close, shut)),
+    el("h3", {}, words.cardsOfGuest), tableOfFirst(words.cardsNewestFirst, OWNED, cards.toReversed()));
+});
+
+// Those whose cards are inside a room, each as a button that shows whose card it is.
+const showInside = room => Promise.all(cardsIn(room).map(async ({ card, party }) => {
+  const guest = guestOf(party)?.guest ?? (await cardRow(card)).guest;
+  return button(words.guestWithCard(guestName(guest), card), () => showWhose(card), null, { class: "link" });
+}));
 
 // --- a room and its lock --------------------------------------------------------------------------------------------
 
-const HAPPENED = { in: "in", out: "out", recode: "set by hand" };
-const CODES = [["No.", row => row.place], ["Code", row => code(row.code)],
-  ["In the lock", row => stateWord(row.state)]];
-const NOTES = [["When", row => row.at.replace("T", " ")], ["What", row => HAPPENED[row.kind]],
-  ["Card", row => row.card || "–"], ["Lock", row => row.fit], ["Count", row => row.count]];
+const CODES = [[words.number, row => row.place], [words.code, row => code(row.code)],
+  [words.inTheLock, row => stateWord(row.state)]];
+const NOTES = [[words.when, row => row.at.replace("T", " ")], [words.what, row => words.happened[row.kind]],
+  [words.card, row => row.card || "–"], [words.lock, row => row.fit], [words.count, row => row.count]];
 
 async function roomLists(room) {
   try {
-    return await Promise.all([chainOf(room), list(`/rooms/${room}/audit`)]);
+    return await Promise.all([chainOf(room), list(`/rooms/${room}/audit`), showInside(room)]);
   } catch (fault) {
     if (!isFault(fault)) throw fault;
     return [undefined, wordsOf(fault)];
   }
 }
 
-export const showRoom = room => showWhenReady(roomLists(room), ([chain, notes]) => {
+export const showRoom = room => showWhenReady(roomLists(room), ([chain, notes, inside]) => {
   if (!chain) {
-    show(`Room ${room}`, so(notes[0]), p(notes[1]), acts(first("Close", shut)));
+    show(words.roomNo(room), so(notes[0]), p(notes[1]), acts(first(words.close, shut)));
     return;
   }
   const row = rowOf(room), [state, word, meaning] = stateOf(row), guest = guestOf(row.party);
-  const inside = cardsIn(room).map(one => `card ${one.card} of booking ${one.party}`).join(", ");
-  show(`Room ${room}`,
+  show(words.roomNo(room),
     p(`${row.kind} · `, el("span", { class: `state ${state}` }, word), meaning ? `. ${meaning}` : ""),
-    isStuck(row) ? so("The lock waits for an earlier card. Set it to ", code(chain.at(-1).code),
-      ", and import its file.") : null,
-    guest ? p(guestName(guest.guest), `, until ${shortDay(guest.depart)}`) : null,
-    inside ? p(`Inside: ${inside}`) : null,
-    acts(guest ? guestActs(guest) : row.party ? null : button("Replace the lock", () => refit(room)),
-      button("Close", shut, null, { autofocus: true })),
-    pair(el("section", {}, el("h3", {}, "Codes"), table("Codes", CODES, chain)),
-      el("section", {}, el("h3", {}, "What the lock reported"), notes.length
-        ? tableOfFirst("Notes, newest first", NOTES, notes.toReversed()) : none("Nothing was imported yet.")))
+    isStuck(row) ? so(words.setLockTo(code(chain.at(-1).code))) : null,
+    guest ? p(words.guestUntil(guestName(guest.guest), shortDay(guest.depart))) : null,
+    inside.length ? p(words.inside, inside.flatMap((one, at) => at ? [", ", one] : [one])) : null,
+    acts(guest ? guestActs(guest) : row.party ? null : button(words.replaceTheLock, () => refit(room)),
+      button(words.close, shut, null, { autofocus: true })),
+    pair(el("section", {}, el("h3", {}, words.codes), table(words.codes, CODES, chain)),
+      el("section", {}, el("h3", {}, words.reported), notes.length
+        ? tableOfFirst(words.notes, NOTES, notes.toReversed()) : none(words.nothingImported)))
   ).classList.add("wide");
 });
 
-export const refit = room => askOnce(`Replace the lock of ${room}`,
-  [p("First make sure of these:"), el("ul", {}, ["The old lock's file is imported, if it can be read.",
-    "Nobody is in the room.", "The new lock is at hand, or the old one can count from 1 again."].map(text =>
-    el("li", {}, text))), p("This can't be undone.")],
-  "Replace the lock", () => run(commands.refit(room), answer => {
-    const [, fit, fresh] = /^lock (\d+) code (\w+)$/.exec(answer);
-    show(`New lock of ${room}`,
-      slip([["Room", null, room], ["Lock number", null, fit], codeRow("Code", "lock-code", fresh)]),
-      p(`Set the new lock to this code. It counts its notes from 1. Set its reader to the lock number ${fit}.`),
-      acts(first("Done", shut), printer("Print slip")));
-  }));
+export const refit = room => askOnce(words.replaceLockOf(room), [p(words.makeSure),
+  el("ul", {}, words.beforeReplacing.map(text => el("li", {}, text))), p(words.cantBeUndone)],
+words.replaceTheLock, () => run(commands.refit(room), answer => {
+  const [, fit, fresh] = /^lock (\d+) code (\w+)$/.exec(answer);
+  show(words.newLockOf(room),
+    slip([[words.room, null, room], [words.lockNumber, null, fit], codeRow(words.code, "lock-code", fresh)]),
+    p(words.setNewLock(fit)), acts(first(words.done, shut), printer(words.printSlip)));
+}));
