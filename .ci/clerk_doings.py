@@ -184,32 +184,36 @@ def waiting(desk):
 
 
 def windows_that_wait(clerk, between):
-    between.slow = {"GET": 0.3}
     clerk.go("Rooms")
-    for room in 1, 2, 3:
-        clerk.js("document.querySelector(`[data-key='room ${arguments[0]}']`).click()", room)
-    yield "it says so", True, clerk.shows("Please wait", "dialog h2")
+    with between.held("GET"):
+        for room in 1, 2, 3:
+            clerk.js("document.querySelector(`[data-key='room ${arguments[0]}']`).click()", room)
+        yield "it says so", True, clerk.shows("Please wait", "dialog h2")
     yield "the last one", True, clerk.shows("Room 3", "dialog h2")
     clerk.done("Close")
-    time.sleep(2)
+    between.quiet()
     yield "no other", False, clerk.js("return document.querySelector('dialog').open")
-    clerk.js("document.querySelector(`[data-key='room 1']`).click()")
-    clerk.shows("Please wait", "dialog h2")
-    clerk.done("Close")
-    time.sleep(2)
+    with between.held("GET"):
+        clerk.js("document.querySelector(`[data-key='room 1']`).click()")
+        yield "it says so again", True, clerk.shows("Please wait", "dialog h2")
+        clerk.done("Close")
+    between.quiet()
     yield "none once it is closed", False, clerk.js("return document.querySelector('dialog').open")
 
 
 def a_command_that_waits(clerk, between):
-    between.slow = {"POST": 2}
     clerk.go("Guests")
     clerk.press("Lost card", "Ann Lee")
-    clerk.choose("Write the new card")
-    yield "buttons", [True, True], clerk.js(
-        "return [...document.querySelectorAll('dialog button')].map(one => one.disabled)")
-    yield "a command", True, clerk.shows("The desk was asked to replace the lost card of Ann Lee")
-    clerk.type(clerk.keys.ESCAPE)
-    yield "it stays", True, clerk.js("return document.querySelector('dialog').open")
+    clerk.shows("Write the new card")
+    with between.held("POST"):
+        # its buttons are looked at in the same moment: others take their place soon
+        yield "buttons", [True, True], clerk.js("""
+            const all = [...document.querySelectorAll('dialog button')];
+            all.find(one => one.innerText === 'Write the new card').click();
+            return all.map(one => one.disabled)""")
+        yield "a command", True, clerk.shows("The desk was asked to replace the lost card of Ann Lee")
+        clerk.type(clerk.keys.ESCAPE)
+        yield "it stays", True, clerk.js("return document.querySelector('dialog').open")
     yield "its answer", True, clerk.shows("Card 3 for room 2", "dialog h2")
     clerk.done()
     between.slow = {"GET": 0.8}
@@ -225,11 +229,10 @@ def verdicts_without_a_window(clerk, between):
     for press, choice, told, opens in (
             (("Cancel", "Cy"), "Cancel the booking", "It was done: cancel the booking of Cy.", False),
             (("Check out", "Joanna"), "Check out", "It was done: check Joanna out.", True)):
-        between.lose = "silent answer"
+        between.lose, between.then_slow = "silent answer", {"GET": 0.5}
         clerk.press(*press)
         clerk.choose(choice)
         clerk.shows("It may have been done")
-        between.slow = {"GET": 0.3}
         clerk.done("Close")
         if opens:
             clerk.js("document.querySelector('main [data-key=g1]').click()")

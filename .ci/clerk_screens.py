@@ -104,13 +104,11 @@ def windows(clerk, look):
             "return document.activeElement.closest('main') !== null"))
 
 
-LOOKS = [("light", 1280, 800, False), ("dark", 768, 1024, True)]
-
-
-def screens(desk):
-    """Each view and window: what is pressed or filled in has a name, texts can be read, and nothing is cut off."""
-    with hotel(desk, FEW) as (_, site), Clerk(site) as clerk:
-        for scheme, width, height, is_touched in LOOKS:
+def screens(scheme, width, height, is_touched):
+    """The test of each view and window on such a screen: what is pressed or filled in has a name, texts can be read,
+    and nothing is cut off."""
+    def test(desk):
+        with hotel(desk, FEW) as (_, site), Clerk(site) as clerk:
             clerk.command("Emulation.setEmulatedMedia", features=[{"name": "prefers-color-scheme", "value": scheme}])
             clerk.command("Emulation.setDeviceMetricsOverride", width=width, height=height, mobile=is_touched,
                           deviceScaleFactor=1)
@@ -122,7 +120,13 @@ def screens(desk):
                 yield from looked_at(clerk, (look, view))
                 clerk.shot(f"{look}-{view.lower()}")
             yield from windows(clerk, look)
-        yield "the console", [], clerk.faults()
+            yield "the console", [], clerk.faults()
+
+    test.__name__ = f"screens_{scheme}"
+    return test
+
+
+SCREENS = [screens("light", 1280, 800, False), screens("dark", 768, 1024, True)]
 
 
 # Cells of the picture that lie over the next one.
@@ -131,6 +135,13 @@ return [...document.querySelectorAll('#grid td + td button')].filter(one => {
     const before = one.closest('td').previousElementSibling.querySelector('button').getBoundingClientRect();
     return before.right > one.getBoundingClientRect().left;
 }).length"""
+
+
+def is_drawn(clerk, view):
+    """Whether the view shows what lists say."""
+    if view == "Book":
+        return clerk.js("return document.querySelectorAll('#grid button').length") == 28
+    return view == "Set-up" or "101" in clerk.text("main")
 
 
 def small_windows(desk):
@@ -142,12 +153,11 @@ def small_windows(desk):
                           deviceScaleFactor=scale)
             for view in "Today", "Book", "Rooms", "Guests", "Locks", "Set-up":
                 clerk.go(view)
-                clerk.shows("101", "main")
+                clerk.until(lambda: is_drawn(clerk, view))
                 time.sleep(0.3)
                 yield from looked_at(clerk, (width, view))
                 if view == "Book":
-                    yield (width, "the picture"), True, clerk.until(
-                        lambda: clerk.js("return document.querySelectorAll('#grid button').length") == 28)
+                    yield (width, "the picture"), True, is_drawn(clerk, view)
                     yield (width, "covered"), 0, clerk.js(OVERLAPPING)
         yield "the console", [], clerk.faults()
 

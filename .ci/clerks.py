@@ -1,65 +1,41 @@
 """The desk behind nginx with deploy/nginx.conf and TLS, and a browser with the page, as .ci/page runs them."""
 import base64
 import contextlib
+import functools
 import grp
 import http.client
 import json
 import os
 import pathlib
 import re
-import shlex
 import shutil
 import socket
 import ssl
 import subprocess
 import sys
+import tempfile
 import threading
 import time
 import urllib.parse
 
 from built_desk import HERE, answer, free_port, serve
+from installed import PATH, SELENIUM
 
 TOP = HERE.parent
-PAGE, DEPLOY, GUIDE = TOP / "page", TOP / "deploy", TOP / "docs" / "PAGE.md"
+PAGE, DEPLOY = TOP / "page", TOP / "deploy"
+GUIDES = TOP / "docs" / "OPERATING.md", TOP / "docs" / "PAGE.md"
 NAME, OTHER, SECRET = "desk.hotel.example", "sea.hotel.example", "a long secret"
 # The values of the guide's first lines, for a section that is run by itself.
 GUIDE_VALUES = f"name={NAME}; address=127.0.0.1; stick=$stick\n"
-# What the tests need: each program's package. Those of the second table are for the browser.
-NEEDED = {"nginx": "nginx", "openssl": "openssl", "logrotate": "logrotate", "nft": "nftables", "ip": "iproute2"}
-BROWSER = {"chromium": "chromium", "chromedriver": "chromium-driver", "pdftotext": "poppler-utils"}
-# Debian's package installs selenium for the system's Python.
-SELENIUM = "/usr/lib/python3/dist-packages"
 ORDINARY = {"user": "nobody", "group": "nogroup"} if os.getuid() == 0 else {}
 GROUP = ORDINARY.get("group") or grp.getgrgid(os.getgid()).gr_name
-# Programs of the system stand there too.
-PATH = f"{os.environ.get('PATH', os.defpath)}:/usr/sbin:/sbin"
 ANSWER, FAILED = answer("200 OK", b"begun\n"), answer("503 Service Unavailable", b"refused 30 Store\n")
 
-def missing(with_browser):
-    """The packages of what the tests need and isn't on the machine."""
-    programs = NEEDED | BROWSER if with_browser else NEEDED
-    packages = [package for name, package in programs.items() if not shutil.which(name, path=PATH)]
-    if with_browser and not pathlib.Path(SELENIUM, "selenium").exists():
-        packages.append("python3-selenium")
-    return packages
-
-
-def installed(with_browser=True):
-    """Whether what the tests need is on the machine, or could be installed. If not, says what is missing."""
-    if missing(with_browser) and shutil.which("apt-get") and os.getuid() == 0:
-        for words in ["update"], ["install", "-y", "--no-install-recommends", *missing(with_browser)]:
-            subprocess.run(["apt-get", "-qq", *words], stdout=sys.stderr, check=False)
-    lacking = missing(with_browser)
-    if lacking:
-        print(f"missing: {', '.join(lacking)}\n0 passed, 1 failed")
-    return not lacking
-
-
 def soon(is_so, seconds=60):
-    """Whether it is so within these seconds."""
-    ended = time.monotonic() + seconds
-    while not (found := is_so()) and time.monotonic() < ended:
-        time.sleep(0.03)
+    """Whether it is so within these seconds. It is looked less and less often, since each look costs time too."""
+    began = time.monotonic()
+    while not (found := is_so()) and (waited := time.monotonic() - began) < seconds:
+        time.sleep(min(max(waited / 8, 0.02), 1))
     return found
 
 
@@ -112,11 +88,11 @@ class Between:
     is then `request` or `answer`, and the desk is killed and started again; with `silent` before either the desk goes
     on. With `store` it answers that the database failed, and the desk isn't asked; with `cable` it cuts the cable. The
     commands `earlier` and `later` are another clerk's, just before and after that command. Each command, or each list,
-    takes so many seconds more as `slow` has for its method."""
+    takes so many seconds more as `slow` has for its method; after the command that is lost also as `then_slow` has."""
 
     def __init__(self, desk):
-        self.desk, self.lose, self.cable, self.earlier, self.later, self.slow = desk, None, None, (), (), {}
-        self.latest = 0
+        self.desk, self.lose, self.cable, self.earlier, self.later = desk, None, None, (), ()
+        self.slow, self.then_slow, self.gates, self.latest = {}, {}, {}, 0
         self.listener = socket.create_server(("127.0.0.1", 0), backlog=128)
         self.port = self.listener.getsockname()[1]
         self.begin()
@@ -136,7 +112,10 @@ class Between:
             with peer, contextlib.suppress(OSError):
                 asked = read_request(peer)
                 self.latest = time.monotonic()
-                time.sleep(self.slow.get(asked.partition(b" ")[0].decode(), 0))
+                method = asked.partition(b" ")[0].decode()
+                if gate := self.gates.get(method):
+                    gate.wait(60)
+                time.sleep(self.slow.get(method, 0))
                 lost = asked.startswith(b"POST") and self.lose or ""
                 said = self.carried(asked, lost)
                 if lost == "cable":
@@ -153,10 +132,22 @@ class Between:
         if not asked.startswith(b"POST"):
             return relayed(self.inner, asked)
         earlier, later, self.earlier, self.later, self.lose = self.earlier, self.later, (), (), None
+        if lost:
+            self.slow, self.then_slow = self.slow | self.then_slow, {}
         self.each(earlier)
         said = FAILED if lost in ("request", "silent request", "store") else relayed(self.inner, asked)
         self.each(later)
         return said
+
+    @contextlib.contextmanager
+    def held(self, method):
+        """Meanwhile no request of this method is answered, nor any that comes after one."""
+        gate = self.gates[method] = threading.Event()
+        try:
+            yield
+        finally:
+            del self.gates[method]
+            gate.set()
 
     def each(self, others):
         """Has the desk carry out each of another clerk's commands."""
@@ -214,28 +205,67 @@ class Cable:
         self.ends.clear()
 
 
+BUILDING = threading.Lock()
+
+
+def package(program):
+    """The package with this program, which tests side by side unpack."""
+    with BUILDING:
+        return built(program)[1]
+
+
+@functools.cache
+def built(program):
+    """The same, and the folder that has it as long as this runs. It isn't compressed, since each test unpacks it."""
+    made = tempfile.TemporaryDirectory()
+    done = subprocess.run([DEPLOY / "package", program], cwd=made.name, check=True, text=True, stdout=subprocess.PIPE,
+                          env=dict(os.environ, VERSION="1", DPKG_DEB_COMPRESSOR_TYPE="none"))
+    return made, pathlib.Path(made.name, done.stdout.strip())
+
+
+# What stands in place of commands of the system, which would change it: some do what is needed here.
+TOLD = {"systemctl": 'echo systemctl "$@"', "runuser": 'touch "$6"', "ip": "echo ' 127.0.0.1/8'",
+        "mountpoint": 'test "$3" = {0}/media/stick',
+        "install": '[ "$1" = -d ] || exec /usr/bin/install "$@"; for last; do :; done; mkdir -p -- "$last"',
+        "hotel_copy": 'echo hotel_copy "$@"', "apt-get": 'echo apt-get "$@"'}
+
+
 class Site:
-    """nginx with the page, before these desks: the port of each by its hotel's name. What it is made of is installed by
-    the lines of docs/PAGE.md, with a folder in place of the system's. In its configuration texts are replaced."""
+    """nginx with the page, before these desks: the port of each by its hotel's name. What it is made of is what the
+    package has, and the lines of the documents, with a folder in place of the system's. In its configuration texts are
+    replaced. Ann and Bo are managers, unless these lines give other roles."""
+    nginx = None
 
     def __init__(self, desk, ports, replaced=(), roles=""):
         self.folder, self.port = desk.folder / "site", free_port()
         self.etc, self.logs = self.folder / "etc/nginx", self.folder / "var/log"
         self.record, self.faults = self.logs / "hotel/commands.log", self.logs / "nginx/error.log"
         desk.folder.chmod(0o711)
-        for name in ("etc/nginx/sites-available", "etc/nginx/sites-enabled", "etc/logrotate.d", "etc/systemd/system",
-                     "usr/local/sbin", "usr/local/share", "media/stick", "var/log/nginx"):
-            (self.folder / name).mkdir(parents=True)
-        (self.etc / "nginx.conf").write_text(self.main_file())
-        for section in "Install", "Several hotels":
-            self.guide(section)
-        (self.etc / f"hotel/{NAME}.roles").write_text(roles)
+        self.lay(package(desk.program))
+        self.said = {section: self.guide(section) for section in ("Install", "Several hotels")}
+        if roles:
+            (self.etc / f"hotel/{NAME}.roles").write_text(roles)
         self.configure(ports, replaced)
         self.record.touch()
         self.owned()
         self.nginx = subprocess.Popen([*self.command(), "-g", "daemon off;"], stderr=subprocess.DEVNULL, **ORDINARY)
         self.trusts = ssl.create_default_context(cafile=self.etc / "hotel/ca.crt")
         assert soon(self.listens), self.faults.read_text()
+
+    def lay(self, file):
+        """Lays out what the package has, adapted to this folder, and what stands in place of the system's commands."""
+        subprocess.run(["dpkg-deb", "-x", file, self.folder], check=True)
+        for name in "etc/nginx/sites-enabled", "told", "var/log/nginx", "var/lib", "var/backups", "media/stick":
+            (self.folder / name).mkdir(parents=True)
+        for path in *self.folder.glob("usr/sbin/*"), *self.folder.glob("etc/*/*"), *self.etc.glob("*/hotel_desk"):
+            if path.is_file():
+                path.write_text(self.inside(path.read_text()))
+        for name, lines in TOLD.items():
+            (self.folder / "told" / name).write_text("#!/bin/bash\n" + lines.replace("{0}", str(self.folder)) + "\n")
+            (self.folder / "told" / name).chmod(0o755)
+        (self.etc / "nginx.conf").write_text(self.main_file())
+        shutil.chown(self.record.parent, group=GROUP)
+        self.record.parent.chmod(0o750)
 
     def listens(self):
         with contextlib.suppress(OSError):
@@ -259,32 +289,26 @@ class Site:
         return text
 
     def inside(self, text):
-        """The text with this folder in place of the system's, and the test's group in place of nginx's."""
-        text = re.sub(r"(?<![\w./])/(?=(?:etc|var|media|usr/local)/)", f"{self.folder}/", text)
-        return text.replace("-g www-data", f"-g {GROUP}")
-
-    def adapted(self):
-        """A command that puts this folder, and the test's port, into the installed configuration."""
-        return (f"sed -Ei 's#(^|[^[:alnum:]_./])/(etc|var|usr/local)/#\\1{self.folder}/\\2/#g; "
-                f"s/:443 ssl/:{self.port} ssl/' {self.etc}/sites-available/hotel_desk")
+        """The text with this folder in place of the system's."""
+        return re.sub(r"(?<![\w./{}])/(?=(?:etc|var|media|usr/share)/)", f"{self.folder}/", text)
 
     def guide(self, section):
-        """Runs the lines of a section of docs/PAGE.md in the top folder, and returns what they print. Each password
-        that is asked for is SECRET. The commands of the system are only told."""
-        text = GUIDE.read_text().partition(f"\n## {section}\n")[2].partition("\n## ")[0]
+        """Runs the lines of a section of the documents, and returns what they print. Each password that is asked for is
+        SECRET. The commands of the system are only told."""
+        text = "\n".join(guide.read_text() for guide in GUIDES)
+        text = text.partition(f"\n## {section}\n")[2].partition("\n## ")[0]
         lines = "".join(re.findall(r"^```bash\n(.*?)^```\n", text, re.MULTILINE | re.DOTALL))
-        assert lines, f"docs/PAGE.md has no lines in {section}"
-        told = "".join(f"{name}() {{ echo {name} \"$@\"; }}\n" for name in ("apt-get", "systemctl", "nft"))
-        told += f"nginx() {{ {self.adapted()}; command {shlex.join(self.command())} \"$@\" -q; }}\n"
+        assert lines, f"the documents have no lines in {section}"
         values = GUIDE_VALUES.replace("$stick", f"{self.folder}/media/stick")
         lines = self.inside(lines.replace("address=192.168.1.10", "address=127.0.0.1"))
-        made = self.run("bash", "-euo", "pipefail", "-c", told + values + lines, given=f"{SECRET}\n" * 8)
+        made = self.run("bash", "-euo", "pipefail", "-c", values + lines, given=f"{SECRET}\n" * 8)
         assert made.returncode == 0, f"{section}: {made.stdout}{made.stderr}"
         return made.stdout
 
     def run(self, *words, given="", **around):
         """Runs a command with the installed programs on the path."""
-        around = dict(os.environ, PATH=f"{self.folder}/usr/local/sbin:{PATH}", GROUP=GROUP,
+        reload = f"kill -HUP {self.nginx.pid}" if self.nginx else "true"
+        around = dict(os.environ, PATH=f"{self.folder}/told:{self.folder}/usr/sbin:{PATH}", GROUP=GROUP, RELOAD=reload,
                       LOGINS=str(self.etc / "hotel"), **around)
         return subprocess.run(words, cwd=TOP, env=around, input=given, stdout=subprocess.PIPE, stderr=subprocess.PIPE,
                               text=True, check=False, timeout=60)
@@ -299,7 +323,8 @@ class Site:
             assert old in text, f"deploy/nginx.conf has no longer {old!r}"
             text = text.replace(old, new)
         site.write_text(text)
-        self.known = re.search("hotel=([0-9a-f]{32});", text)[0].rstrip(";")
+        (self.etc / "hotel/listen.conf").write_text(f"listen 127.0.0.1:{self.port} ssl default_server;\n")
+        self.known = "hotel=" + re.search("[0-9a-f]{32}", (self.etc / "hotel/cookie.conf").read_text())[0]
 
     def owned(self):
         """Has nginx's account own what nginx reads as root, or writes; but not the folder of the record."""
@@ -375,6 +400,7 @@ class Browser:
                      f"user-data-dir={folder}/profile-{time.monotonic_ns()}",
                      "host-resolver-rules=MAP *.example 127.0.0.1", *words):
             options.add_argument(f"--{word}")
+        options.add_experimental_option("prefs", {"intl.accept_languages": "en-US,en"})
         options.set_capability("goog:loggingPrefs", {"browser": "ALL"})
         options.binary_location = shutil.which("chromium")
         self.browser = webdriver.Chrome(options=options, service=Service(shutil.which("chromedriver")))
@@ -431,9 +457,13 @@ class Clerk(Browser):
 
     def __init__(self, site, who="ann", port=None):
         super().__init__(site.folder.parent, [f"ignore-certificate-errors-spki-list={site.key()}"])
-        port = port or site.port
-        self.browser.get(f"https://{who}:{SECRET.replace(' ', '%20')}@{NAME}:{port}/")
-        self.browser.get(f"https://{NAME}:{port}/")
+        self.who, self.address = who, f"{NAME}:{port or site.port}"
+        self.log_in()
+
+    def log_in(self):
+        """Opens the page with the login. It is for the whole site, and the icon asks for nothing more."""
+        self.browser.get(f"https://{self.who}:{SECRET.replace(' ', '%20')}@{self.address}/icon.svg")
+        self.browser.get(f"https://{self.address}/")
         self.ready()
 
     def ready(self):
@@ -521,9 +551,10 @@ class Clerk(Browser):
                               check=True).stdout.decode()
 
     def faults(self):
-        """What the console has, except that the desk refused or didn't answer."""
-        return [entry["message"] for entry in self.browser.get_log("browser")
-                if not re.search("Failed to load resource.* status of (409|400|502|503|504) ", entry["message"])]
+        """What the console has, except that the desk refused or didn't answer; and that the icon, at which a clerk
+        logs in, has no icon."""
+        return [entry["message"] for entry in self.browser.get_log("browser") if not re.search(
+            r"/favicon\.ico |Failed to load resource.* status of (409|400|502|503|504) ", entry["message"])]
 
     def shot(self, name):
         if "SHOTS" in os.environ:

@@ -178,17 +178,21 @@ def code_of(site, room):
 
 ROWS = [(name, [], *row) for name, *row in LOST]
 ROWS += [(name, stale, [], done, [], title, part) for name, stale, done, title, part in STALE]
-OF_GUESTS = "check in", "spare", "lost card", "move", "check out"
+GROUPS = {"stays": ("check in", "spare", "check out"), "moves": ("lost card", "move"),
+          "bookings": ("book", "cancel", "new lock"), "days": ("next day", "begin", "add type", "add room")}
+assert {row[0] for row in ROWS} == {name for names in GROUPS.values() for name in names}
 
 
-def lost_of_guests(desk):
-    """The rows of LOST and STALE for guests in house, and check-ins."""
-    yield from lost(desk, [row for row in ROWS if row[0] in OF_GUESTS])
+def lost_of(group):
+    """The test of the rows of LOST and STALE for these commands."""
+    def test(desk):
+        yield from lost(desk, [row for row in ROWS if row[0] in GROUPS[group]])
+
+    test.__name__ = f"lost_{group}"
+    return test
 
 
-def lost_of_others(desk):
-    """The other rows."""
-    yield from lost(desk, [row for row in ROWS if row[0] not in OF_GUESTS])
+LOST_TESTS = [lost_of(group) for group in GROUPS]
 
 
 def lost(desk, rows):

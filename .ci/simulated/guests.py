@@ -55,7 +55,7 @@ class Guests:
 
     def loses(self, guest):
         """A card is lost, and perhaps reported. Then the new one enters at once, or staff set the lock, or neither
-        (docs/OPERATING.md, A lost card)."""
+        (docs/CLERK.md, A lost card)."""
         card, lock, others = self.some(guest.cards), self.locks[guest.room], len(guest.cards) - 1
         if not card:
             return

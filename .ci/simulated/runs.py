@@ -8,6 +8,7 @@ import time
 
 from built_desk import ROOM
 from simulated.desk import KILL, Desk
+from simulated.doors import doors_in
 from simulated.hotel import Hotel
 from simulated.planted import Planted
 from simulated.things import Lock, Note
@@ -28,9 +29,9 @@ def text_of(counts):
     return ", ".join(f"{count} {name}" for name, count in sorted(counts.items()))
 
 
-def run(program, way, seed, rooms, days, kills, restores, until=math.inf, bug=None, seconds=60):
+def run(program, way, seed, rooms, days, kills, restores, until=math.inf, bug=None, seconds=60, door=None):
     """Runs a hotel. `kills` and `restores` are how probable one is at a question and on a day; `bug` is one of
-    planted.py. So many seconds are spent on the shortest script."""
+    planted.py. So many seconds are spent on the shortest script. `door` is a hotel_door, which is each second lock."""
     chance = random.Random(seed)
 
     def way_in(folder):
@@ -40,7 +41,8 @@ def run(program, way, seed, rooms, days, kills, restores, until=math.inf, bug=No
     with tempfile.TemporaryDirectory(dir=ROOM) as made:
         desk = Desk(way_in(made), chance, kills)
         try:
-            Hotel(desk, chance, rooms, restores, getattr(bug, "lock", Lock)).runs(days, until)
+            lock = doors_in(made, door, 2) if door else getattr(bug, "lock", Lock)
+            Hotel(desk, chance, rooms, restores, lock).runs(days, until)
             fails = []
         except Wrong as fault:
             last = desk.now and shortest(way_in, [*desk.steps, (*desk.now, None)], time.monotonic() + seconds)
