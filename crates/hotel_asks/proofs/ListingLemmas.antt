@@ -1,7 +1,7 @@
 -- The listing of a list over rows is that over a history for which they stand.
 use Rattle.std.proofs.Common.{◌≡◌, ℕ, List, Bool, true, false, sym, ap, ◌∙◌, refl, Some, inl, inr, is_some}
-use Rattle.hotel_core.proofs.Names.{Rows, rows_of, History, is_room, Reached, StandsFor, room_at, chain_on}
-use Rattle.hotel_core.proofs.Names.{notes, notes_at}
+use Rattle.hotel_books.proofs.Names.{Rows, rows_of, History, is_room, Reached, StandsFor, room_at, chain_on}
+use Rattle.hotel_books.proofs.Names.{notes, notes_at}
 use Rattle.std.proofs.lemmas.Bool.{cases_Bool}
 use Rattle.hotel_model.proofs.{Lifted.ListRows.lists_lift, OfTables.RoomNumbers.room_there}
 use Rattle.hotel_model.proofs.{OfTables.RoomNumbers.room_not_there}

@@ -7,9 +7,7 @@ ghost use Rattle.hotel_asks.specs.Listings.{listing_on};
 
 use crate::asked::ListAsk;
 use hotel_core::{Walks, lists};
-use hotel_lists::{
-    ListFault, write_business_day, write_card_of, write_locks, write_room_rows, write_rows,
-};
+use hotel_lists::{ListFault, write_business_day, write_card_of, write_room_rows, write_rows};
 use hotel_streams::IoCalls;
 use std::alloc::Global;
 use std::io::Write;
@@ -66,6 +64,6 @@ pub fn write_list<W: Write, B: Walks>(
             calls,
         ),
         ListAsk::CardOf(card) => write_card_of(alloc, books, *card, writer, calls),
-        ListAsk::Locks => write_locks(alloc, books, writer, calls),
+        ListAsk::Locks => write_rows(alloc, books, &lists::Locks, writer, calls),
     }
 }

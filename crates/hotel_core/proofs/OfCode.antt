@@ -1,5 +1,4 @@
 pub mod LaterNotes
-pub mod NoteFields
 pub mod NoteParts
 pub mod FitParts
 pub mod NoteReplies
@@ -12,5 +11,4 @@ pub mod FailuresCounted
 pub mod Happened
 pub mod StopsAfter
 pub mod Happens
-pub mod Walking
 pub mod AnswerParts

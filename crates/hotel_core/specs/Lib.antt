@@ -1,10 +1,6 @@
 -- The definitions of this crate.
 pub mod Books
 pub mod Refinement
-pub mod Memory
-pub mod NightIndex
-pub mod KindRooms
-pub mod FreeRows
 pub mod Texts
 -- Those of the model that its clauses cite, in the model's reading order, so that a caller's clauses name one crate.
 pub use Rattle.hotel_model.specs.Words

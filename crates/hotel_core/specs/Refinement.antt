@@ -1,6 +1,6 @@
 -- The code's own terms, over books.
 pub mod StepOnRows
-pub mod Finds
+pub use Rattle.hotel_books.specs.Refinement.Finds
 pub mod FindsChecked
 pub mod NextNote
 -- Those between the rows and the model.

@@ -1,7 +1,7 @@
 //! Laws of books, which make no call: what a caller may rest on beside the contracts of the calls.
 ghost use Rattle.hotel_core.specs.Books.Stepped.{RefusalsKeepRows, RunsFollow, StepsLead};
 
-use crate::books::Books;
+use hotel_books::Books;
 
 /// What follows of a command's clause over books that are clean as it ends, and of commands that were carried out one
 /// after the other: they are a run of the model, and leave together what one of them does.

@@ -2,8 +2,8 @@
 ghost use Rattle.std.specs.Prelude.{◌≡◌, Some, IfOk, IfErr, codes};
 ghost use Rattle.hotel_core.specs.Books.Stepped.{RunThrough};
 
-use crate::books::Books;
 use crate::steps::step;
+use hotel_books::Books;
 use hotel_model::{Command, Reply};
 use rand_core::Rng;
 use std::alloc::Global;

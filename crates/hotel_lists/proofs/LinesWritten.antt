@@ -2,15 +2,15 @@
 use Rattle.std.proofs.Common.{ℕ, ◌≡◌, Bool, true, false, List, [], ◌∷◌, ◌++◌, Option, Result, Ok, Err, Some, None, map}
 use Rattle.std.proofs.Common.{append_assoc, append-nil, length-append, ap, refl, sym, ◌∙◌, subst, arith, inl, inr}
 use Rattle.std.proofs.Common.{flat_map}
-use Rattle.hotel_core.proofs.Names.{Passes, Hands}
-use Rattle.hotel_core.specs.Books.Walks.{failure_of}
+use Rattle.hotel_books.proofs.Names.{Passes, Hands}
+use Rattle.hotel_books.specs.Books.Walks.{failure_of}
 use Rattle.std.specs.List.{concat}
 use Rattle.std.proofs.lemmas.List.{map-append, take-append-le}
 use Rattle.std.proofs.lemmas.List.Concat.{flat_map-append}
 use Rattle.std.specs.Io.KnownBytes.{Appends}
 use Rattle.std.proofs.KnownBytes.{Appends-trans, Appends-kept}
-use Rattle.hotel_core.specs.declared.books.walks.WalkFault.{WalkFault}
-use Rattle.hotel_core.specs.declared.books.walks.WalkFault.TheVariants as walk
+use Rattle.hotel_books.specs.declared.books.walks.WalkFault.{WalkFault}
+use Rattle.hotel_books.specs.declared.books.walks.WalkFault.TheVariants as walk
 use Rattle.hotel_streams.specs.Bytes.{AppendsPrefix}
 use Rattle.hotel_lists.specs.{LineSink.SameEnds, LineSink.Gathers, LineSink.StopsAtWrite}
 use Rattle.hotel_lists.specs.{LineSink.Finishes, declared.line_sink.LineSink.LineSink}

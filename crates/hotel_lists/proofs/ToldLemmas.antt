@@ -10,7 +10,7 @@ use Rattle.keycard_rules.specs.declared.issued.LookFault.TheVariants as look
 use Rattle.keycard_rules.specs.{declared.kept.Kept.Ghosts as KeptOf, Calls.LastCallFailed, Calls.NoCallFailed}
 use Rattle.keycard_rules.specs.{Calls.Told, Calls.all_answer, Calls.last_answers}
 use Rattle.keycard_rules.proofs.CallsTogether.{together}
-use Rattle.hotel_core.proofs.Names.{RoomRow, false≢true}
+use Rattle.hotel_books.proofs.Names.{RoomRow, false≢true}
 use Rattle.hotel_lists.specs.RowLines.{FindsRoom, ListTold, LooksAt}
 use Rattle.hotel_lists.specs.declared.fault.ListFault.{ListFault}
 use Rattle.hotel_lists.specs.declared.fault.ListFault.TheVariants as fault

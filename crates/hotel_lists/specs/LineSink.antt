@@ -1,8 +1,8 @@
 -- A sink that gathers the lines of rows and writes many of them by one write.
 use Rattle.std.specs.Prelude.{◌≡◌, ℕ, ◌⊎◌, true, List, [], ◌++◌, Option, Result, Ok, Err}
 use Rattle.std.specs.Io.KnownBytes.{Appends, Keeps}
-use Rattle.hotel_core.specs.declared.books.walks.WalkFault.{WalkFault}
-use Rattle.hotel_core.specs.declared.books.walks.WalkFault.TheVariants as walk
+use Rattle.hotel_books.specs.declared.books.walks.WalkFault.{WalkFault}
+use Rattle.hotel_books.specs.declared.books.walks.WalkFault.TheVariants as walk
 use Rattle.hotel_streams.specs.Calls.{NoneForgotten}
 use Rattle.hotel_lists.specs.{RowLines.StopsAtLine, declared.line_sink.LineSink.LineSink}
 

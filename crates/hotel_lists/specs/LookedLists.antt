@@ -1,4 +1,4 @@
--- How rows are looked up one by one, before their list is written.
+-- How rows are looked up, before their list is written.
 use Rattle.std.specs.Prelude.{◌≡◌, List, [], ◌∷◌, Option, Some, None, Result, Ok, Err, IfOk}
 use Rattle.keycard_rules.specs.{declared.kept.Kept.Ghosts as KeptOf}
 use Rattle.hotel_lists.specs.{declared.fault.ListFault.ListFault, RowLines.LooksAt}

@@ -15,9 +15,9 @@ use Rattle.hotel_model.specs.{declared.list_rows.ChainRow.ChainRow}
 use Rattle.hotel_model.specs.{declared.list_rows.BehindRow.BehindRow, declared.list_rows.CodeState.CodeState}
 use Rattle.hotel_model.specs.{declared.list_rows.StatusRow.StatusRow, declared.list_rows.InsideRow.InsideRow}
 use Rattle.hotel_model.specs.{declared.list_rows.FreeRow.FreeRow}
-use Rattle.hotel_core.specs.declared.books.walks.WalkFault.{WalkFault}
+use Rattle.hotel_books.specs.declared.books.walks.WalkFault.{WalkFault}
 use Rattle.hotel_model.specs.declared.list_rows.CodeState.TheVariants as state
-use Rattle.hotel_core.specs.declared.books.walks.WalkFault.TheVariants as walk
+use Rattle.hotel_books.specs.declared.books.walks.WalkFault.TheVariants as walk
 use Rattle.hotel_streams.specs.Bytes.{AppendsPrefix}
 use Rattle.hotel_lock.specs.Gathered.{line_of}
 use Rattle.hotel_lists.specs.declared.fault.ListFault.{ListFault}

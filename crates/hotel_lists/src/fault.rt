@@ -4,7 +4,7 @@ ghost use Rattle.hotel_lists.specs.{Faults.fault_text, Faults.told_refusal};
 ghost use Rattle.hotel_lists.specs.declared.fault.ListFault.TheVariants.{Write};
 ghost use Rattle.hotel_lists.specs.Faults.{list_fault};
 
-use hotel_core::Refusal;
+use hotel_model::Refusal;
 use hotel_streams::WriteFailed;
 use keycard_rules::LookFault;
 use std::error::Error;

@@ -3,7 +3,7 @@
 //! - src: row_lines, line_sink, write_lists, lists; specs: RowLines, LineSink, Listings: the header and the line of each
 //!   row, by `csv`'s row text (a note's: hotel_lock); what a list wrote, and which faults its calls reported, by how it
 //!   ended.
-//! - src: looked_lists; LookedLists: the lists whose rows are looked up one by one.
+//! - src: looked_lists; LookedLists: the lists whose rows are looked up.
 //! - src: fault; Faults: the refusal that a list's fault is answered by.
 #![tactic(auto)]
 
@@ -20,6 +20,4 @@ pub use lists::{
     left_behind, locks, room_status,
 };
 pub use row_lines::RowLine;
-pub use write_lists::{
-    write_business_day, write_card_of, write_locks, write_room_rows, write_rows,
-};
+pub use write_lists::{write_business_day, write_card_of, write_room_rows, write_rows};

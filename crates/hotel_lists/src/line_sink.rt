@@ -1,12 +1,12 @@
 //! A sink that writes the lines of a list.
 ghost use Rattle.std.specs.Prelude.{◌≡◌, [], OnOk, OnErr, None};
-ghost use Rattle.hotel_core.specs.{Books.Walks.Hands, Books.Walks.failure_of};
+ghost use Rattle.hotel_books.specs.Books.Walks.{Hands, failure_of};
 ghost use Rattle.std.specs.Io.KnownBytes.{Appends};
 ghost use Rattle.hotel_lists.specs.{LineSink.SameEnds, LineSink.StopsAtWrite, LineSink.Finishes, RowLines.list_result};
 
 use crate::fault::ListFault;
 use crate::row_lines::RowLine;
-use hotel_core::{Sink, Stop, WalkFault};
+use hotel_books::{Sink, Stop, WalkFault};
 use hotel_lock::Gathered;
 use hotel_streams::{IoCalls, write_bytes};
 use std::io::Write;

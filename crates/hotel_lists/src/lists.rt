@@ -5,10 +5,8 @@ ghost use Rattle.hotel_lists.specs.Listings.{card_listing, chain_listing, in_hou
 ghost use Rattle.hotel_lists.specs.Listings.{inside_listing, left_behind_listing, locks_listing, room_status_listing};
 
 use crate::fault::ListFault;
-use crate::write_lists::{
-    write_business_day, write_card_of, write_locks, write_room_rows, write_rows,
-};
-use hotel_core::{Walks, lists};
+use crate::write_lists::{write_business_day, write_card_of, write_room_rows, write_rows};
+use hotel_books::{Walks, lists};
 use hotel_nights::{Day, Nights};
 use hotel_streams::IoCalls;
 use keycard_rules::{CardNo, RoomNo};
@@ -202,5 +200,5 @@ pub fn locks<B: Walks, W: Write>(
     ensures list { WritesList B.Kept (locks_listing (B.rows books.old)) books.old books.new
         (W.contents writer.old) (W.contents writer.new) result }
 {
-    write_locks(alloc, books, writer, &mut IoCalls::none())
+    write_rows(alloc, books, &lists::Locks, writer, &mut IoCalls::none())
 }

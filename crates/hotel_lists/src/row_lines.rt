@@ -10,10 +10,10 @@ ghost use Rattle.hotel_lists.specs.RowLines.{arrivals_header, in_house_header, c
 ghost use Rattle.hotel_lists.specs.RowLines.{day_header, status_header, inside_header, free_header};
 ghost use Rattle.hotel_lists.specs.RowLines.{given_header, card_header, locks_header};
 
-use hotel_core::{
+use hotel_lock::{Gathered, audit_header};
+use hotel_model::{
     BehindRow, CardRow, ChainRow, CodeState, FreeRow, HouseRow, InsideRow, LockRow, StatusRow,
 };
-use hotel_lock::{Gathered, audit_header};
 use hotel_nights::{Day, Stay};
 use keycard_rules::{Card, LockNote, Memory, PartyNo};
 

@@ -4,15 +4,15 @@ ghost use Rattle.hotel_model.specs.Refinement.Lookups.{room_at};
 ghost use Rattle.hotel_streams.specs.Calls.{CountsWrites, OnErrOf};
 ghost use Rattle.hotel_lists.specs.declared.fault.ListFault.TheVariants.{NoRoom, Write};
 ghost use Rattle.hotel_lists.specs.Listings.{ListEnds, WritesList, WritesRoomList, listing, of_room};
-ghost use Rattle.hotel_lists.specs.Listings.{business_day_listing, card_listing, locks_listing};
+ghost use Rattle.hotel_lists.specs.Listings.{business_day_listing, card_listing};
 ghost use Rattle.hotel_lists.specs.{RowLines.LooksAt, RowLines.FindsRoom, LookedLists.IsAfterLookUps};
 
 use crate::fault::ListFault;
 use crate::line_sink::{LineSink, hand_rows, listed};
-use crate::looked_lists::{find_card, find_day, find_locks};
+use crate::looked_lists::{find_card, find_day};
 use crate::row_lines::RowLine;
-use hotel_core::lists::Listed;
-use hotel_core::{Books, Walks, WalksOf};
+use hotel_books::lists::Listed;
+use hotel_books::{Books, Walks, WalksOf};
 use hotel_lock::Gathered;
 use hotel_nights::Day;
 use hotel_streams::{IoCalls, write_bytes};
@@ -125,19 +125,4 @@ pub fn write_card_of<B: Walks, W: Write>(
 {
     let cards = find_card(alloc, books, number)?;
     write_found(alloc, cards.as_slice(), writer, calls)
-}
-
-/// Writes the present lock of each room, by room: how many of its notes were taken, and when it noted the last.
-pub fn write_locks<B: Walks, W: Write>(
-    alloc: Global,
-    books: &mut B,
-    writer: &mut W,
-    calls: &mut IoCalls,
-) -> Result<(), ListFault>
-    ensures list { WritesList B.Kept (locks_listing (B.rows books.old)) books.old books.new
-        (W.contents writer.old) (W.contents writer.new) result }
-    ensures calls { CountsWrites calls.old calls.new (OnErrOf result Write) }
-{
-    let locks = find_locks(alloc, books)?;
-    write_found(alloc, locks.as_slice(), writer, calls)
 }

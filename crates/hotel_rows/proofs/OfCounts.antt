@@ -13,8 +13,8 @@ use Rattle.hotel_nights.specs.declared.stay.Stay.{Stay}
 use Rattle.hotel_nights.specs.Block.{one_if}
 use Rattle.hotel_nights.specs.FullNight.{takes, nights_taken, first_day, is_full}
 use Rattle.hotel_model.specs.declared.rows.RoomRow.{RoomRow}
-use Rattle.hotel_core.specs.NightIndex.{CountsNights, counted}
-use Rattle.hotel_core.specs.KindRooms.{is_there, rooms_in}
+use Rattle.hotel_books.specs.NightIndex.{CountsNights, counted}
+use Rattle.hotel_books.specs.KindRooms.{is_there, rooms_in}
 use Rattle.hotel_model.proofs.OfTables.StayCounts.{count_first}
 use Rattle.hotel_model.proofs.OfTables.Tests.{or_true}
 use Rattle.hotel_rows.specs.declared.stored.PlainKind.{PlainKind}

@@ -2,16 +2,16 @@
 use Rattle.std.proofs.Common.{ℕ, ◌≡◌, ◌≤◌, ◌<◌, Bool, true, false, cond, Option, Some, None, List, [], ◌∷◌, ◌++◌}
 use Rattle.std.proofs.Common.{map, filter, refl, ap, sym, ◌∙◌, subst, arith, ◌==◌, ◌||◌, not, nat_le, nat_lt, nat_cmp}
 use Rattle.std.proofs.Common.{option_map, is_eq, Ordering, Less, Equal, Greater}
-use Rattle.hotel_core.proofs.Names.{match_ordering, insert_entry, is_at, lookup, list_all, keys_of, nat_tests}
-use Rattle.hotel_core.proofs.Names.{exact_unsigned, Note, said_of, when, and_last, pair_cmp, at_number, fits_at}
-use Rattle.hotel_core.proofs.Names.{last_fit}
+use Rattle.hotel_books.proofs.Names.{match_ordering, insert_entry, is_at, lookup, list_all, keys_of, nat_tests}
+use Rattle.hotel_books.proofs.Names.{exact_unsigned, Note, said_of, when, and_last, pair_cmp, at_number, fits_at}
+use Rattle.hotel_books.proofs.Names.{last_fit}
 use Rattle.hotel_model.specs.declared.rows.RoomRow.{RoomRow}
 use Rattle.hotel_model.specs.declared.rows.FitRow.{FitRow}
 use Rattle.hotel_model.specs.Refinement.Change.{room_changed}
 use Rattle.hotel_model.proofs.OfTables.Tests.{eq_from, eq_self, and_true}
 use Rattle.hotel_model.proofs.OfTables.KeysInOrder.{AllAfter, InOrder}
 use Rattle.hotel_model.proofs.OfTables.Pairs.{pair_exact, pair_is}
-use Rattle.hotel_core.proofs.OfTables.MapEntries.{at_is}
+use Rattle.hotel_books.proofs.OfTables.MapEntries.{at_is}
 use Rattle.hotel_model.proofs.OfTables.AtRoom.{is_before, picked_more, fits_are_picked}
 use Rattle.hotel_model.proofs.OfTables.FitLists.{last_more}
 use Rattle.hotel_rows.specs.Joined.{with_last, with_fit, fit_of_number, with_count, under_fit, FitEntries}

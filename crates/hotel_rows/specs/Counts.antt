@@ -8,8 +8,8 @@ use Rattle.hotel_nights.specs.Guests.{is_guest}
 use Rattle.hotel_nights.specs.Kinds.{is_kind}
 use Rattle.hotel_model.specs.Words.{said_of}
 use Rattle.hotel_model.specs.SoundRooms.{is_day}
-use Rattle.hotel_core.specs.KindRooms as kinds
-use Rattle.hotel_core.specs.NightIndex.{CountsNights}
+use Rattle.hotel_books.specs.KindRooms as kinds
+use Rattle.hotel_books.specs.NightIndex.{CountsNights}
 use Rattle.hotel_rows.specs.declared.stored.PlainKind.{PlainKind}
 use Rattle.hotel_rows.specs.declared.stored.PlainRoom.{PlainRoom}
 use Rattle.hotel_rows.specs.declared.stored.PlainStay.{PlainStay}

@@ -7,8 +7,8 @@ ghost use Rattle.std.specs.Map.{keys_of, values_of};
 ghost use Rattle.keycard_rules.specs.declared.issued.LookFault.TheVariants.{Store};
 ghost use Rattle.hotel_nights.specs.{Block.one_if, FullNight.takes};
 ghost use Rattle.hotel_nights.specs.Kinds.{is_kind};
-ghost use Rattle.hotel_core.specs.KindRooms.{is_there, rooms_in};
-ghost use Rattle.hotel_core.specs.NightIndex.{CountsNights, counted};
+ghost use Rattle.hotel_books.specs.KindRooms.{is_there, rooms_in};
+ghost use Rattle.hotel_books.specs.NightIndex.{CountsNights, counted};
 ghost use Rattle.hotel_rows.specs.Stored.{kind_text, stay_row, stay_entry};
 ghost use Rattle.hotel_rows.specs.RowTests.{is_room_of_kind};
 ghost use Rattle.hotel_rows.specs.Counts.{IsCountedOf, KnowsKinds, are_rooms_of, tells_stay};
@@ -16,7 +16,7 @@ ghost use Rattle.hotel_rows.specs.Counts.{IsCountedOf, KnowsKinds, are_rooms_of,
 use crate::damage::numbers::{number, number_if};
 use crate::stored::{PlainKind, PlainRoom, PlainStay, Stored};
 use crate::values::{day, kind_code, stay_state};
-use hotel_core::{KindRooms, NightIndex};
+use hotel_books::{KindRooms, NightIndex};
 use keycard_rules::{LookFault, Memory};
 use std::alloc::Global;
 

@@ -40,7 +40,7 @@ use Rattle.hotel_statements.proofs.Ordered.{numbered_rows, all_listed, rising, r
 abbrev pub by_count : List (Term × Key)
 by_count = rising (col 1 2)
 
-abbrev is_in : {V : Type 0} → ℕ → (ℕ × ℕ) × V → Bool
+abbrev pub is_in : {V : Type 0} → ℕ → (ℕ × ℕ) × V → Bool
 is_in room e = eqb e.0.0 room
 
 -- the rows of a room, in order, as a query of one table shows them
@@ -68,7 +68,7 @@ module _ {V : Type 0} (tree : ℕ) (project : List Term) (columns : Row → Row)
 abbrev pub fits_query : Query
 fits_query = single fit_tree (column_is 1 0 ∷ []) (columns (1 ∷ 2 ∷ 3 ∷ 4 ∷ [])) by_count
 
-fits_listed : (room : ℕ) (es : FitEntries) → map (λ (e : (ℕ × ℕ) × FitRow). e.1) (filter (is_in room) es)
+pub fits_listed : (room : ℕ) (es : FitEntries) → map (λ (e : (ℕ × ℕ) × FitRow). e.1) (filter (is_in room) es)
     ≡ fits_at es room
 fits_listed room [] = refl
 fits_listed room (e ∷ es) = elim (cases_Bool (is_in room e)) [

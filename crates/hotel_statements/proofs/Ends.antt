@@ -12,7 +12,7 @@ use Rattle.hotel_statements.specs.declared.version.Layout.TheVariants.{Nine}
 use Rattle.hotel_statements.specs.declared.version.TheConstants.{INDEXES}
 use Rattle.hotel_statements.specs.Tables.{rows_in}
 use Rattle.hotel_statements.specs.Books.{IsKept, IsBooks}
-use Rattle.hotel_core.specs.Refinement.Finds.{AnyRows}
+use Rattle.hotel_books.specs.Refinement.Finds.{AnyRows}
 use Rattle.hotel_statements.specs.Steps.{IsMidWith, MovesRows, RunsStatement, MakesRows, IsMadeOf}
 use Rattle.hotel_statements.proofs.Transaction.{Begins, LeavesDesk, Committed, start_kept, start_mid, finished}
 use Rattle.hotel_statements.proofs.Transaction.{none_new, or_committed}

@@ -36,7 +36,7 @@ map_all f g (x ∷ xs) all = ap₂ (λ y ys. y ∷ ys) all.0 (map_all f g xs all
 
 module _ {X : Type 0} (cmp : X → X → Ordering) (total : IsTotalOrder cmp) (Good : Row → Type 0) (of : Row → X) where
   -- the rows that pass a test are those of the sorted list
-  kept_rows : (p : Row → Bool) (q : X → Bool) (rows : List Row)
+  pub kept_rows : (p : Row → Bool) (q : X → Bool) (rows : List Row)
       → IsTableOf cmp Good of rows → ((r : Row) → Good r → p r ≡ q (of r))
       → IsPermutation (map of (filter p rows)) (filter q (in_key_order cmp of rows))
   kept_rows p q rows was test =

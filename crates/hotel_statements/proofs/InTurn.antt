@@ -14,7 +14,7 @@ use Rattle.sqlite.specs.declared.error.ErrorCode.TheVariants.{TransactionState}
 use Rattle.sqlite_trees.specs.declared.store.Store.{Ghosts}
 use Rattle.hotel_model.specs.Rows.{Rows}
 use Rattle.hotel_statements.specs.Steps as step
-use Rattle.hotel_core.specs.Refinement.Finds.{AnyRows}
+use Rattle.hotel_books.specs.Refinement.Finds.{AnyRows}
 use Rattle.hotel_statements.specs.Steps.{IsMidWith, MovesRows}
 use Rattle.hotel_statements.specs.Statements.{Statement, RunsOne, RunsInTurn, RunsStatements, WritesBy, MakesBy}
 use Rattle.hotel_statements.proofs.Ends.{commit_then, then_makes, then_makes_if, failed, as_made}

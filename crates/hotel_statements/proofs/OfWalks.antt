@@ -10,3 +10,5 @@ pub mod Behind
 pub mod Status
 pub mod Insiders
 pub mod Kinds
+pub mod LastFits
+pub mod Locked

@@ -24,11 +24,11 @@ use Rattle.sqlite.proofs.Callers.{begins_as, reads_as, begun_plain, given_begin}
 use Rattle.sqlite.proofs.StateLemmas.{survives_then}
 use Rattle.keycard_rules.specs.declared.issued.LookFault.{LookFault}
 use Rattle.keycard_rules.specs.declared.issued.LookFault.TheVariants as look
-use Rattle.hotel_core.specs.declared.books.walks.WalkFault.{WalkFault}
-use Rattle.hotel_core.specs.declared.books.walks.WalkFault.TheVariants as why
+use Rattle.hotel_books.specs.declared.books.walks.WalkFault.{WalkFault}
+use Rattle.hotel_books.specs.declared.books.walks.WalkFault.TheVariants as why
 use Rattle.keycard_rules.specs.Calls.{Passes}
-use Rattle.hotel_core.specs.Books.Walks.{TakesPrefix, Hands, failure_of}
-use Rattle.hotel_core.proofs.OfCode.Walking.{one_more, all_taken}
+use Rattle.hotel_books.specs.Books.Walks.{TakesPrefix, Hands, failure_of}
+use Rattle.hotel_books.proofs.OfCode.Walking.{one_more, all_taken}
 use Rattle.hotel_statements.specs.declared.walk.TheConstants.{MOST_ROWS}
 use Rattle.hotel_statements.specs.Schema.{desk_schema}
 use Rattle.hotel_statements.specs.Books.{IsDesk, IsKept, IsBooks, KeepsRows}

@@ -16,7 +16,7 @@ use Rattle.hotel_statements.specs.Tables.{fits_in, bare_rooms_in, bare_notes_in}
 use Rattle.hotel_statements.specs.Books.{IsKept}
 use Rattle.hotel_statements.specs.Readable.{IsNumber, IsCode, IsDay, IsKind, OrNull, FirstColumnIs}
 use Rattle.hotel_statements.specs.Readable.{IsStay, IsCodeRow, IsCard, IsFit, IsRoom, IsNote, IsUnderFits}
-use Rattle.hotel_statements.specs.Readable.{IsInHouse, IsOfChain, IsBehind, IsOfStatus, IsOfInside}
+use Rattle.hotel_statements.specs.Readable.{IsInHouse, IsOfChain, IsBehind, IsOfStatus, IsOfInside, IsOfLocks}
 use Rattle.hotel_statements.specs.Columns.{note_row_of}
 use Rattle.hotel_statements.specs.Walks.{WalkFails}
 use Rattle.sqlite.specs.Order.{Row}
@@ -115,6 +115,7 @@ pub data WalkedList : Type 0 where
   bookings : WalkedList
   availability : WalkedList
   cards_given : (party : ℕ) → WalkedList
+  locks : WalkedList
 
 -- a note that a room with these fits has
 abbrev pub IsNoteUnder : List FitRow → Row → Type 0
@@ -135,3 +136,4 @@ ListFails cards_inside old new = WalkFails IsOfInside text.walk_inside [] old ne
 ListFails bookings old new = WalkFails IsStay text.walk_bookings [] old new
 ListFails availability old new = DayFails old new ⊎ WalkFails (FirstColumnIs IsKind) text.read_kind [] old new
 ListFails (cards_given party) old new = WalkFails IsCard text.walk_cards_given (int party ∷ []) old new
+ListFails locks old new = WalkFails IsOfLocks text.walk_locks [] old new

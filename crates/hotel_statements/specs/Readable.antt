@@ -6,6 +6,7 @@ use Rattle.sqlite.specs.Order.{Row, column}
 use Rattle.keycard_rules.specs.declared.issued.LookFault.{LookFault}
 use Rattle.keycard_rules.specs.declared.issued.LookFault.TheVariants as why
 use Rattle.keycard_rules.specs.declared.numbers.TheConstants.{LAST_FIT, LAST_NUMBER, LAST_ROOM}
+use Rattle.keycard_rules.specs.declared.note.TheConstants.{LAST_SECOND}
 use Rattle.keycard_rules.specs.Numbers.{IsNumberUpTo}
 use Rattle.keycard_rules.specs.Note.{Note, IsTimed}
 use Rattle.hotel_nights.specs.Kinds.{is_kind}
@@ -35,6 +36,10 @@ IsCode v = (n : ℕ) × (v ≡ int n) × range.IsCode n
 
 abbrev pub IsDay : Value → Type 0
 IsDay v = (n : ℕ) × (v ≡ int n) × range.IsDay n
+
+-- a second of a day
+abbrev pub IsSecond : Value → Type 0
+IsSecond v = (n : ℕ) × (v ≡ int n) × (n ≤ LAST_SECOND)
 
 abbrev pub IsBit : Value → Type 0
 IsBit v = (v ≡ int 0) ⊎ (v ≡ int 1)
@@ -111,6 +116,15 @@ IsBehind r = (5 ≤ length r) × IsNumber LAST_ROOM (column r 0) × IsCode (colu
 abbrev pub IsOfStatus : Row → Type 0
 IsOfStatus r = (6 ≤ length r) × IsNumber LAST_ROOM (column r 0) × IsKind (column r 1)
     × OrNull (IsNumber LAST_NUMBER) (column r 2) × IsCount (column r 3) × IsCount (column r 4) × IsBit (column r 5)
+
+-- when a note was taken, or nothing where there is no note
+abbrev pub IsMoment : Value → Value → Type 0
+IsMoment day second = (day ≡ Null) ⊎ (IsDay day × IsSecond second)
+
+-- the last fit of a room with the notes of the room, those before the fit, and the moment of the last note
+abbrev pub IsOfLocks : Row → Type 0
+IsOfLocks r = (6 ≤ length r) × IsNumber LAST_ROOM (column r 0) × IsNumber LAST_FIT (column r 1)
+    × IsCount (column r 2) × IsCount (column r 3) × IsMoment (column r 4) (column r 5)
 
 abbrev pub IsOfInside : Row → Type 0
 IsOfInside r = (3 ≤ length r) × IsNumber LAST_ROOM (column r 0) × IsNumber LAST_NUMBER (column r 1)

@@ -180,6 +180,9 @@ walk_bookings = constant.WALK_BOOKINGS.now
 abbrev pub walk_cards_given : List ℕ
 walk_cards_given = constant.WALK_CARDS_GIVEN.now
 
+abbrev pub walk_locks : List ℕ
+walk_locks = constant.WALK_LOCKS.now
+
 -- ---- whole tables
 
 abbrev pub read_meta : List ℕ

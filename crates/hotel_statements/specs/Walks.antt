@@ -1,6 +1,6 @@
 -- What the walks promise over a connection, and what the rows say that their statements show.
 use Rattle.std.specs.Prelude.{◌≡◌, ◌⊎◌, ◌≤◌, ◌-◌, ◌==◌, ℕ, List, [], length, Option, Some, None, Result, Ok, Err}
-use Rattle.std.specs.Prelude.{IsTrue}
+use Rattle.std.specs.Prelude.{IsTrue, if◌then◌else◌, option_map}
 use Rattle.std.specs.Map.{values_of}
 use Rattle.sqlite.specs.Order.{Row, column}
 use Rattle.sqlite.specs.Query.{Query, IsAnswer}
@@ -9,19 +9,21 @@ use Rattle.sqlite.specs.Tree.{Trees}
 use Rattle.sqlite.specs.State.{State, HasCleanDisk}
 use Rattle.keycard_rules.specs.declared.issued.LookFault.TheVariants as fault
 use Rattle.keycard_rules.specs.Note.{Note}
+use Rattle.hotel_nights.specs.Moments.{Moment}
 use Rattle.hotel_model.specs.declared.rows.FitRow.{FitRow}
-use Rattle.hotel_core.specs.declared.books.walks.WalkFault.{WalkFault}
-use Rattle.hotel_core.specs.declared.books.walks.WalkFault.TheVariants as why
+use Rattle.hotel_books.specs.declared.books.walks.WalkFault.{WalkFault}
+use Rattle.hotel_books.specs.declared.books.walks.WalkFault.TheVariants as why
 use Rattle.hotel_model.specs.declared.list_rows.HouseRow.{HouseRow}
 use Rattle.hotel_model.specs.declared.list_rows.ChainRow.{ChainRow}
 use Rattle.hotel_model.specs.declared.list_rows.BehindRow.{BehindRow}
 use Rattle.hotel_model.specs.declared.list_rows.StatusRow.{StatusRow}
 use Rattle.hotel_model.specs.declared.list_rows.InsideRow.{InsideRow}
 use Rattle.hotel_model.specs.declared.list_rows.FreeRow.{FreeRow}
-use Rattle.hotel_core.specs.Books.Walks.{Hands, failure_of}
-use Rattle.hotel_core.specs.{KindRooms.rooms_in, NightIndex.CountsNights, FreeRows.free_row_by}
+use Rattle.hotel_model.specs.declared.list_rows.LockRow.{LockRow}
+use Rattle.hotel_books.specs.Books.Walks.{Hands, failure_of}
+use Rattle.hotel_books.specs.{KindRooms.rooms_in, NightIndex.CountsNights, FreeRows.free_row_by}
 use Rattle.hotel_model.specs.Rows.{Rows, rooms_of_kind}
-use Rattle.hotel_model.specs.Refinement.ListsOnRows.{state_at}
+use Rattle.hotel_model.specs.Refinement.ListsOnRows.{is_count, state_at}
 use Rattle.hotel_statements.specs.declared.walk.TheConstants.{MOST_ROWS}
 use Rattle.hotel_statements.specs.Values.{number_of, option_of, text_of}
 use Rattle.hotel_rows.specs.Joined.{with_count, fit_of_number}
@@ -120,6 +122,19 @@ status_row_of v = record {
 abbrev pub inside_row_of : Row → InsideRow
 inside_row_of v =
     record { room = number_of (column v 0); card = number_of (column v 1); party = number_of (column v 2) }
+
+-- when a note was taken, or nothing where there is no note
+abbrev pub moment_in : Row → Option Moment
+moment_in v = option_map (λ day. (day, number_of (column v 5))) (option_of (column v 4))
+
+-- the last fit of a room with the notes of the room, those before the fit, and the moment of the last note
+abbrev pub lock_row_of : Row → LockRow
+lock_row_of v = record {
+  room = number_of (column v 0);
+  fit = number_of (column v 1);
+  count = number_of (column v 2) - number_of (column v 3);
+  at = if is_count (number_of (column v 2) - number_of (column v 3)) then moment_in v else None;
+}
 
 -- a kind with what is free of it by these counts, on a business day, for so many nights from a day on
 abbrev pub free_row_of : List (List ℕ × ℕ) → List ((List ℕ × ℕ) × List ℕ) → Option ℕ → ℕ → ℕ → Row → FreeRow

@@ -3,11 +3,11 @@ ghost use Rattle.std.specs.Prelude.{◌≡◌};
 ghost use Rattle.hotel_model.specs.Refinement.Change.{made};
 ghost use Rattle.hotel_model.specs.declared.change.Change.TheVariants as change;
 ghost use Rattle.hotel_statements.specs.Statements.{WritesBy, opens_room, ends_stay};
-ghost use Rattle.hotel_core.specs.Refinement.Finds.{AnyRows};
+ghost use Rattle.hotel_books.specs.Refinement.Finds.{AnyRows};
 ghost use Rattle.hotel_statements.specs.Steps.{IsNewRoom};
 
 use crate::steps::{free_room, insert_code, insert_fit, insert_room, set_state};
-use hotel_core::{CodeRow, FitRow, RoomRow};
+use hotel_model::{CodeRow, FitRow, RoomRow};
 use hotel_nights::{KindCode, StayState};
 use keycard_rules::{Code, FitNo, PartyNo, RoomNo};
 use sqlite::{Alter, Error, Transaction};

@@ -13,7 +13,7 @@ ghost use Rattle.hotel_rows.specs.Stored.{state_of, act_of};
 pub(crate) mod bare_rows;
 pub(crate) mod list_rows;
 
-use hotel_core::{CodeRow, FitRow};
+use hotel_model::{CodeRow, FitRow};
 use hotel_nights::{Day, Guest, KindCode, Stay, StayState};
 use hotel_rows::values;
 use keycard_rules::{Act, Card, Code, Link, LookFault, Number};

@@ -3,11 +3,11 @@ ghost use Rattle.std.specs.Prelude.{◌≡◌, ◌<◌, ◌-◌, ◌^◌};
 ghost use Rattle.hotel_model.specs.Refinement.Change.{made, codes_of};
 ghost use Rattle.hotel_model.specs.declared.change.Change.TheVariants as change;
 ghost use Rattle.hotel_statements.specs.Statements.{WritesBy, gives_code, gives_card, issues_card};
-ghost use Rattle.hotel_core.specs.Refinement.Finds.{AnyRows};
+ghost use Rattle.hotel_books.specs.Refinement.Finds.{AnyRows};
 ghost use Rattle.hotel_statements.specs.Steps.{code_given, card_given};
 
 use crate::steps::{free_room, insert_card, insert_code, set_issued, set_state};
-use hotel_core::CodeRow;
+use hotel_model::CodeRow;
 use hotel_nights::StayState;
 use keycard_rules::{Card, Code, RoomNo};
 use sqlite::{Alter, Error, Transaction};

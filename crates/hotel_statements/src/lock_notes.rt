@@ -6,7 +6,7 @@ ghost use Rattle.hotel_statements.specs.Statements.{WritesBy, gives_note, takes_
 ghost use Rattle.hotel_statements.specs.Steps.{IsNewNote, IsNumbered, note_given};
 
 use crate::steps::{delete_inside, insert_inside, insert_note, set_noted};
-use hotel_core::InsideMove;
+use hotel_model::InsideMove;
 use keycard_rules::LockNote;
 use sqlite::{Alter, Error, Transaction};
 

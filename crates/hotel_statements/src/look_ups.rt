@@ -11,7 +11,7 @@ ghost use Rattle.hotel_model.specs.Words.{is_one_of, pair_cmp};
 ghost use Rattle.hotel_model.specs.Guests.{are_none};
 ghost use Rattle.hotel_model.specs.Refinement.Lookups.{room_at, codes_in, code_place, code_at, stay_at, stays_of_kind};
 ghost use Rattle.hotel_model.specs.Refinement.Lookups.{card_at, inside_at, note_at, number_after};
-ghost use Rattle.hotel_core.specs.Books.Reads.{placed_row};
+ghost use Rattle.hotel_books.specs.Books.Reads.{placed_row};
 ghost use Rattle.hotel_statements.specs.Books.{IsBooks, IsKept};
 ghost use Rattle.hotel_statements.specs.Failures.{BareNoteFails, BareRoomFails, CardFails, CodeAtFails, CodeFails};
 ghost use Rattle.hotel_statements.specs.Failures.{DayFails, FitFails, FitsFail, HasInsideFails};
@@ -29,7 +29,7 @@ use crate::texts::{
     SELECT_FIT, SELECT_FITS, SELECT_INSIDE, SELECT_KIND, SELECT_LAST_CARD, SELECT_LAST_PARTY,
     SELECT_NOTE, SELECT_ROOM, SELECT_STAY, SELECT_STAYS_OF_KIND,
 };
-use hotel_core::{CodeRow, FitRow, NextNumbers, RoomRow};
+use hotel_model::{CodeRow, FitRow, NextNumbers, RoomRow};
 use hotel_nights::{Day, KindCode, Stay};
 use keycard_rules::{
     Card, CardNo, Code, Count, FitNo, LAST_NUMBER, LockNote, LookFault, Number, PartyNo, RoomNo,

@@ -3,11 +3,11 @@ ghost use Rattle.std.specs.Prelude.{◌≡◌, ◌<◌, ◌-◌, ◌^◌};
 ghost use Rattle.hotel_model.specs.Refinement.Change.{made};
 ghost use Rattle.hotel_model.specs.declared.change.Change.TheVariants as change;
 ghost use Rattle.hotel_statements.specs.Statements.{WritesBy, replaces_lock, refits_room};
-ghost use Rattle.hotel_core.specs.Refinement.Finds.{AnyRows};
+ghost use Rattle.hotel_books.specs.Refinement.Finds.{AnyRows};
 ghost use Rattle.hotel_statements.specs.Steps.{IsRefit, lock_replaced};
 
 use crate::steps::{delete_insides, insert_code, insert_fit, set_refitted};
-use hotel_core::{CodeRow, FitRow};
+use hotel_model::{CodeRow, FitRow};
 use keycard_rules::{Code, FitNo, RoomNo};
 use sqlite::{Alter, Error, Transaction};
 

@@ -5,7 +5,7 @@ ghost use Rattle.hotel_statements.specs.Statements.{WritesBy, sets_day, adds_kin
 ghost use Rattle.hotel_statements.specs.Statements.{adds_card, adds_note, adds_fit, adds_inside, removes_inside};
 ghost use Rattle.hotel_statements.specs.Statements.{removes_insides, sets_issued, frees_room, sets_noted};
 ghost use Rattle.hotel_statements.specs.Statements.{sets_refitted, sets_state};
-ghost use Rattle.hotel_core.specs.Refinement.Finds.{AnyRows};
+ghost use Rattle.hotel_books.specs.Refinement.Finds.{AnyRows};
 ghost use Rattle.hotel_statements.specs.Steps.{IsNewNote, IsNextFit, IsWithoutFit, day_set, kind_added};
 ghost use Rattle.hotel_statements.specs.Steps.{room_added, code_added, stay_added, card_added, note_added, fit_added};
 ghost use Rattle.hotel_statements.specs.Steps.{inside_added, inside_gone, insides_gone, room_issued, room_freed};
@@ -21,7 +21,7 @@ use crate::texts::{
     INSERT_KIND, INSERT_NOTE, INSERT_ROOM, INSERT_STAY, UPDATE_DAY, UPDATE_ISSUED, UPDATE_NOTED,
     UPDATE_PARTY, UPDATE_REFITTED, UPDATE_STATE,
 };
-use hotel_core::{CodeRow, FitRow, RoomRow};
+use hotel_model::{CodeRow, FitRow, RoomRow};
 use hotel_nights::{Day, KindCode, Stay, StayState};
 use keycard_rules::{Card, CardNo, Code, LockNote, PartyNo, RoomNo};
 use sqlite::{Alter, Error, Transaction};

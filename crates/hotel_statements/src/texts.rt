@@ -1,4 +1,4 @@
-//! The texts of the statements, each of one table but for those of three walks.
+//! The texts of the statements, each of one table but for those of four walks.
 
 // The tables.
 
@@ -207,6 +207,15 @@ pub(crate) const WALK_BOOKINGS: &str = "SELECT party, guest, kind, arrive, depar
 
 pub(crate) const WALK_CARDS_GIVEN: &str =
     "SELECT number, party, old_code, new_code FROM card WHERE party = ?1 ORDER BY number";
+
+pub(crate) const WALK_LOCKS: &str =
+    "SELECT room.room, fit.fit, room.notes, fit.before, note.day, note.second \
+    FROM room \
+    JOIN fit ON fit.room = room.room \
+    LEFT JOIN fit AS later ON later.room = fit.room AND later.fit > fit.fit \
+    LEFT JOIN note ON note.room = room.room AND note.n = room.notes \
+    WHERE later.room IS NULL \
+    ORDER BY room.room";
 
 // Whole tables.
 

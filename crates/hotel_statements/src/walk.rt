@@ -9,7 +9,7 @@ ghost use Rattle.hotel_statements.specs.Walks.{SaysRows, HandsOne, WalkFails, Wa
 
 use crate::from_row::fault_of;
 use crate::from_row::list_rows::RowReader;
-use hotel_core::{Sink, WalkFault};
+use hotel_books::{Sink, WalkFault};
 use sqlite::types::ValueRef;
 use sqlite::{Alter, Connection, Row};
 use std::alloc::Global;

@@ -7,6 +7,7 @@ ghost use Rattle.hotel_statements.specs.Tables.{rows_in};
 ghost use Rattle.hotel_statements.specs.Walks.{AreCounted, WalksList};
 ghost use Rattle.hotel_statements.specs.Failures.{WalkedList, ListFails, arrivals, audit, availability, bookings};
 ghost use Rattle.hotel_statements.specs.Failures.{cards_given, cards_inside, chain, in_house, left_behind, room_status};
+ghost use Rattle.hotel_statements.specs.Failures.{locks};
 
 use crate::from_row::bare_rows::UnderFits;
 use crate::from_row::list_rows::{Alone, AtLock, FreeOn};
@@ -14,17 +15,15 @@ use crate::look_ups;
 use crate::number::{dated, numbered};
 use crate::texts::{
     READ_KIND, WALK_ARRIVALS, WALK_AUDIT, WALK_BOOKINGS, WALK_CARDS_GIVEN, WALK_CHAIN,
-    WALK_IN_HOUSE, WALK_INSIDE, WALK_LEFT_BEHIND, WALK_ROOM_STATUS,
+    WALK_IN_HOUSE, WALK_INSIDE, WALK_LEFT_BEHIND, WALK_LOCKS, WALK_ROOM_STATUS,
 };
 use crate::walk::walk;
-use hotel_core::lists::{
+use hotel_books::lists::{
     Arrivals, AuditOf, Availability, Bookings, CardsGiven, ChainOf, InHouse, Inside, LeftBehind,
-    Listed, RoomStatus,
+    Listed, Locks, RoomStatus,
 };
-use hotel_core::{
-    BehindRow, ChainRow, FreeRow, HouseRow, InsideRow, KindRooms, NightIndex, Sink, StatusRow,
-    WalkFault,
-};
+use hotel_books::{KindRooms, NightIndex, Sink, WalkFault};
+use hotel_model::{BehindRow, ChainRow, FreeRow, HouseRow, InsideRow, LockRow, StatusRow};
 use hotel_nights::Stay;
 use keycard_rules::{Card, LockNote};
 use sqlite::{Alter, Connection};
@@ -198,6 +197,20 @@ impl WalkedOverTables for CardsGiven {
             &Alone,
             sink,
         )
+    }
+}
+
+impl WalkedOverTables for Locks {
+    ghost named = { λ _. locks };
+
+    fn walk_connection<S: Alter, K: Sink<LockRow>>(
+        &self,
+        alloc: Global,
+        conn: &mut Connection<S>,
+        _: Counts<'_>,
+        sink: &mut K,
+    ) -> Result<(), WalkFault> {
+        walk(alloc, conn, WALK_LOCKS, &[], &Alone, sink)
     }
 }
 

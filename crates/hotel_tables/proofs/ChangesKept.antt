@@ -1,11 +1,11 @@
 -- Why a confirmed change stays: a crash leaves the rows of clean books over tables.
 use Rattle.std.proofs.Common.{◌≡◌, ◌⊎◌, inl, inr, Option, Some, None, List, [], ◌∷◌, ap, sym, ◌∙◌, subst}
-use Rattle.hotel_core.proofs.Names.{Stream}
+use Rattle.hotel_books.proofs.Names.{Stream}
 use Rattle.sqlite.specs.State.{State}
 use Rattle.keycard_rules.specs.{Calls.Passes, Since.Since}
 use Rattle.keycard_rules.specs.declared.kept.Kept.{Ghosts as KeptOf}
-use Rattle.hotel_core.specs.Books.Stops.{StopsCall, StopsStep}
-use Rattle.hotel_core.specs.declared.books.Books.{Ghosts as BooksOf}
+use Rattle.hotel_books.specs.Books.Stops.{StopsCall, StopsStep}
+use Rattle.hotel_books.specs.declared.books.Books.{Ghosts as BooksOf}
 use Rattle.hotel_model.specs.declared.change.Change.{Change}
 use Rattle.hotel_model.specs.declared.command.Command.{Command}
 use Rattle.hotel_statements.specs.{Books.IsKept, Tables.rows_in}

@@ -19,17 +19,17 @@ use Rattle.keycard_rules.specs.declared.issued.LookFault.TheVariants as why
 use Rattle.keycard_rules.specs.Rise.{Counts, HasRisen, NoFewer, counted_on, one_of}
 use Rattle.keycard_rules.specs.{Leaves.Leaves, Leaves.Looks, Leaves.Rose, Leaves.told_by}
 use Rattle.keycard_rules.proofs.{CallsTogether.counted_told, Sinces.counts_rise, Sinces.rises_later}
-use Rattle.hotel_core.specs.Books.Changes.{rows_after}
+use Rattle.hotel_books.specs.Books.Changes.{rows_after}
 use Rattle.hotel_model.specs.Refinement.Lookups.{codes_in}
 use Rattle.hotel_model.specs.Rows.{Rows}
 use Rattle.hotel_model.specs.declared.change.Change.{Change}
 use Rattle.hotel_model.specs.Refinement.Change.{made}
 use Rattle.hotel_statements.specs.Steps.{IsMadeOf}
 use Rattle.hotel_model.proofs.OfTables.Tests.{le_from}
-use Rattle.hotel_core.specs.Books.Reads.{LooksUp as LooksUpBooks}
-use Rattle.hotel_core.specs.Books.Walks.{Hands, WalksOver, failure_of}
-use Rattle.hotel_core.specs.declared.books.walks.WalkFault.{WalkFault}
-use Rattle.hotel_core.specs.declared.books.walks.WalkFault.TheVariants as walk
+use Rattle.hotel_books.specs.Books.Reads.{LooksUp as LooksUpBooks}
+use Rattle.hotel_books.specs.Books.Walks.{Hands, WalksOver, failure_of}
+use Rattle.hotel_books.specs.declared.books.walks.WalkFault.{WalkFault}
+use Rattle.hotel_books.specs.declared.books.walks.WalkFault.TheVariants as walk
 use Rattle.hotel_statements.specs.LookUps.{Selects as LooksUpTables, LeavesNoMore}
 use Rattle.hotel_statements.specs.Ready.{IsReady}
 use Rattle.hotel_statements.specs.Walks.{WalksList}

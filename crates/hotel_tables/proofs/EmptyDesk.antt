@@ -3,7 +3,7 @@ use Rattle.std.proofs.Common.{◌≡◌, refl, sym, subst, []}
 use Rattle.std.proofs.lemmas.Bool.{false≢true}
 use Rattle.hotel_model.specs.Rows.{Rows, no_rows}
 use Rattle.hotel_model.proofs.SoundRows.NoRows.{none_sound}
-use Rattle.hotel_core.proofs.OfNights.NightsStanding.{none_stand}
+use Rattle.hotel_books.proofs.OfNights.NightsStanding.{none_stand}
 use Rattle.hotel_tables.specs.TableBooks.{IsCounted}
 
 none_counted : IsCounted [] [] no_rows

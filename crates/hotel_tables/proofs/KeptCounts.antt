@@ -26,15 +26,16 @@ use Rattle.hotel_model.specs.Stays.{in_state}
 use Rattle.hotel_model.specs.{Refinement.Lookups.stay_at, Rows.rooms_of_kind}
 use Rattle.hotel_model.specs.Refinement.Change.{made, new_row, freed_by}
 use Rattle.hotel_model.specs.Refinement.Fits.{HasItsRows, Fits}
-use Rattle.hotel_core.specs.KindRooms.{is_there, rooms_in}
-use Rattle.hotel_core.specs.NightIndex.{counted, CountsNights}
-use Rattle.hotel_core.specs.Memory.{HaveRoomNumbers, RoomsKnown, CountsNightsOf}
+use Rattle.hotel_books.specs.KindRooms.{is_there, rooms_in}
+use Rattle.hotel_books.specs.NightIndex.{counted, CountsNights}
+use Rattle.hotel_books.specs.KindRooms.{HaveRoomNumbers, RoomsKnown}
+use Rattle.hotel_books.specs.NightIndex.{CountsNightsOf}
 use Rattle.hotel_model.proofs.OfTables.Tests.{and_true, or_true}
 use Rattle.hotel_model.proofs.OfTables.RowTests.{or_later}
 use Rattle.hotel_model.proofs.OfTables.KeysInOrder.{AllAfter, InOrder}
 use Rattle.hotel_model.proofs.OfTables.StayCounts.{count_inserted}
-use Rattle.hotel_core.proofs.OfNights.NightsStanding.{counts_fit, stands_more, stands_less, stands_on}
-use Rattle.hotel_core.proofs.OfNights.RoomsByKind.{few_rooms, known_changed, known_left}
+use Rattle.hotel_books.proofs.OfNights.NightsStanding.{counts_fit, stands_more, stands_less, stands_on}
+use Rattle.hotel_books.proofs.OfNights.RoomsByKind.{few_rooms, known_changed, known_left}
 use Rattle.hotel_model.proofs.Starts.StartCodes.{orders}
 use Rattle.hotel_model.proofs.Starts.StartNumbers.{stays_fit_at_start}
 use Rattle.hotel_tables.specs.TableBooks.{IsCounted}

@@ -12,13 +12,13 @@ use Rattle.hotel_model.specs.Rows.{notes_at}
 use Rattle.hotel_model.specs.Refits.{fit_row}
 use Rattle.hotel_model.specs.Refinement.Change.{room_changed, new_row, codes_of, notes_in, before_in}
 use Rattle.hotel_model.specs.Refinement.Fits.{Fits}
-use Rattle.hotel_core.proofs.Names.{nat_tests, match_ordering, insert_entry, is_at, lookup, list_all, Note, Rows}
-use Rattle.hotel_core.proofs.Names.{said_of, when, pair_cmp, at_number, fit_at, fits_at, room_at, of_fit, note_at}
-use Rattle.hotel_core.proofs.Names.{note_numbered, made, is_room, start, present_fit, IsSound, is_of_fit}
+use Rattle.hotel_books.proofs.Names.{nat_tests, match_ordering, insert_entry, is_at, lookup, list_all, Note, Rows}
+use Rattle.hotel_books.proofs.Names.{said_of, when, pair_cmp, at_number, fit_at, fits_at, room_at, of_fit, note_at}
+use Rattle.hotel_books.proofs.Names.{note_numbered, made, is_room, start, present_fit, IsSound, is_of_fit}
 use Rattle.hotel_model.proofs.OfTables.Tests.{and_true, eq_from, eq_self, le_from, not_both}
 use Rattle.hotel_model.proofs.OfTables.RowTests.{both, all_weaker, where_so, found_passes_by}
 use Rattle.hotel_model.proofs.OfTables.Pairs.{pair_cmp_total, same_pair}
-use Rattle.hotel_core.proofs.OfTables.MapEntries.{missed, at_is, at_self, pair_is}
+use Rattle.hotel_books.proofs.OfTables.MapEntries.{missed, at_is, at_self, pair_is}
 use Rattle.hotel_model.proofs.OfTables.TableKeys.{row_added}
 use Rattle.hotel_model.proofs.OfTables.Inserted.{found_inserted}
 use Rattle.hotel_model.proofs.OfTables.AtRoom.{there_at}

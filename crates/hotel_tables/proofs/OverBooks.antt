@@ -7,8 +7,8 @@ use Rattle.hotel_nights.specs.declared.stay.Stay.{Stay}
 use Rattle.hotel_nights.specs.FullNight.{is_full, first_day}
 use Rattle.hotel_model.specs.Rows.{Rows}
 use Rattle.hotel_model.specs.{Refinement.Lookups.first_full_on, Rows.rooms_of_kind}
-use Rattle.hotel_core.specs.KindRooms.{rooms_in}
-use Rattle.hotel_core.specs.NightIndex.{CountsNights}
+use Rattle.hotel_books.specs.KindRooms.{rooms_in}
+use Rattle.hotel_books.specs.NightIndex.{CountsNights}
 use Rattle.hotel_statements.specs.Books.{IsKept}
 use Rattle.hotel_statements.specs.Tables.{rows_in as all_rows_in}
 use Rattle.hotel_tables.specs.TableBooks.{Tabled, IsCounted}

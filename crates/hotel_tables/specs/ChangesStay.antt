@@ -5,8 +5,8 @@ use Rattle.sqlite.specs.Tree.{Trees}
 use Rattle.sqlite.specs.Held.{state}
 use Rattle.sqlite.specs.State.{State}
 use Rattle.keycard_rules.specs.declared.kept.Kept.{Ghosts as KeptOf}
-use Rattle.hotel_core.specs.declared.books.Books.{Ghosts as BooksOf}
-use Rattle.hotel_core.specs.Books.Stops.{StopsThrough}
+use Rattle.hotel_books.specs.declared.books.Books.{Ghosts as BooksOf}
+use Rattle.hotel_books.specs.Books.Stops.{StopsThrough}
 use Rattle.hotel_statements.specs.Tables.{rows_in}
 use Rattle.hotel_tables.specs.TableBooks.{Tabled}
 

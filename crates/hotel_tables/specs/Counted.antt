@@ -8,8 +8,8 @@ use Rattle.hotel_model.specs.declared.change.Change.{Change}
 use Rattle.hotel_model.specs.declared.change.Change.TheVariants.{Kind, Room, Reserved, Cancelled, CheckedOut}
 use Rattle.hotel_model.specs.Rows.{Rows}
 use Rattle.hotel_model.specs.Refinement.Lookups.{stay_at}
-use Rattle.hotel_core.specs.KindRooms.{is_there, rooms_in}
-use Rattle.hotel_core.specs.NightIndex.{counted}
+use Rattle.hotel_books.specs.KindRooms.{is_there, rooms_in}
+use Rattle.hotel_books.specs.NightIndex.{counted}
 
 -- the stay that a change books
 abbrev pub booked_by : Change → Option Stay

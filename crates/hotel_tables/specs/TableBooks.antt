@@ -11,8 +11,8 @@ use Rattle.keycard_rules.specs.{Leaves.told_by, Rise.Counts, Rise.NoFewer, Rise.
 use Rattle.hotel_model.specs.Rows.{Rows, has_kind}
 use Rattle.hotel_model.specs.Sound.{IsSound}
 use Rattle.hotel_model.specs.Rows.{rooms_of_kind}
-use Rattle.hotel_core.specs.NightIndex.{CountsNights}
-use Rattle.hotel_core.specs.KindRooms.{is_there, rooms_in}
+use Rattle.hotel_books.specs.NightIndex.{CountsNights}
+use Rattle.hotel_books.specs.KindRooms.{is_there, rooms_in}
 use Rattle.hotel_statements.specs.Ready.{IsReady}
 use Rattle.hotel_statements.specs.Tables.{rows_in}
 use Rattle.hotel_statements.specs.Books.{IsKept, IsBooks}

@@ -16,7 +16,7 @@ ghost use Rattle.hotel_tables.specs.Applied.{MayMake, Applies, known_by_fit, tol
 ghost use Rattle.hotel_tables.specs.Applied.{can_count};
 ghost use Rattle.hotel_tables.specs.Causes.{ToldFails, AsksTold, HasLooked, FailsToWrite, MakingFails};
 
-use hotel_core::Change;
+use hotel_model::Change;
 use hotel_nights::StayState;
 use hotel_statements::changes::{add_room, end_stay};
 use hotel_statements::issue::issue;

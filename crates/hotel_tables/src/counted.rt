@@ -8,7 +8,8 @@ ghost use Rattle.hotel_tables.specs.Counted.{booked_by, ended_by, CountsMore, Co
 ghost use Rattle.hotel_tables.specs.Counted.{CountsItsRoom};
 ghost use Rattle.hotel_tables.specs.Causes.{EndedFails, AsksEnded};
 
-use hotel_core::{Change, KindRooms, NightIndex};
+use hotel_books::{KindRooms, NightIndex};
+use hotel_model::Change;
 use hotel_nights::Stay;
 use hotel_statements::look_ups;
 use keycard_rules::{LookFault, Memory};

@@ -13,7 +13,7 @@ ghost use Rattle.hotel_tables.specs.Opening.{IsCreated};
 
 use crate::opening::open_fault;
 use crate::table_books::TableBooks;
-use hotel_core::{KindRooms, NightIndex};
+use hotel_books::{KindRooms, NightIndex};
 use hotel_rows::OpenFault;
 use hotel_statements::fault_of;
 use hotel_statements::new_desk::{enter_meta, make_first, make_last};

@@ -6,7 +6,7 @@ ghost use Rattle.hotel_tables.specs.ChangesStay.{ChangesStay};
 ghost use Rattle.hotel_tables.specs.Reopening.{FilesAreClean, FilesKeepBooks, ReadUndamaged};
 
 use crate::table_books::TableBooks;
-use hotel_core::Books;
+use hotel_books::Books;
 use keycard_rules::Kept;
 use sqlite::Alter;
 use sqlite_disk::Disk;

@@ -16,7 +16,7 @@ mod books;
 mod changes;
 mod walks;
 
-use hotel_core::{KindRooms, NightIndex};
+use hotel_books::{KindRooms, NightIndex};
 use hotel_statements::look_ups;
 use keycard_rules::{Code, Issued, Kept, LookFault};
 use sqlite::{Alter, Connection};

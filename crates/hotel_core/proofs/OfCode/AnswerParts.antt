@@ -1,7 +1,8 @@
 -- What comes of a command on the books, as far as the command went.
 use Rattle.std.proofs.Common.{Bool, ℕ, ◌≡◌, Some, ap, sym, ◌∙◌, subst, Ok, option_map}
-use Rattle.hotel_core.proofs.Names.{Stream, draw_from, words, Change, Reply, Refused, NoFreshCode, said_of, Rows}
-use Rattle.hotel_core.proofs.Names.{codes_in, DrawsCode, Outcome, accepted, by_draw, Ghosts as BooksOf}
+use Rattle.hotel_books.proofs.Names.{Stream, draw_from, words, Change, Reply, Refused, NoFreshCode, said_of, Rows}
+use Rattle.hotel_books.proofs.Names.{codes_in, DrawsCode, Outcome, accepted, by_draw}
+use Rattle.hotel_books.specs.declared.books.Books.{Ghosts as BooksOf}
 use Rattle.hotel_model.specs.Refinement.Answered.{IsOutcome, IsAnswered}
 use Rattle.hotel_core.proofs.OfCode.Parts.{SoFar}
 use Rattle.keycard_rules.specs.declared.kept.Kept.{Ghosts as KeptOf}

@@ -1,9 +1,11 @@
 -- Parts of a step that check the books.
 use Rattle.std.proofs.Common.{◌≡◌, Bool, true, false, Option, Some, None, Result, Ok, Err, refl, ap, sym, ◌∙◌}
 use Rattle.std.proofs.Common.{ℕ, IsErrAnd, List, [], ◌∷◌, is_some, subst}
-use Rattle.hotel_core.proofs.Names.{false≢true, failure_in, Stream, Change, Reply, Refused, Refusal, Store}
-use Rattle.hotel_core.proofs.Names.{Rows, is_failed, Outcome, refused, StepsAs, Finds, AnyRows, reply_of, first_refusal}
-use Rattle.hotel_core.proofs.Names.{Link, card_at, has_link_on, needs, Ghosts as BooksOf}
+use Rattle.hotel_books.proofs.Names.{false≢true, failure_in, Stream, Change, Reply, Refused, Refusal, Store}
+use Rattle.hotel_books.proofs.Names.{Rows, is_failed, Outcome, refused, Finds, AnyRows, reply_of, first_refusal}
+use Rattle.hotel_core.specs.Refinement.StepOnRows.{StepsAs}
+use Rattle.hotel_books.proofs.Names.{Link, card_at, has_link_on, needs}
+use Rattle.hotel_books.specs.declared.books.Books.{Ghosts as BooksOf}
 use Rattle.hotel_model.specs.declared.reply.Refusal.TheVariants.{NoCard, CardDiffers}
 use Rattle.hotel_core.specs.Refinement.FindsChecked.{FindsChecked}
 use Rattle.hotel_core.proofs.OfCode.Parts.{SoFar, at_now, halted, barred, leaves_found, then_asked}

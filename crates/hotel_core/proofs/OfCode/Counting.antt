@@ -1,7 +1,7 @@
 -- Failures that replies tell, and their counts along the parts of a step.
 use Rattle.std.proofs.Common.{ℕ, ◌≡◌, true, false, Option, Some, None, refl, sym}
-use Rattle.hotel_core.proofs.Names.{false≢true, LookFault, Reply, Refused, Memory, Store, is_failed, failure_in}
-use Rattle.hotel_core.proofs.Names.{refusal_of}
+use Rattle.hotel_books.proofs.Names.{false≢true, LookFault, Reply, Refused, Memory, Store, is_failed, failure_in}
+use Rattle.hotel_books.proofs.Names.{refusal_of}
 use Rattle.keycard_rules.specs.Rise.{counted_on, one_of}
 use Rattle.keycard_rules.specs.declared.issued.LookFault.TheVariants as look
 

@@ -1,18 +1,20 @@
 -- A draw as a part of a step.
 use Rattle.std.proofs.Common.{ℕ, ◌≡◌, Bool, true, false, Option, Some, None, Result, Ok, Err, IsErrAnd, List, refl, ap}
 use Rattle.std.proofs.Common.{sym, ◌∙◌, arith, subst, option_map, inl, inr}
-use Rattle.hotel_core.proofs.Names.{false≢true, Stream, since_then, Draw, Draws, fault_in}
+use Rattle.hotel_books.proofs.Names.{false≢true, Stream, since_then, Draw, Draws, fault_in}
 use Rattle.keycard_rules.proofs.Sinces.{stays_then}
 use Rattle.keycard_rules.specs.Leaves.{Leaves}
-use Rattle.hotel_core.proofs.Names.{draw_from, drawn, words, past, Change, Reply, Refused, Refusal, NoFreshCode}
-use Rattle.hotel_core.proofs.Names.{said_of, Rows, codes_in, is_failed, Outcome, accepted, by_draw, made, GoesIf}
-use Rattle.hotel_core.proofs.Names.{made_by, AreWhole, StepsAs, DrawsCode, Drew, DrewNone, drawn_or, has_failed}
-use Rattle.hotel_core.proofs.Names.{failure_at, failure_in, reply_of}
-use Rattle.hotel_core.proofs.Names.{Ghosts as BooksOf}
+use Rattle.hotel_books.proofs.Names.{draw_from, drawn, words, past, Change, Reply, Refused, Refusal, NoFreshCode}
+use Rattle.hotel_books.proofs.Names.{said_of, Rows, codes_in, is_failed, Outcome, accepted, by_draw, made, GoesIf}
+use Rattle.hotel_books.proofs.Names.{made_by, AreWhole, DrawsCode, Drew, DrewNone, drawn_or, has_failed}
+use Rattle.hotel_core.specs.Refinement.StepOnRows.{StepsAs}
+use Rattle.hotel_books.proofs.Names.{failure_at, failure_in, reply_of}
+use Rattle.hotel_books.specs.declared.books.Books.{Ghosts as BooksOf}
 use Rattle.keycard_rules.specs.Draw.{MovedAtMost}
 use Rattle.keycard_rules.specs.{declared.draw.DrawFault.DrawFault, declared.kept.Kept.Ghosts as KeptOf}
 use Rattle.keycard_rules.specs.declared.draw.DrawFault.TheVariants as fault
-use Rattle.hotel_core.specs.{Books.Changes.ChangesAfter, Refinement.StepOnRows.IsMadeWith}
+use Rattle.hotel_books.specs.Books.Changes.{ChangesAfter}
+use Rattle.hotel_core.specs.Refinement.StepOnRows.{IsMadeWith}
 use Rattle.hotel_core.proofs.OfCode.Parts.{SoFar, passed_on, stayed, stops_from}
 use Rattle.hotel_core.proofs.OfCode.Counting.{untold}
 use Rattle.keycard_rules.proofs.CallsTogether.{counted_none, counted_told}

@@ -1,8 +1,10 @@
 -- What a step that went by parts leaves: over sound rows its failure was counted.
 use Rattle.std.proofs.Common.{◌≡◌, Bool, true, false, sym}
-use Rattle.hotel_core.proofs.Names.{false≢true, Stream, Change, Reply, Rows, IsSound, start, Outcome, is_failed}
-use Rattle.hotel_core.proofs.Names.{AreWhole, GoesIf, Goes, StepsAs}
-use Rattle.hotel_core.proofs.Names.{failure_in, Ghosts as BooksOf}
+use Rattle.hotel_books.proofs.Names.{false≢true, Stream, Change, Reply, Rows, IsSound, start, Outcome, is_failed}
+use Rattle.hotel_books.proofs.Names.{AreWhole, GoesIf, Goes}
+use Rattle.hotel_core.specs.Refinement.StepOnRows.{StepsAs}
+use Rattle.hotel_books.proofs.Names.{failure_in}
+use Rattle.hotel_books.specs.declared.books.Books.{Ghosts as BooksOf}
 use Rattle.hotel_core.proofs.OfCode.Counting.{unfailed}
 use Rattle.keycard_rules.specs.Leaves.{Leaves}
 use Rattle.hotel_model.proofs.{Starts.StartRows.rows_of_start, Lifted.Whole.rows_are_whole}

@@ -1,12 +1,13 @@
 -- What happened, also where books failed for good.
 use Rattle.std.proofs.Common.{◌≡◌, ◌⊎◌, Bool, true, false, inl, inr, refl, ap, sym, ◌∙◌, subst, arith}
-use Rattle.hotel_core.specs.{Refinement.StepOnRows.IsMadeWith, Refinement.StepOnRows.StopsIn}
-use Rattle.hotel_core.specs.{Books.Stops.StopsStep}
+use Rattle.hotel_core.specs.Refinement.StepOnRows.{IsMadeWith, StopsIn}
+use Rattle.hotel_books.specs.Books.Stops.{StopsStep}
 use Rattle.hotel_model.specs.Leads.{Leads}
-use Rattle.hotel_core.proofs.Names.{Change, Outcome, Rows, answered, grown, made, made_by, past}
-use Rattle.hotel_core.proofs.Names.{Stream, words, Command, Reply, History, rows_of, Reached, Steps, StepsIf}
-use Rattle.hotel_core.proofs.Names.{IsCommand, IsReply, is_failed, outcome_on, GoesIf, StepsAs, Assured}
-use Rattle.hotel_core.proofs.Names.{Ghosts as BooksOf}
+use Rattle.hotel_books.proofs.Names.{Change, Outcome, Rows, answered, grown, made, made_by, past}
+use Rattle.hotel_books.proofs.Names.{Stream, words, Command, Reply, History, rows_of, Reached, Steps, StepsIf}
+use Rattle.hotel_books.proofs.Names.{IsCommand, IsReply, is_failed, outcome_on, GoesIf, Assured}
+use Rattle.hotel_core.specs.Refinement.StepOnRows.{StepsAs}
+use Rattle.hotel_books.specs.declared.books.Books.{Ghosts as BooksOf}
 use Rattle.keycard_rules.proofs.Drawing.{past-zero}
 use Rattle.keycard_rules.specs.Draw.{MovedAtMost}
 use Rattle.keycard_rules.specs.declared.kept.Kept.{Ghosts as KeptOf}

@@ -1,8 +1,8 @@
 -- What happened over books, made of its parts.
 use Rattle.std.proofs.Common.{◌≡◌, ◌∙◌, Bool, true, false, List, [], ◌∷◌, ◌++◌, length, map, zip, refl, sym, ap, arith}
 use Rattle.std.proofs.Common.{subst}
-use Rattle.hotel_core.proofs.Names.{Stream, Command, History, Reply, Rows, Runs, Passes, failure_in}
-use Rattle.hotel_core.proofs.Names.{StepsIf, false≢true, rows_of, start}
+use Rattle.hotel_books.proofs.Names.{Stream, Command, History, Reply, Rows, Runs, Passes, failure_in}
+use Rattle.hotel_books.proofs.Names.{StepsIf, false≢true, rows_of, start}
 use Rattle.hotel_model.proofs.Starts.StartRows.{rows_of_start}
 use Rattle.hotel_model.proofs.{Invariants.Assurance.assured, LeadsOn.leads_of, RefusalsKept.refusals_keep}
 use Rattle.hotel_core.specs.Books.Happens.{Happens}
@@ -11,8 +11,9 @@ use Rattle.hotel_model.specs.Leads.{Leads}
 use Rattle.keycard_rules.specs.Leaves.{Leaves}
 use Rattle.keycard_rules.proofs.CallsTogether.{together}
 use Rattle.keycard_rules.specs.declared.kept.Kept.{Ghosts as KeptOf}
-use Rattle.hotel_core.specs.Books.Stops.{StopsThrough}
-use Rattle.hotel_core.proofs.{Names.Ghosts as BooksOf, OfCode.StopsAfter.no_stops}
+use Rattle.hotel_books.specs.Books.Stops.{StopsThrough}
+use Rattle.hotel_core.proofs.OfCode.StopsAfter.{no_stops}
+use Rattle.hotel_books.specs.declared.books.Books.{Ghosts as BooksOf}
 use Rattle.hotel_core.proofs.OfCode.StopsAfter.{stops_once, stops_then}
 
 -- what happened over books that are clean as it ends led on from the history that they stood for

@@ -1,7 +1,7 @@
 -- Notes after all that a room's row counts of its present lock.
 use Rattle.std.proofs.Common.{ℕ, ◌≡◌, ◌≤◌, ◌<◌, ◌-◌, Some, None, length, ap, sym, ◌∙◌, subst, arith, is_some, true}
-use Rattle.hotel_core.proofs.Names.{RoomRow, Rows, History, start, notes, notes_of, notes_before, present_fit, rows_of}
-use Rattle.hotel_core.proofs.Names.{is_room, Reached, IsSound, room_at, note_at}
+use Rattle.hotel_books.proofs.Names.{RoomRow, Rows, History, start, notes, notes_of, notes_before, present_fit, rows_of}
+use Rattle.hotel_books.proofs.Names.{is_room, Reached, IsSound, room_at, note_at}
 use Rattle.hotel_model.proofs.{OfTables.NotesKept.none_past, Lifted.NotesFound.note_found}
 use Rattle.hotel_model.proofs.{Lifted.LiftEasy.room_is_there, Invariants.NotesOfFits.notes_for}
 use Rattle.hotel_model.proofs.{Starts.StartRows.rows_of_start, Lifted.Whole.its_row}

@@ -1,11 +1,12 @@
 -- What a look-up of the books finds.
 use Rattle.std.proofs.Common.{◌≡◌, Bool, false, Option, Some, None, Result, Ok, Err, IsSome, refl, ap, sym, ◌∙◌, subst}
-use Rattle.hotel_core.proofs.Names.{false≢true, LookFault, Counts, Refused, Refusal, Store, Rows, is_failed, one_of}
-use Rattle.hotel_core.proofs.Names.{AnyRows, Finds, refusal_of, Ghosts as BooksOf}
+use Rattle.hotel_books.proofs.Names.{false≢true, LookFault, Counts, Refused, Refusal, Store, Rows, is_failed, one_of}
+use Rattle.hotel_books.proofs.Names.{AnyRows, Finds, refusal_of}
+use Rattle.hotel_books.specs.declared.books.Books.{Ghosts as BooksOf}
 use Rattle.hotel_core.proofs.OfCode.Counting.{faults, none_more, tells, untold}
 use Rattle.keycard_rules.proofs.CallsTogether.{counted_none}
-use Rattle.hotel_core.specs.Books.Reads.{LooksUp}
-use Rattle.hotel_core.specs.Refinement.Finds.{known, there_or}
+use Rattle.hotel_books.specs.Books.Reads.{LooksUp}
+use Rattle.hotel_books.specs.Refinement.Finds.{known, there_or}
 use Rattle.keycard_rules.specs.declared.kept.Kept.{Ghosts as KeptOf}
 
 module _ {S A : Type 0} {K : KeptOf S} {B : BooksOf S} {old new : S}

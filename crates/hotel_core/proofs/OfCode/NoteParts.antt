@@ -2,17 +2,19 @@
 use Rattle.std.proofs.Common.{ℕ, ◌≡◌, ◌==◌, ◌<◌, ◌≤◌, Bool, true, false, not, ◌&&◌, Option, Some, None, is_some, List}
 use Rattle.std.proofs.Common.{[], ◌∷◌, ◌+◌, ◌-◌, nat_le, nat_lt, if◌then◌else◌, Result, Ok, Err, IsErrAnd, refl, ap}
 use Rattle.std.proofs.Common.{sym, ◌∙◌, subst, arith, IsSome, inl}
-use Rattle.hotel_core.proofs.Names.{false≢true, nat_tests, Stream, past, Card, Link, Act, Note, Change, Reply, Refused}
-use Rattle.hotel_core.proofs.Names.{NotBegun, NoRoom, NoFit, OldFit, Gap, Store, RoomRow, said_of, Rows, room_at}
-use Rattle.hotel_core.proofs.Names.{card_at, code_place, note_at, same_link, has_link_on, told_on, untaken_on}
-use Rattle.hotel_core.proofs.Names.{is_fit_on, present_fit_on, reported_on, outcome_on, AreWhole, GoesIf, made_by}
-use Rattle.hotel_core.proofs.Names.{StepsAs, Outcome, said, refused, needs, unless, is_failed, Ghosts as BooksOf}
+use Rattle.hotel_books.proofs.Names.{false≢true, nat_tests, Stream, past, Card, Link, Act, Note, Change, Reply, Refused}
+use Rattle.hotel_books.proofs.Names.{NotBegun, NoRoom, NoFit, OldFit, Gap, Store, RoomRow, said_of, Rows, room_at}
+use Rattle.hotel_books.proofs.Names.{card_at, code_place, note_at, same_link, has_link_on, told_on, untaken_on}
+use Rattle.hotel_books.proofs.Names.{is_fit_on, present_fit_on, reported_on, outcome_on, AreWhole, GoesIf, made_by}
+use Rattle.hotel_books.proofs.Names.{Outcome, said, refused, needs, unless, is_failed}
+use Rattle.hotel_core.specs.Refinement.StepOnRows.{StepsAs}
+use Rattle.hotel_books.specs.declared.books.Books.{Ghosts as BooksOf}
 use Rattle.keycard_rules.proofs.Drawing.{past-zero}
 use Rattle.hotel_model.specs.declared.command.Command.TheVariants as command
 use Rattle.hotel_core.proofs.OfCode.Parts.{SoFar, stays_so, passed_on, refuses}
 use Rattle.hotel_core.proofs.OfCode.Counting.{none_more, untold}
 use Rattle.hotel_core.specs.Refinement.NextNote.{next_checked}
-use Rattle.hotel_core.proofs.Names.{IsUntaken, Refusal, reply_of}
+use Rattle.hotel_books.proofs.Names.{IsUntaken, Refusal, reply_of}
 use Rattle.hotel_model.proofs.OfTables.Tests.{eq_from, le_from, lt_from, not_lt_from}
 use Rattle.keycard_rules.specs.declared.kept.Kept.{Ghosts as KeptOf}
 

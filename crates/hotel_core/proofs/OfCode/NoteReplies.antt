@@ -1,11 +1,11 @@
 -- What comes of a note on rows is Taken, Seen or a refusal.
 use Rattle.std.proofs.Common.{◌≡◌, ℕ, Bool, true, false, List, [], ◌∷◌, Option, Some, None, sym, refl, subst}
 use Rattle.std.proofs.Common.{if◌then◌else◌, is_some, ◌==◌, ◌+◌, ◌-◌}
-use Rattle.hotel_core.proofs.Names.{turn, Stream, Note, Act, Change, Reply, Refusal, RoomRow, Rows, said_of, is_one_of}
-use Rattle.hotel_core.proofs.Names.{comes, card_at, inside_at, note_at, room_at, same_note, outcome_on, reported_on}
-use Rattle.hotel_core.proofs.Names.{untaken_on, told_on, checks_on, has_link_on, held_on, place_on, lock_place_of}
-use Rattle.hotel_core.proofs.Names.{secured_on, secured_after_on, is_awaited_on, Outcome, accepted, needs, refused}
-use Rattle.hotel_core.proofs.Names.{said, unless, false≢true, is_failed}
+use Rattle.hotel_books.proofs.Names.{turn, Stream, Note, Act, Change, Reply, Refusal, RoomRow, Rows, said_of, is_one_of}
+use Rattle.hotel_books.proofs.Names.{comes, card_at, inside_at, note_at, room_at, same_note, outcome_on, reported_on}
+use Rattle.hotel_books.proofs.Names.{untaken_on, told_on, checks_on, has_link_on, held_on, place_on, lock_place_of}
+use Rattle.hotel_books.proofs.Names.{secured_on, secured_after_on, is_awaited_on, Outcome, accepted, needs, refused}
+use Rattle.hotel_books.proofs.Names.{said, unless, false≢true, is_failed}
 use Rattle.keycard_rules.specs.declared.note.Act.TheVariants as act
 use Rattle.hotel_model.specs.declared.change.Change.TheVariants as change
 use Rattle.hotel_model.specs.{declared.change.InsideMove.TheVariants.Same, declared.change.InsideMove.TheVariants.Goes}
@@ -14,7 +14,8 @@ use Rattle.hotel_model.specs.declared.command.Command.TheVariants as command
 use Rattle.hotel_model.specs.declared.reply.Reply.TheVariants as reply
 use Rattle.hotel_model.specs.declared.reply.Refusal.TheVariants as refusal
 use Rattle.hotel_model.specs.Refinement.GoesOnRows as step
-use Rattle.hotel_core.proofs.Names.{StepsAs, Ghosts as BooksOf}
+use Rattle.hotel_core.specs.Refinement.StepOnRows.{StepsAs}
+use Rattle.hotel_books.specs.declared.books.Books.{Ghosts as BooksOf}
 use Rattle.keycard_rules.specs.declared.kept.Kept.{Ghosts as KeptOf}
 
 -- the first refusal of some checks is one, and so is what comes otherwise

@@ -1,16 +1,19 @@
 -- The parts of a step, one after the other.
 use Rattle.std.proofs.Common.{ℕ, ◌≡◌, Bool, true, false, Option, Some, None, Result, Ok, Err, refl, ap, sym, ◌∙◌}
 use Rattle.std.proofs.Common.{arith, subst, IsErrAnd, List, [], ◌∷◌, ◌++◌, ◌+◌, ◌⊎◌, inl, inr, nat_lt, cond}
-use Rattle.hotel_core.proofs.Names.{false≢true, Stream, past, Counts, LookFault, Since, since_refl, since_then, one_of}
-use Rattle.hotel_core.proofs.Names.{Change, Reply, Refused, Refusal, Store, Rows, number_after, is_failed, Outcome}
-use Rattle.hotel_core.proofs.Names.{refused, accepted, unless, made, GoesIf, Goes, made_by, AreWhole, StepsAs, Finds}
+use Rattle.hotel_books.proofs.Names.{false≢true, Stream, past, Counts, LookFault, Since, since_refl, since_then, one_of}
+use Rattle.hotel_books.proofs.Names.{Change, Reply, Refused, Refusal, Store, Rows, number_after, is_failed, Outcome}
+use Rattle.hotel_books.proofs.Names.{refused, accepted, unless, made, GoesIf, Goes, made_by, AreWhole, Finds}
+use Rattle.hotel_core.specs.Refinement.StepOnRows.{StepsAs}
 use Rattle.keycard_rules.proofs.{Sinces.stays_then, CallsTogether.counted_told, CallsTogether.counted_none}
 use Rattle.hotel_core.proofs.OfCode.Counting.{faults, none_more, tells, untold}
 use Rattle.keycard_rules.specs.{Leaves.Leaves, Leaves.StaysClean}
-use Rattle.hotel_core.specs.{Books.Changes.ChangesAfter, Refinement.StepOnRows.StopsIn}
+use Rattle.hotel_books.specs.Books.Changes.{ChangesAfter}
+use Rattle.hotel_core.specs.Refinement.StepOnRows.{StopsIn}
 use Rattle.hotel_core.specs.Refinement.StepOnRows.{IsMadeWith}
 use Rattle.hotel_model.specs.Ranges.{IsReply}
-use Rattle.hotel_core.proofs.Names.{AnyRows, failure_in, reply_of, refusal_of, first_refusal, Ghosts as BooksOf}
+use Rattle.hotel_books.proofs.Names.{AnyRows, failure_in, reply_of, refusal_of, first_refusal}
+use Rattle.hotel_books.specs.declared.books.Books.{Ghosts as BooksOf}
 use Rattle.keycard_rules.proofs.Drawing.{past-zero}
 use Rattle.keycard_rules.specs.Draw.{MovedAtMost}
 use Rattle.keycard_rules.specs.declared.kept.Kept.{Ghosts as KeptOf}

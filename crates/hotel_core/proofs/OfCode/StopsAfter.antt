@@ -1,7 +1,8 @@
 -- What calls leave to a stop, one after the other.
 use Rattle.std.proofs.Common.{◌≡◌, Some, None, [], ◌∷◌, ◌++◌, refl}
-use Rattle.hotel_core.proofs.Names.{Stream, Command, Since, Ghosts as BooksOf}
-use Rattle.hotel_core.specs.Books.Stops.{StopsCall, StopsStep, StopsThrough}
+use Rattle.hotel_books.proofs.Names.{Stream, Command, Since}
+use Rattle.hotel_books.specs.declared.books.Books.{Ghosts as BooksOf}
+use Rattle.hotel_books.specs.Books.Stops.{StopsCall, StopsStep, StopsThrough}
 use Rattle.keycard_rules.proofs.CallsTogether.{passes_join}
 use Rattle.keycard_rules.specs.declared.kept.Kept.{Ghosts as KeptOf}
 

@@ -1,7 +1,7 @@
 -- What happened over books.
 use Rattle.keycard_rules.specs.{declared.kept.Kept.Ghosts as KeptOf, Calls.Passes, Calls.Told, Leaves.Leaves}
-use Rattle.hotel_core.specs.declared.books.Books.{Ghosts as BooksOf}
-use Rattle.hotel_core.specs.Books.Stops.{StopsThrough}
+use Rattle.hotel_books.specs.declared.books.Books.{Ghosts as BooksOf}
+use Rattle.hotel_books.specs.Books.Stops.{StopsThrough}
 use Rattle.hotel_model.specs.{History.History, Leads.LeadsOn, Rows.Rows}
 
 -- This happened over books, from the state old to new, where they are honest as it ends: for each history that they

@@ -3,9 +3,10 @@ use Rattle.std.specs.Prelude.{◌≡◌, true, None, List, length, map, zip}
 use Rattle.rand_core.specs.Stream.{Stream}
 use Rattle.keycard_rules.specs.{Note.Note, Leaves.Leaves, Calls.LeaveAll, Calls.Passes}
 use Rattle.keycard_rules.specs.{declared.kept.Kept.Ghosts as KeptOf}
-use Rattle.hotel_core.specs.declared.books.Books.{Ghosts as BooksOf}
-use Rattle.hotel_core.specs.{Books.Failures.failure_in, Books.Happens.Happens, Books.Stops.StopsStep}
-use Rattle.hotel_core.specs.{Books.Stops.StopsThrough}
+use Rattle.hotel_books.specs.declared.books.Books.{Ghosts as BooksOf}
+use Rattle.hotel_books.specs.{Books.Failures.failure_in, Books.Stops.StopsStep}
+use Rattle.hotel_core.specs.Books.Happens.{Happens}
+use Rattle.hotel_books.specs.Books.Stops.{StopsThrough}
 use Rattle.hotel_model.specs.{declared.command.Command.Command, declared.reply.Reply.Reply, Leads.Leads}
 use Rattle.hotel_model.specs.{Ranges.IsReply, Refinement.Fits.takes_none, Run.Steps, Run.Runs}
 use Rattle.hotel_model.specs.FurtherLaws.{tells_no_change}

@@ -3,8 +3,8 @@ use Rattle.std.specs.Prelude.{◌≡◌, false, List, Option, Some, None, Result
 use Rattle.keycard_rules.specs.{declared.kept.Kept.Ghosts as KeptOf, Leaves.Leaves}
 use Rattle.hotel_model.specs.{declared.reply.Refusal.Refusal, Rows.Rows, Run.is_failed}
 use Rattle.hotel_model.specs.declared.reply.Reply.TheVariants as reply
-use Rattle.hotel_core.specs.Refinement.Finds.{failure_at, first_refusal}
-use Rattle.hotel_core.specs.declared.books.Books.{Ghosts as BooksOf}
+use Rattle.hotel_books.specs.Refinement.Finds.{failure_at, first_refusal}
+use Rattle.hotel_books.specs.declared.books.Books.{Ghosts as BooksOf}
 
 -- the checks pass, or this is their first refusal, unless memory or the store failed
 abbrev pub FoundChecked : List (Option Refusal) → Result (Unit {0}) Refusal → Type 0

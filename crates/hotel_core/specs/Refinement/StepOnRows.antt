@@ -8,10 +8,10 @@ use Rattle.hotel_model.specs.{declared.command.Command.Command, declared.change.
 use Rattle.hotel_model.specs.{declared.reply.Reply.Reply, Rows.Rows}
 use Rattle.hotel_model.specs.{Refinement.GoesOnRows.Goes, Refinement.GoesOnRows.AreWhole, Outcome.Outcome}
 use Rattle.hotel_model.specs.{Refinement.OnRows.outcome_on, Run.is_failed, Ranges.IsReply}
-use Rattle.hotel_core.specs.Books.Failures.{failure_in}
+use Rattle.hotel_books.specs.Books.Failures.{failure_in}
 use Rattle.keycard_rules.specs.declared.kept.Kept.{Ghosts as KeptOf}
-use Rattle.hotel_core.specs.declared.books.Books.{Ghosts as BooksOf}
-use Rattle.hotel_core.specs.Books.Stops.{StopsIdle}
+use Rattle.hotel_books.specs.declared.books.Books.{Ghosts as BooksOf}
+use Rattle.hotel_books.specs.Books.Stops.{StopsIdle}
 
 -- this change happens, and the reply is in its ranges
 abbrev pub IsMadeWith : Change → Outcome Change → Type 0

@@ -1,15 +1,15 @@
 //! Bookings.
 ghost use Rattle.std.specs.Prelude.{◌-◌, Option, Some};
 ghost use Rattle.hotel_model.specs.{Refinement.Lookups.first_full_on};
-ghost use Rattle.hotel_core.specs.{Refinement.Finds.Finds, Refinement.Finds.AnyRows, Refinement.Finds.reply_of};
+ghost use Rattle.hotel_books.specs.Refinement.Finds.{Finds, AnyRows, reply_of};
 ghost use Rattle.hotel_model.specs.{Ranges.IsCommand, declared.reply.Refusal.TheVariants.Store};
 ghost use Rattle.hotel_core.specs.Refinement.StepOnRows.{CarriesOutWithoutWords};
 ghost use Rattle.hotel_model.specs.declared.command.Command.TheVariants as command;
 
-use crate::books::Books;
 use crate::commands::changes::make;
 use crate::commands::guest_moves::is_booked;
 use crate::commands::look_ups::{is_kind, known, next_party, stay_there, today};
+use hotel_books::Books;
 use hotel_model::{Change, Refusal, Reply};
 use hotel_nights::{Day, Guest, KindCode, Nights, Stay, StayState};
 use keycard_rules::PartyNo;

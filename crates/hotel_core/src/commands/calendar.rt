@@ -1,12 +1,13 @@
 //! The business day.
 ghost use Rattle.std.specs.Prelude.{◌≡◌, false};
-ghost use Rattle.hotel_core.specs.{Refinement.Finds.reply_of, Refinement.StepOnRows.CarriesOutWithoutWords};
+ghost use Rattle.hotel_books.specs.Refinement.Finds.{reply_of};
+ghost use Rattle.hotel_core.specs.Refinement.StepOnRows.{CarriesOutWithoutWords};
 ghost use Rattle.hotel_model.specs.{Run.is_failed, Ranges.IsCommand};
 ghost use Rattle.hotel_model.specs.declared.command.Command.TheVariants as command;
 
-use crate::books::Books;
 use crate::commands::changes::make;
 use crate::commands::look_ups::{day_if_set, today};
+use hotel_books::Books;
 use hotel_model::{Change, Refusal, Reply};
 use hotel_nights::Day;
 

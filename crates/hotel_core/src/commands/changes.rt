@@ -2,12 +2,12 @@
 ghost use Rattle.std.specs.Prelude.{◌≡◌, false};
 ghost use Rattle.hotel_model.specs.{Refinement.Answered.IsAnswered, Refinement.Fits.takes_memory, Outcome.accepted};
 ghost use Rattle.hotel_model.specs.{Run.is_failed};
-ghost use Rattle.hotel_core.specs.Refinement.Finds.{reply_of};
+ghost use Rattle.hotel_books.specs.Refinement.Finds.{reply_of};
 ghost use Rattle.hotel_core.specs.Refinement.StepOnRows.{StepsWithoutWords};
 
-use crate::books::Books;
 use crate::commands::look_ups::refusal_of;
 use crate::commands::ranges::known_reply;
+use hotel_books::Books;
 use hotel_model::{Change, Refusal, Reply};
 
 /// Makes the change that comes of a command, and answers so where it was made.

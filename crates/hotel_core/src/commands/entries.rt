@@ -3,17 +3,17 @@ ghost use Rattle.std.specs.Prelude.{◌≡◌, ◌+◌, true, is_some, Some};
 ghost use Rattle.keycard_rules.specs.Lock.{turn};
 ghost use Rattle.keycard_rules.specs.declared.note.Act.TheVariants as act;
 ghost use Rattle.hotel_model.specs.{Refinement.Answered.IsOutcome, Refinement.Lookups.inside_at};
-ghost use Rattle.hotel_core.specs.Refinement.Finds.{Finds, AnyRows, reply_of};
+ghost use Rattle.hotel_books.specs.Refinement.Finds.{Finds, AnyRows, reply_of};
 ghost use Rattle.hotel_model.specs.{Guests.are_none, declared.reply.Refusal.TheVariants.Store};
 ghost use Rattle.hotel_model.specs.{Refinement.NotesOnRows.IsUntaken, Refinement.OnRows.opened_on};
 ghost use Rattle.hotel_model.specs.{Refinement.NotesOnRows.secured_by, Refinement.ChangeOf.comes};
 ghost use Rattle.hotel_model.specs.{Refinement.OnRows.told_on, Refinement.OnRows.has_link_on};
 ghost use Rattle.hotel_core.specs.Refinement.StepOnRows.{StepsWithoutWords};
 
-use crate::books::Books;
 use crate::commands::changes::make;
 use crate::commands::lock_codes::{has_inside, is_inside, issued_place, noted_card};
 use crate::commands::room_cards::code_in;
+use hotel_books::Books;
 use hotel_model::{Change, InsideMove, Refusal, Reply, RoomRow};
 use keycard_rules::{CardNo, Code, Link, LockNote, RoomNo, turn};
 

@@ -2,11 +2,12 @@
 ghost use Rattle.keycard_rules.specs.declared.note.Act.TheVariants as act;
 ghost use Rattle.hotel_model.specs.{Refinement.Answered.IsOutcome, Refinement.NotesOnRows.IsUntaken};
 ghost use Rattle.hotel_model.specs.{Refinement.OnRows.told_on};
-ghost use Rattle.hotel_core.specs.{Refinement.Finds.reply_of, Refinement.StepOnRows.StepsWithoutWords};
+ghost use Rattle.hotel_books.specs.Refinement.Finds.{reply_of};
+ghost use Rattle.hotel_core.specs.Refinement.StepOnRows.{StepsWithoutWords};
 
-use crate::books::Books;
 use crate::commands::changes::make;
 use crate::commands::lock_codes::{is_inside, noted_card};
+use hotel_books::Books;
 use hotel_model::{Change, InsideMove, Refusal, Reply, RoomRow};
 use keycard_rules::{CardNo, Link, LockNote};
 

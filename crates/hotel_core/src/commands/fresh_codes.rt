@@ -1,8 +1,8 @@
 //! Fresh codes over the books.
 ghost use Rattle.std.specs.Prelude.{◌≡◌};
-ghost use Rattle.hotel_core.specs.Refinement.Finds.{DrawsCode, drawn_or};
+ghost use Rattle.hotel_books.specs.Refinement.Finds.{DrawsCode, drawn_or};
 
-use crate::books::Books;
+use hotel_books::Books;
 use hotel_model::Refusal;
 use keycard_rules::{Code, DrawFault, draw_fresh};
 use rand_core::Rng;

@@ -1,15 +1,15 @@
 //! Parties that come, move and leave.
 ghost use Rattle.std.specs.Prelude.{◌≡◌, Option, Some, None, bytes_eq};
 ghost use Rattle.hotel_model.specs.{Stays.is_booked_state, Stays.room_of_state};
-ghost use Rattle.hotel_core.specs.{Refinement.Finds.reply_of, Refinement.Finds.IsChecked};
+ghost use Rattle.hotel_books.specs.Refinement.Finds.{reply_of, IsChecked};
 ghost use Rattle.hotel_core.specs.Refinement.StepOnRows.{CarriesOut, CarriesOutWithoutWords};
 ghost use Rattle.hotel_model.specs.{Refinement.CardsOnRows.bars_to_check_in, Refinement.CardsOnRows.bars_to_transfer};
 ghost use Rattle.hotel_model.specs.declared.command.Command.TheVariants as command;
 
-use crate::books::Books;
 use crate::commands::changes::make;
 use crate::commands::look_ups::{next_card, room_there, row_of, stay_there, today};
 use crate::commands::room_cards::{issue, last_link};
+use hotel_books::Books;
 use hotel_model::{Change, Refusal, Reply, RoomRow};
 use hotel_nights::{Day, KindCode, Stay, StayState};
 use keycard_rules::{Card, PartyNo, RoomNo};

@@ -1,8 +1,8 @@
 //! What a note of a lock is compared with in the books.
 ghost use Rattle.std.specs.Prelude.{◌≡◌, ◌-◌, ◌==◌, ◌&&◌, nat_lt, Option, Some, None, IsSome, not, is_some, [], ◌∷◌};
 ghost use Rattle.std.specs.Prelude.{false};
-ghost use Rattle.hotel_core.specs.{Books.Reads.LooksUp, Refinement.Finds.Finds, Refinement.Finds.AnyRows};
-ghost use Rattle.hotel_core.specs.{Refinement.FindsChecked.FindsChecked};
+ghost use Rattle.hotel_books.specs.{Books.Reads.LooksUp, Refinement.Finds.Finds, Refinement.Finds.AnyRows};
+ghost use Rattle.hotel_core.specs.Refinement.FindsChecked.{FindsChecked};
 ghost use Rattle.hotel_model.specs.{Refinement.Lookups.room_at, Refinement.Lookups.code_place};
 ghost use Rattle.hotel_model.specs.{Refinement.Lookups.inside_at, Refinement.Lookups.note_at, Guests.are_none};
 ghost use Rattle.hotel_model.specs.{Cards.same_link, Refinement.Lookups.card_at, Refinement.OnRows.has_link_on};
@@ -11,8 +11,8 @@ ghost use Rattle.hotel_model.specs.{declared.reply.Refusal.TheVariants.CardDiffe
 ghost use Rattle.hotel_model.specs.{Words.is_one_of, declared.reply.Refusal.TheVariants.NotAwaited};
 ghost use Rattle.hotel_model.specs.{declared.reply.Refusal.TheVariants.Store};
 
-use crate::books::Books;
 use crate::commands::look_ups::{card_there, known, there_or};
+use hotel_books::Books;
 use hotel_model::{CodeRow, Refusal, RoomRow};
 use keycard_rules::{CardNo, Code, Link, LockNote, LookFault, RoomNo};
 

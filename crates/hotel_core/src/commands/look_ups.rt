@@ -2,12 +2,12 @@
 ghost use Rattle.std.specs.Prelude.{◌≡◌, Option, Some, None, false, Result, Ok, Err, IsSome, length};
 ghost use Rattle.hotel_model.specs.{Refinement.Lookups.room_at, Refinement.Lookups.stay_at, Refinement.Lookups.card_at};
 ghost use Rattle.hotel_model.specs.{Refinement.Lookups.number_after, Rows.has_kind};
-ghost use Rattle.hotel_core.specs.Refinement.Finds.{Finds, AnyRows, has_failed, known, there_or};
-ghost use Rattle.hotel_core.specs.Books.Failures.{refusal_of};
+ghost use Rattle.hotel_books.specs.Refinement.Finds.{Finds, AnyRows, has_failed, known, there_or};
+ghost use Rattle.hotel_books.specs.Books.Failures.{refusal_of};
 ghost use Rattle.hotel_model.specs.declared.reply.Refusal.TheVariants.{NotBegun, NoRoom, NoParty, NoCard};
 ghost use Rattle.hotel_model.specs.declared.reply.Refusal.TheVariants.{NumbersUsedUp, Store};
 
-use crate::books::Books;
+use hotel_books::Books;
 use hotel_model::{Refusal, RoomRow};
 use hotel_nights::{Day, KindCode, Stay};
 use keycard_rules::{Card, CardNo, LookFault, PartyNo, RoomNo};

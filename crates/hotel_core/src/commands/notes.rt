@@ -3,16 +3,17 @@ ghost use Rattle.std.specs.Prelude.{◌≡◌, None, nat_le, Ok};
 ghost use Rattle.hotel_model.specs.{Refinement.Answered.IsOutcome, Refinement.NotesOnRows.IsUntaken, Ranges.IsCommand};
 ghost use Rattle.hotel_model.specs.{Notes.same_note};
 ghost use Rattle.hotel_model.specs.{Refinement.OnRows.reported_on};
-ghost use Rattle.hotel_core.specs.{Refinement.Finds.reply_of, Refinement.NextNote.next_checked};
+ghost use Rattle.hotel_books.specs.Refinement.Finds.{reply_of};
+ghost use Rattle.hotel_core.specs.Refinement.NextNote.{next_checked};
 ghost use Rattle.hotel_core.specs.Refinement.StepOnRows.{StepsWithoutWords, CarriesOutWithoutWords};
 ghost use Rattle.hotel_model.specs.declared.command.Command.TheVariants as command;
 
-use crate::books::Books;
 use crate::commands::entries::enter;
 use crate::commands::exits::leave;
 use crate::commands::lock_codes::{is_present, kept_note, notes_of_present};
 use crate::commands::look_ups::{room_there, today};
 use crate::commands::recodings::recode;
+use hotel_books::Books;
 use hotel_model::{Refusal, Reply, RoomRow};
 use keycard_rules::{Act, LockNote};
 

@@ -3,12 +3,13 @@ ghost use Rattle.std.specs.Prelude.{◌≡◌, ◌==◌, ◌&&◌, nat_lt};
 ghost use Rattle.keycard_rules.specs.declared.note.Act.TheVariants as act;
 ghost use Rattle.hotel_model.specs.{Refinement.Answered.IsOutcome, Refinement.NotesOnRows.IsUntaken};
 ghost use Rattle.hotel_model.specs.{Refinement.OnRows.told_on};
-ghost use Rattle.hotel_core.specs.{Refinement.Finds.reply_of, Refinement.StepOnRows.StepsWithoutWords};
+ghost use Rattle.hotel_books.specs.Refinement.Finds.{reply_of};
+ghost use Rattle.hotel_core.specs.Refinement.StepOnRows.{StepsWithoutWords};
 
-use crate::books::Books;
 use crate::commands::changes::make;
 use crate::commands::lock_codes::awaited_place;
 use crate::commands::room_cards::code_in;
+use hotel_books::Books;
 use hotel_model::{Change, CodeRow, InsideMove, Refusal, Reply, RoomRow};
 use keycard_rules::{Code, LockNote, RoomNo};
 

@@ -1,12 +1,13 @@
 //! Locks that are replaced.
-ghost use Rattle.hotel_core.specs.{Refinement.Finds.reply_of, Refinement.StepOnRows.CarriesOut};
+ghost use Rattle.hotel_books.specs.Refinement.Finds.{reply_of};
+ghost use Rattle.hotel_core.specs.Refinement.StepOnRows.{CarriesOut};
 ghost use Rattle.hotel_model.specs.{Ranges.IsCommand};
 ghost use Rattle.hotel_model.specs.declared.command.Command.TheVariants as command;
 
-use crate::books::Books;
 use crate::commands::changes::make;
 use crate::commands::fresh_codes::fresh;
 use crate::commands::look_ups::{room_there, today};
+use hotel_books::Books;
 use hotel_model::{Change, Refusal, Reply};
 use keycard_rules::RoomNo;
 use rand_core::Rng;

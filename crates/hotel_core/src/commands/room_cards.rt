@@ -3,15 +3,16 @@ ghost use Rattle.std.specs.Prelude.{◌≡◌, ◌<◌, ◌-◌, ◌^◌, Option
 ghost use Rattle.keycard_rules.specs.Draw.{words};
 ghost use Rattle.keycard_rules.specs.declared.draw.TheConstants.{MOST_WORDS};
 ghost use Rattle.hotel_model.specs.Refinement.Answered.{IsOutcome};
-ghost use Rattle.hotel_core.specs.{Refinement.Finds.Finds, Refinement.Finds.reply_of, Refinement.StepOnRows.StepsAs};
+ghost use Rattle.hotel_books.specs.Refinement.Finds.{Finds, reply_of};
+ghost use Rattle.hotel_core.specs.Refinement.StepOnRows.{StepsAs};
 ghost use Rattle.hotel_model.specs.Refinement.CardsOnRows.{issued_on, HasCurrent, HasLink};
 ghost use Rattle.hotel_model.specs.{Refinement.Lookups.room_at, Refinement.Lookups.code_at};
 ghost use Rattle.hotel_model.specs.{Refinement.OnRows.last_link_on, declared.reply.Refusal.TheVariants.Store};
 
-use crate::books::Books;
 use crate::commands::changes::make;
 use crate::commands::fresh_codes::fresh;
 use crate::commands::look_ups::{next_card, row_of, there_or};
+use hotel_books::Books;
 use hotel_model::{Change, Refusal, Reply, RoomRow};
 use keycard_rules::{Card, Code, Link, PartyNo, RoomNo};
 use rand_core::Rng;

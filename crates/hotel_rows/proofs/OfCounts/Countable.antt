@@ -19,7 +19,7 @@ use Rattle.hotel_model.specs.Stays.{room_of_state}
 use Rattle.hotel_model.specs.SoundRooms.{are_in_order, count_up, is_day, kinds_read, room_numbers, lock_places}
 use Rattle.hotel_model.specs.SoundRooms.{room_kinds_there, codes_few, parties_in_house, secured_hold_last}
 use Rattle.hotel_model.specs.SoundStays.{has_party}
-use Rattle.hotel_core.specs.KindRooms.{is_there, rooms_in}
+use Rattle.hotel_books.specs.KindRooms.{is_there, rooms_in}
 use Rattle.hotel_model.specs.declared.rows.RoomRow.{RoomRow}
 use Rattle.hotel_model.proofs.OfTables.Tests.{and_true, either_way, not_both, eq_from, le_tested}
 use Rattle.hotel_model.proofs.OfTables.RowTests.{both, all_weaker, all_mapped, found_passes}

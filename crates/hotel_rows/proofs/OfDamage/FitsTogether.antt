@@ -15,7 +15,7 @@ use Rattle.hotel_model.specs.SoundFits.{fit_rooms_there, fit_numbers, first_fits
 use Rattle.hotel_model.specs.SoundFits.{none_fall, notes_before_each, fit_notes_rise, last_fits_held}
 use Rattle.hotel_model.specs.SoundFits.{last_fits_noted, rise_by_few, fit_notes_few}
 use Rattle.hotel_model.proofs.OfTables.Tests.{and_true, eq_from, eq_self}
-use Rattle.hotel_core.proofs.OfTables.MapEntries.{same_bool}
+use Rattle.hotel_books.proofs.OfTables.MapEntries.{same_bool}
 use Rattle.hotel_model.proofs.OfTables.RowTests.{both, all_mapped}
 use Rattle.hotel_rows.specs.declared.damage.fit_runs.FitRun.{FitRun}
 use Rattle.hotel_rows.specs.declared.stored.PlainFit.{PlainFit}

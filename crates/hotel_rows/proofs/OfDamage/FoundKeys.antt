@@ -11,7 +11,7 @@ use Rattle.std.proofs.lemmas.Bool.Decides.{nat_tests}
 use Rattle.hotel_model.specs.Rows.{at_number}
 use Rattle.hotel_model.specs.SoundRooms.{count_up}
 use Rattle.hotel_model.proofs.OfTables.Numbered.{at_inserted}
-use Rattle.hotel_core.proofs.OfTables.MapEntries.{at_is, eq_from}
+use Rattle.hotel_books.proofs.OfTables.MapEntries.{at_is, eq_from}
 use Rattle.hotel_rows.specs.Keys.{place_in, IndexesFirst}
 use Rattle.hotel_rows.specs.Places.{counted_place}
 

@@ -8,7 +8,7 @@ use Rattle.std.specs.Map.{lookup, values_of}
 use Rattle.hotel_model.specs.declared.rows.FitRow.{FitRow}
 use Rattle.hotel_model.specs.Words.{when, said_of, pair_cmp}
 use Rattle.hotel_model.specs.Rows.{at_number, fits_at, last_fit, begins_fit, newest_link_at, last_link_of}
-use Rattle.hotel_core.proofs.OfTables.MapEntries.{eq_from, eq_turned, pair_is, known_by}
+use Rattle.hotel_books.proofs.OfTables.MapEntries.{eq_from, eq_turned, pair_is, known_by}
 use Rattle.hotel_rows.specs.declared.damage.fit_runs.FitRun.{FitRun}
 use Rattle.hotel_rows.specs.declared.stored.PlainFit.{PlainFit}
 use Rattle.hotel_rows.specs.declared.damage.code_places.Placed.{Placed}

@@ -4,7 +4,7 @@ use Rattle.std.proofs.Common.{refl, ap, ◌∙◌}
 use Rattle.std.specs.Prelude.{is_some, option_map, ◌||◌}
 use Rattle.std.specs.List.{list_any}
 use Rattle.hotel_model.specs.Rows.{at_number, or_else}
-use Rattle.hotel_core.proofs.OfTables.MapEntries.{eq_turned}
+use Rattle.hotel_books.proofs.OfTables.MapEntries.{eq_turned}
 use Rattle.hotel_rows.specs.declared.stored.PlainCard.{PlainCard}
 use Rattle.hotel_rows.specs.Stored.{number_of, link_row}
 use Rattle.hotel_rows.specs.Keys.{place_in}

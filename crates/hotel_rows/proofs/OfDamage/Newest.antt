@@ -7,7 +7,7 @@ use Rattle.hotel_model.specs.Words.{said_of, is_that}
 use Rattle.hotel_model.specs.Rows.{at_number, last_link_of}
 use Rattle.hotel_model.specs.Cards.{same_link}
 use Rattle.hotel_model.specs.SoundRooms.{count_up}
-use Rattle.hotel_core.proofs.OfTables.MapEntries.{at_is, eq_from}
+use Rattle.hotel_books.proofs.OfTables.MapEntries.{at_is, eq_from}
 use Rattle.hotel_rows.specs.LastCards.{link_of_both}
 use Rattle.hotel_model.proofs.OfTables.Numbered.{apart_by}
 use Rattle.hotel_model.proofs.SoundRows.SoundRoomRows.{eq_tested}

@@ -11,7 +11,7 @@ use Rattle.hotel_model.specs.Rows.{at_number}
 use Rattle.hotel_model.specs.SoundRooms.{are_in_order, count_up, is_day}
 use Rattle.hotel_model.specs.SoundNotes.{numbers_at, notes_counted, notes_fit, note_fits, act_fits}
 use Rattle.hotel_model.proofs.OfTables.RowTests.{all_mapped}
-use Rattle.hotel_core.proofs.OfTables.MapEntries.{eq_from, eq_self, eq_turned}
+use Rattle.hotel_books.proofs.OfTables.MapEntries.{eq_from, eq_self, eq_turned}
 use Rattle.hotel_rows.specs.declared.damage.note_runs.NoteRun.{NoteRun}
 use Rattle.hotel_rows.specs.declared.stored.PlainNote.{PlainNote}
 use Rattle.hotel_rows.specs.declared.stored.Stored.{Stored}

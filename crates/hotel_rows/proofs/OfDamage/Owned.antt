@@ -8,7 +8,7 @@ use Rattle.std.specs.Map.{lookup}
 use Rattle.keycard_rules.specs.declared.card.Link.{Link}
 use Rattle.hotel_model.specs.Words.{is_that, pair_cmp, said_of}
 use Rattle.hotel_model.specs.Cards.{same_link}
-use Rattle.hotel_core.proofs.OfTables.MapEntries.{eq_from, eq_self, eq_turned, pair_is, same_bool}
+use Rattle.hotel_books.proofs.OfTables.MapEntries.{eq_from, eq_self, eq_turned, pair_is, same_bool}
 use Rattle.hotel_model.proofs.OfTables.RowTests.{all_weaker}
 use Rattle.hotel_model.proofs.OfTables.Tests.{and_true}
 use Rattle.hotel_model.proofs.SoundRows.SoundLinks.{same_self}

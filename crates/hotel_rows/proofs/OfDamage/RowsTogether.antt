@@ -9,7 +9,7 @@ use Rattle.hotel_model.specs.Rows.{has_kind, fits_at, begins_fit}
 use Rattle.hotel_model.specs.SoundRooms.{are_in_order, room_numbers, lock_places, room_kinds_there}
 use Rattle.hotel_model.specs.SoundRooms.{codes_few, parties_in_house, secured_hold_last}
 use Rattle.hotel_model.proofs.OfTables.RowTests.{all_mapped}
-use Rattle.hotel_core.proofs.OfTables.MapEntries.{eq_self}
+use Rattle.hotel_books.proofs.OfTables.MapEntries.{eq_self}
 use Rattle.hotel_rows.specs.declared.stored.PlainRoom.{PlainRoom}
 use Rattle.hotel_rows.specs.declared.stored.Stored.{Stored}
 use Rattle.hotel_rows.specs.Joined.{with_fit, FitEntries}

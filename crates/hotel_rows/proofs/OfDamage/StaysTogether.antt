@@ -12,7 +12,7 @@ use Rattle.hotel_model.specs.Rows.{has_kind, rooms_of_kind}
 use Rattle.hotel_model.specs.SoundRooms.{are_in_order, count_up, is_day}
 use Rattle.hotel_model.specs.SoundStays.{guests_read, stay_kinds_there, stay_days, stay_rooms, nights_fit}
 use Rattle.hotel_model.proofs.OfTables.RowTests.{all_mapped}
-use Rattle.hotel_core.proofs.OfTables.MapEntries.{eq_self}
+use Rattle.hotel_books.proofs.OfTables.MapEntries.{eq_self}
 use Rattle.hotel_model.proofs.OfTables.StayCounts.{count_first}
 use Rattle.hotel_rows.specs.declared.stored.Stored.{Stored}
 use Rattle.hotel_rows.specs.declared.stored.PlainStay.{PlainStay}

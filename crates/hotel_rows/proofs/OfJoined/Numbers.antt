@@ -3,8 +3,8 @@ use Rattle.std.proofs.Common.{ℕ, zero, suc, ◌≡◌, ◌≤◌, ◌<◌, ◌
 use Rattle.std.proofs.Common.{Bool, true, false, cond, ◌==◌, nat_le, nat_lt}
 use Rattle.std.proofs.Common.{Option, Some, None, List, [], ◌∷◌, map, filter, drop, length}
 use Rattle.hotel_model.specs.declared.rows.FitRow.{FitRow}
-use Rattle.hotel_core.proofs.Names.{nat_tests, list_all, is_at, lookup, said_of, when, pair_cmp, fits_at, last_fit}
-use Rattle.hotel_core.proofs.Names.{count_up, first_is_first}
+use Rattle.hotel_books.proofs.Names.{nat_tests, list_all, is_at, lookup, said_of, when, pair_cmp, fits_at, last_fit}
+use Rattle.hotel_books.proofs.Names.{count_up, first_is_first}
 use Rattle.hotel_model.proofs.OfTables.Tests.{eq_from, and_true, not_both}
 use Rattle.hotel_model.proofs.OfTables.AtRoom.{first_in, none_in, keys_at, found_at, fits_are_picked}
 use Rattle.hotel_rows.specs.Joined.{fit_of_number, FitEntries}

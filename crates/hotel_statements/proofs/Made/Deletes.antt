@@ -12,7 +12,7 @@ use Rattle.hotel_model.proofs.OfTables.Pairs.{pair_is, same_pair}
 use Rattle.hotel_statements.specs.Values.{int}
 use Rattle.hotel_statements.specs.Texts.{delete_inside}
 use Rattle.hotel_statements.specs.Tables.{AreApart}
-use Rattle.hotel_core.specs.Refinement.Finds.{AnyRows}
+use Rattle.hotel_books.specs.Refinement.Finds.{AnyRows}
 use Rattle.hotel_statements.specs.Steps.{IsMidWith, MovesRows, inside_gone}
 use Rattle.hotel_statements.proofs.Answers.{passes}
 use Rattle.hotel_statements.proofs.Keyed.{column_equals}

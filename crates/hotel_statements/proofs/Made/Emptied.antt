@@ -5,7 +5,7 @@ use Rattle.sqlite.specs.State.{State, ExecutesInside}
 use Rattle.hotel_model.specs.Guests.{those_elsewhere}
 use Rattle.hotel_statements.specs.Values.{int}
 use Rattle.hotel_statements.specs.Texts.{delete_insides}
-use Rattle.hotel_core.specs.Refinement.Finds.{AnyRows}
+use Rattle.hotel_books.specs.Refinement.Finds.{AnyRows}
 use Rattle.hotel_statements.specs.Steps.{IsMidWith, MovesRows, insides_gone}
 use Rattle.hotel_statements.proofs.Answers.{passes}
 use Rattle.hotel_statements.proofs.Keyed.{column_equals}

@@ -30,7 +30,7 @@ use Rattle.sqlite.proofs.Callers.{one_step, statement_of}
 use Rattle.hotel_model.specs.Words.{pair_cmp}
 use Rattle.hotel_model.proofs.OfTables.Pairs.{pair_cmp_total}
 use Rattle.hotel_model.specs.Rows.{Rows}
-use Rattle.hotel_core.specs.Refinement.Finds.{AnyRows}
+use Rattle.hotel_books.specs.Refinement.Finds.{AnyRows}
 use Rattle.hotel_statements.specs.Trees.{inside_tree}
 use Rattle.hotel_statements.specs.Schema.{desk_schema, inside_table, at_tree}
 use Rattle.hotel_statements.specs.Columns.{inside_columns, inside_of, inside_written}

@@ -52,7 +52,7 @@ use Rattle.hotel_statements.specs.Columns.{fit_columns, fit_of, fit_written}
 use Rattle.hotel_rows.specs.Joined.{with_last, with_fit, with_count, under_fit, fit_of_number}
 use Rattle.hotel_statements.specs.Tables.{AreFits, IsWrittenAs, by_key, rows_in, fits_in, bare_rooms_in}
 use Rattle.hotel_statements.specs.Tables.{bare_notes_in}
-use Rattle.hotel_core.specs.Refinement.Finds.{AnyRows}
+use Rattle.hotel_books.specs.Refinement.Finds.{AnyRows}
 use Rattle.hotel_statements.specs.Steps.{IsMidWith, IsNewNote, IsNextFit, IsWithoutFit, MovesRows}
 use Rattle.hotel_statements.specs.Steps.{bare_room}
 use Rattle.hotel_statements.specs.Steps.{counts_to, is_below, kind_added, note_added, fit_added, room_added, code_added}

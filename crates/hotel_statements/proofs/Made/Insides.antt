@@ -12,7 +12,7 @@ use Rattle.sqlite.specs.Tree.{put_row}
 use Rattle.sqlite.specs.State.{State, ExecutesInside}
 use Rattle.hotel_model.specs.Words.{pair_cmp}
 use Rattle.hotel_model.proofs.OfTables.Pairs.{pair_cmp_total}
-use Rattle.hotel_core.specs.Refinement.Finds.{AnyRows}
+use Rattle.hotel_books.specs.Refinement.Finds.{AnyRows}
 use Rattle.hotel_statements.specs.Trees.{inside_tree}
 use Rattle.hotel_statements.specs.Schema.{inside_table}
 use Rattle.hotel_statements.specs.Values.{int}

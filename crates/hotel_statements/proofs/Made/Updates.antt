@@ -34,7 +34,7 @@ use Rattle.hotel_statements.specs.Columns.{bit_of, state_number, meta_columns, m
 use Rattle.hotel_statements.specs.Columns.{room_of, room_written, stay_columns, stay_of, stay_written}
 use Rattle.hotel_statements.specs.Tables.{AreMetas, IsTable, IsWrittenAs, in_key_order, by_key, rows_in, fits_in}
 use Rattle.hotel_statements.specs.Tables.{bare_rooms_in}
-use Rattle.hotel_core.specs.Refinement.Finds.{AnyRows}
+use Rattle.hotel_books.specs.Refinement.Finds.{AnyRows}
 use Rattle.hotel_statements.specs.Steps.{IsMidWith, MovesRows, day_set, room_issued, room_freed, room_noted}
 use Rattle.hotel_statements.specs.Steps.{room_refitted, stay_set}
 use Rattle.hotel_rows.specs.Joined.{with_last}

@@ -15,7 +15,7 @@ use Rattle.sqlite_keyed.proofs.ListLemmas.{map-flat_map, IsPermutation-flat_map,
 use Rattle.sqlite_keyed.proofs.SortLemmas.{sorted_unique, IsPermutation-sort_by}
 use Rattle.sqlite_value.specs.declared.keys.Key.{Key}
 use Rattle.sqlite.specs.Order.{Row}
-use Rattle.sqlite.specs.Query.{Query, Join, inner, end, IsAnswer, Output, output, output_cmp, matches}
+use Rattle.sqlite.specs.Query.{Query, Join, inner, left, end, or_nulls, IsAnswer, Output, output, output_cmp, matches}
 use Rattle.sqlite.specs.Program.{overlay}
 use Rattle.sqlite.specs.Term.{Term, Env, holds}
 use Rattle.sqlite.specs.Tree.{Trees, IsAscending}
@@ -67,6 +67,17 @@ module _ (db : Trees) (test : List Term) (q : Query) where
       subst (λ os. IsPermutation os (flat_map h (in_key_order cmp of (db tree)))) (sym split)
       (IsPermutation-trans _ _ _ (each_row Good of f h each (db tree) good)
       (IsPermutation-flat_map h _ _ (IsPermutation-sym _ _ (IsPermutation-sort_by cmp total (map of (db tree))))))
+
+  -- and of one that may have none: then its row is empty
+  pub table_or_none : (on : List Term) (tree : ℕ) (more : Join) (env : Env)
+      → map (output q) (matches (overlay db []) test (left tree on more) env)
+      ≡ flat_map (λ r. map (output q) (matches (overlay db []) test more (env ++ r ∷ [])))
+      (or_nulls (filter (λ r. list_all (holds (env ++ r ∷ [])) on) (db tree)))
+  table_or_none on tree more env =
+      let f : Row → List Output = λ r. map (output q) (matches (overlay db []) test more (env ++ r ∷ [])) in
+      map-flat_map (output q) (λ r. matches (overlay db []) test more (env ++ r ∷ []))
+      (or_nulls (filter (λ r. list_all (holds (env ++ r ∷ [])) on) (overlay db [] tree)))
+      ∙ ap (λ rs. flat_map f (or_nulls (filter (λ r. list_all (holds (env ++ r ∷ [])) on) rs))) (same_tree db tree)
 
   -- and of the last
   pub last_table : (env : Env) (b : Bool) (o : Output) → list_all (holds env) test ≡ b → output q env ≡ o

@@ -11,8 +11,8 @@ use Rattle.sqlite.specs.Term.{col}
 use Rattle.sqlite.specs.Tree.{Trees, IsAscending}
 use Rattle.hotel_model.specs.declared.list_rows.FreeRow.{FreeRow}
 use Rattle.hotel_model.specs.Refinement.ListsOnRows.{free_row_on, availability_on}
-use Rattle.hotel_core.specs.FreeRows.{free_row_by}
-use Rattle.hotel_core.proofs.OfNights.FreeRows.{free_by_rows}
+use Rattle.hotel_books.specs.FreeRows.{free_row_by}
+use Rattle.hotel_books.proofs.OfNights.FreeRows.{free_by_rows}
 use Rattle.hotel_statements.specs.Trees.{kind_tree}
 use Rattle.hotel_statements.specs.Values.{text_of}
 use Rattle.hotel_statements.specs.Columns.{kind_columns, kind_of, kind_written}

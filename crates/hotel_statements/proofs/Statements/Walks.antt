@@ -2,20 +2,21 @@
 use Rattle.std.proofs.Common.{refl, [], ◌∷◌, pos}
 use Rattle.sqlite_tied.specs.Compute.{everything}
 use Rattle.sqlite.specs.Listing.{understood}
-use Rattle.sqlite_value.specs.declared.value.Value.TheVariants.{Int}
+use Rattle.sqlite_value.specs.declared.value.Value.TheVariants.{Int, Null}
 use Rattle.sqlite_value.specs.declared.keys.Collation.TheVariants.{Binary}
 use Rattle.sqlite_value.specs.Keys.{ascending}
 use Rattle.sqlite.specs.Term.{lit, col}
 use Rattle.sqlite_sql.specs.Term.{op2}
-use Rattle.sqlite_sql.specs.declared.ops.BinaryOp.TheVariants.{Arith}
+use Rattle.sqlite_sql.specs.declared.ops.BinaryOp.TheVariants.{Arith, Is}
 use Rattle.sqlite_sql.specs.declared.ops.ArithOp.TheVariants.{Add, Sub}
 use Rattle.hotel_statements.specs.Trees.{kind_tree, room_tree, stay_tree, code_tree, card_tree, inside_tree, note_tree}
+use Rattle.hotel_statements.specs.Trees.{fit_tree}
 use Rattle.hotel_statements.specs.LookUps.{Asks}
 use Rattle.hotel_statements.specs.Texts as text
 use Rattle.hotel_statements.proofs.Answers.{single}
 use Rattle.hotel_statements.proofs.Statements.Terms.{column_is, columns, all_seven, all_eight}
-use Rattle.sqlite.specs.Query.{inner, end}
-use Rattle.sqlite_sql.specs.declared.ops.CompareOp.TheVariants.{Eq, Lt, Le}
+use Rattle.sqlite.specs.Query.{inner, left, end}
+use Rattle.sqlite_sql.specs.declared.ops.CompareOp.TheVariants.{Eq, Lt, Le, Gt}
 use Rattle.hotel_statements.specs.Schema.{compare}
 
 pub walk_arrivals : Asks text.walk_arrivals
@@ -72,6 +73,16 @@ pub walk_cards_given : Asks text.walk_cards_given
     (single card_tree (column_is 2 0 ∷ []) (columns (0 ∷ 2 ∷ 3 ∷ 4 ∷ [])) ((col 1 0, ascending Binary) ∷ []))
 unfolding understood everything
 walk_cards_given = record { query = (_, refl); plain = (refl, refl); listing = refl }
+
+pub walk_locks : Asks text.walk_locks
+    (record (single room_tree (compare Eq (col 2 1) (col 1 0) ∷ op2 (Is Binary) (col 3 1) (lit Null) ∷ [])
+    (col 1 0 ∷ col 2 2 ∷ col 1 7 ∷ col 2 4 ∷ col 4 7 ∷ col 4 8 ∷ []) ((col 1 0, ascending Binary) ∷ [])) {
+      from = inner room_tree (inner fit_tree
+          (left fit_tree (compare Eq (col 3 1) (col 2 1) ∷ compare Gt (col 3 2) (col 2 2) ∷ [])
+          (left note_tree (compare Eq (col 4 1) (col 1 0) ∷ compare Eq (col 4 2) (col 1 7) ∷ []) end)));
+    })
+unfolding understood everything
+walk_locks = record { query = (_, refl); plain = (refl, refl); listing = refl }
 
 pub walk_kinds : Asks text.read_kind
     (single kind_tree [] (columns (1 ∷ [])) ((col 1 1, ascending Binary) ∷ []))

@@ -11,7 +11,7 @@ ghost use Rattle.hotel_statements.specs.Walks.{note_under};
 use super::list_rows::RowReader;
 use super::{FromRow, act, bit, counted, day, kind_code, maybe_counted, small_integer};
 use crate::look_ups::RoomCounts;
-use hotel_core::{FitRow, RoomRow};
+use hotel_model::{FitRow, RoomRow};
 use hotel_nights::KindCode;
 use keycard_rules::{Act, Count, LockNote, LookFault, PartyNo, RoomNo};
 use sqlite::Row;

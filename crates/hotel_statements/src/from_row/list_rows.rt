@@ -3,17 +3,21 @@ ghost use Rattle.std.specs.Prelude.{◌≡◌, ◌≢◌, ◌≤◌, ◌-◌, le
 ghost use Rattle.sqlite.specs.Order.{Row as SqlRow, column};
 ghost use Rattle.hotel_statements.specs.Values.{number_of};
 ghost use Rattle.hotel_statements.specs.Readable.{IsCount, IsOfChain, IsInHouse, IsBehind, IsOfStatus, IsOfInside};
-ghost use Rattle.hotel_statements.specs.Readable.{FirstColumnIs, IsKind};
+ghost use Rattle.hotel_statements.specs.Readable.{FirstColumnIs, IsKind, IsMoment, IsOfLocks};
 ghost use Rattle.hotel_statements.specs.Walks.{house_row_of, chain_row_of, behind_row_of, status_row_of};
-ghost use Rattle.hotel_statements.specs.Walks.{inside_row_of, free_row_of};
+ghost use Rattle.hotel_statements.specs.Walks.{inside_row_of, free_row_of, lock_row_of, moment_in};
 
-use super::{FromRow, bit, code, counted, day, guest, kind_code, maybe_counted, small_integer};
-use crate::walks::Counts;
-use hotel_core::{
-    BehindRow, ChainRow, CodeState, FreeRow, HouseRow, InsideRow, StatusRow, free_row,
+use super::{
+    FromRow, bit, code, counted, day, guest, kind_code, maybe_counted, maybe_integer, small_integer,
 };
-use hotel_nights::{Day, Nights};
-use keycard_rules::LookFault;
+use crate::walks::Counts;
+use hotel_books::free_row;
+use hotel_model::{
+    BehindRow, ChainRow, CodeState, FreeRow, HouseRow, InsideRow, LockRow, StatusRow,
+};
+use hotel_nights::{Day, Moment, Nights};
+use hotel_rows::values;
+use keycard_rules::{Count, LookFault};
 use sqlite::Row;
 use std::alloc::Global;
 
@@ -160,6 +164,48 @@ impl FromRow for InsideRow {
             room: counted(row, 0)?,
             card: counted(row, 1)?,
             party: counted(row, 2)?,
+        })
+    }
+}
+
+/// When the last note of a room was taken, where it has one.
+fn moment(row: &Row) -> Result<Option<Moment>, LookFault>
+    ensures reads { IfOk result (λ at. at ≡ moment_in row.now) }
+    ensures unread { IfErr result (λ why. why ≢ LookFault.Memory → 6 ≤ length row.now
+        → ¬ IsMoment (column row.now 4) (column row.now 5)) }
+{
+    let Some(n) = maybe_integer(row, 4)? else {
+        return Ok(None);
+    };
+    let day = values::day(n)?;
+    let second = small_integer(row, 5)?;
+    match Moment::new(day, second) {
+        Some(moment) => Ok(Some(moment)),
+        None => Err(LookFault::Store),
+    }
+}
+
+impl FromRow for LockRow {
+    ghost of = { lock_row_of };
+
+    ghost is_readable = { IsOfLocks };
+
+    fn from_row(_: Global, row: &Row) -> Result<LockRow, LookFault> {
+        let room = counted(row, 0)?;
+        let fit = counted(row, 1)?;
+        let notes = small_integer(row, 2)?;
+        let before = small_integer(row, 3)?;
+        let noted = moment(row)?;
+        let count = notes.saturating_sub(before);
+        let at = match Count::new(count) {
+            Some(_) => noted,
+            None => None,
+        };
+        Ok(LockRow {
+            room,
+            fit,
+            count,
+            at,
         })
     }
 }

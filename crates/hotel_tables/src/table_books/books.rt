@@ -6,7 +6,8 @@ ghost use Rattle.hotel_tables.specs.{Applied.LeavesChange, StopLaws.change_after
 ghost use Rattle.hotel_tables.specs.Causes.{ChangeFails};
 
 use crate::table_books::TableBooks;
-use hotel_core::{Books, Change, FitRow, NextNumbers, RoomRow};
+use hotel_books::Books;
+use hotel_model::{Change, FitRow, NextNumbers, RoomRow};
 use hotel_nights::{Day, Guest, KindCode, Stay};
 use hotel_statements::look_ups;
 use keycard_rules::{Card, CardNo, Code, Count, FitNo, LockNote, LookFault, PartyNo, RoomNo};

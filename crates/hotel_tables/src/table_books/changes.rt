@@ -12,7 +12,7 @@ ghost use Rattle.hotel_tables.specs.Causes.{ChangingFails};
 use crate::apply::apply_change;
 use crate::counted::{count_added, count_ended, count_room, ended_by, uncount_added};
 use crate::table_books::TableBooks;
-use hotel_core::Change;
+use hotel_model::Change;
 use keycard_rules::LookFault;
 use sqlite::Alter;
 

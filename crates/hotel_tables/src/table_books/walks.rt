@@ -2,11 +2,11 @@
 ghost use Rattle.std.specs.Prelude.{◌≡◌, None, IsTrue};
 ghost use Rattle.sqlite.specs.Held.{state};
 ghost use Rattle.sqlite.specs.State.{HasCleanDisk};
-ghost use Rattle.hotel_core.specs.Books.Walks.{failure_of};
+ghost use Rattle.hotel_books.specs.Books.Walks.{failure_of};
 ghost use Rattle.hotel_tables.specs.TableBooks.{HandsOn};
 
 use crate::table_books::TableBooks;
-use hotel_core::{Sink, WalkFault, Walks, WalksOf};
+use hotel_books::{Sink, WalkFault, Walks, WalksOf};
 use hotel_statements::walks::{Counts, WalkedOverTables};
 use keycard_rules::LookFault;
 use sqlite::Alter;

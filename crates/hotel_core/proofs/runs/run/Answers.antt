@@ -1,5 +1,6 @@
 use Rattle.std.proofs.Common.{◌≡◌, ◌+◌, take, length, zip, ◌++◌, ◌∷◌, [], sym, ap, ◌∙◌, arith}
-use Rattle.hotel_core.proofs.{Names.take_more, OfCode.Happens.zip-push}
+use Rattle.hotel_books.proofs.Names.{take_more}
+use Rattle.hotel_core.proofs.OfCode.Happens.{zip-push}
 use Rattle.std.proofs.lemmas.List.{take_all, length-take-le}
 use Rattle.keycard_rules.proofs.CallsTogether.{passes_push}
 use Rattle.hotel_core.specs.Books.Stepped.{Stepped}

@@ -1,9 +1,10 @@
 use Rattle.hotel_model.specs.declared.command.Command.TheVariants as command
 use Rattle.hotel_core.proofs.{OfCode.FailuresCounted.step_leaves, OfCode.Happened.step_happened}
-use Rattle.hotel_core.proofs.{OfCode.Happened.step_stops}
+use Rattle.hotel_core.proofs.OfCode.Happened.{step_stops}
 use Rattle.std.proofs.Common.{[]}
 use Rattle.rand_core.specs.Stream.{Stream}
-use Rattle.hotel_core.proofs.{Names.false≢true, OfCode.NoteReplies.taken_reply}
+use Rattle.hotel_books.proofs.Names.{false≢true}
+use Rattle.hotel_core.proofs.OfCode.NoteReplies.{taken_reply}
 use Rattle.hotel_core.proofs.steps.report.Goals as goal
 
 -- any source will do

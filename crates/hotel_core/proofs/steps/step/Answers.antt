@@ -1,5 +1,5 @@
 use Rattle.hotel_core.proofs.{OfCode.FailuresCounted.step_leaves, OfCode.Counting.untold}
-use Rattle.hotel_core.proofs.{OfCode.Happened.step_happened, OfCode.Happened.step_stops}
+use Rattle.hotel_core.proofs.OfCode.Happened.{step_happened, step_stops}
 use Rattle.hotel_core.proofs.steps.step.Goals as goal
 
 pub returns : goal.returns

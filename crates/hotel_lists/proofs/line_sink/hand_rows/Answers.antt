@@ -1,6 +1,6 @@
 use Rattle.std.proofs.Common.{◌∷◌, ◌+◌, ap, drop, sym, ◌∙◌}
 use Rattle.std.proofs.lemmas.List.{drop_more}
-use Rattle.hotel_core.proofs.OfCode.Walking.{as_rest, one_more}
+use Rattle.hotel_books.proofs.OfCode.Walking.{as_rest, one_more}
 use Rattle.hotel_lists.proofs.line_sink.hand_rows.Goals as goal
 
 pub loop-row-preserved : goal.loop-row-preserved

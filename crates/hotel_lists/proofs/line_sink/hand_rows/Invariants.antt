@@ -1,5 +1,5 @@
 use Rattle.std.specs.Prelude.{drop}
-use Rattle.hotel_core.proofs.OfCode.Walking.{SoFar}
+use Rattle.hotel_books.proofs.OfCode.Walking.{SoFar}
 use Rattle.hotel_lists.proofs.line_sink.hand_rows.Given as goal
 
 abbrev pub invariant-loop-row : goal.invariant-loop-row

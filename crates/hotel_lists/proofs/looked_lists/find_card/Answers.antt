@@ -1,5 +1,5 @@
 use Rattle.std.proofs.Common.{◌≡◌, [], ◌∷◌, Some, None, Ok, Err, ap, rules, sym, ◌∙◌}
-use Rattle.hotel_core.proofs.Names.{Rows}
+use Rattle.hotel_books.proofs.Names.{Rows}
 use Rattle.hotel_model.specs.Refinement.Lookups.{stay_at}
 use Rattle.keycard_rules.specs.Leaves.{told_by}
 use Rattle.hotel_lists.specs.Faults.{list_fault}

@@ -1,5 +1,5 @@
 use Rattle.std.proofs.Common.{◌≡◌, ℕ, [], ◌∷◌, Option, Some, None, Ok, Err, ap, refl, rules, ◌∙◌}
-use Rattle.hotel_core.proofs.Names.{said_of}
+use Rattle.hotel_books.proofs.Names.{said_of}
 use Rattle.keycard_rules.specs.Leaves.{told_by}
 use Rattle.hotel_lists.specs.Faults.{list_fault}
 use Rattle.hotel_lists.specs.LookedLists.{one_or_none}

@@ -1,5 +1,5 @@
 use Rattle.std.proofs.Common.{[], ◌++◌, Some, Bool, subst, sym}
-use Rattle.hotel_core.proofs.Names.{Rows}
+use Rattle.hotel_books.proofs.Names.{Rows}
 use Rattle.keycard_rules.proofs.CallsTogether.{passes_join, together}
 use Rattle.hotel_lists.specs.Listings.{ListEnds, listing, of_room}
 use Rattle.hotel_lists.proofs.ToldLemmas.{answered_clean, room_there, told_both}

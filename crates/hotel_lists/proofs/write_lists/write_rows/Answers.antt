@@ -1,5 +1,5 @@
 use Rattle.std.proofs.Common.{Err, [], ◌∷◌, refl, rules, sym, ◌∙◌}
-use Rattle.hotel_core.proofs.Names.{failure_of}
+use Rattle.hotel_books.proofs.Names.{failure_of}
 use Rattle.hotel_lists.specs.declared.fault.ListFault.TheVariants.{Write}
 use Rattle.hotel_streams.proofs.CallsLemmas.{then_none_forgotten}
 use Rattle.hotel_lists.proofs.LinesWritten.{Ends, cut_ends, prefix_of_first, list_ended, list_written, walk_told}

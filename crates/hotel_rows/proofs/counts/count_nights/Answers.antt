@@ -1,7 +1,7 @@
 use Rattle.std.proofs.Common.{◌≡◌, ◌∙◌, ◌<◌, ◌^◌, ap, length, take, map, arith, rules, get_or}
 use Rattle.std.proofs.lemmas.List.{length-map, length-take}
-use Rattle.hotel_core.specs.NightIndex.{counted}
-use Rattle.hotel_core.proofs.OfNights.NightsStanding.{none_stand, counts_fit}
+use Rattle.hotel_books.specs.NightIndex.{counted}
+use Rattle.hotel_books.proofs.OfNights.NightsStanding.{none_stand, counts_fit}
 use Rattle.hotel_rows.specs.Stored.{stay_entry, stay_row}
 use Rattle.hotel_rows.proofs.OfCounts.{more_stays}
 use Rattle.hotel_rows.proofs.counts.count_nights.Goals as goal

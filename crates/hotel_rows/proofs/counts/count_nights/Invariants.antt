@@ -1,6 +1,6 @@
 use Rattle.std.proofs.Common.{take, map}
 use Rattle.std.specs.Map.{values_of}
-use Rattle.hotel_core.specs.NightIndex.{CountsNights}
+use Rattle.hotel_books.specs.NightIndex.{CountsNights}
 use Rattle.hotel_rows.specs.Stored.{stay_entry}
 use Rattle.hotel_rows.proofs.counts.count_nights.Given as goal
 

@@ -1,6 +1,6 @@
 use Rattle.std.proofs.Common.{◌≡◌, List, ℕ, take}
 use Rattle.std.specs.List.{count_by}
-use Rattle.hotel_core.specs.KindRooms.{rooms_in}
+use Rattle.hotel_books.specs.KindRooms.{rooms_in}
 use Rattle.hotel_rows.specs.RowTests.{is_room_of_kind}
 use Rattle.hotel_rows.specs.Counts.{KnowsKinds}
 use Rattle.hotel_rows.proofs.counts.count_rooms.Given as goal

@@ -1,7 +1,7 @@
 use Rattle.std.proofs.Common.{rules, ◌≡◌, ◌∙◌, ◌<◌, true, length, get_or, subst}
-use Rattle.hotel_core.specs.KindRooms.{is_there}
+use Rattle.hotel_books.specs.KindRooms.{is_there}
 use Rattle.hotel_rows.specs.Stored.{kind_text}
-use Rattle.hotel_core.proofs.OfNights.KindKeys.{known_there}
+use Rattle.hotel_books.proofs.OfNights.KindKeys.{known_there}
 use Rattle.hotel_rows.proofs.OfCounts.{one_more_known}
 use Rattle.hotel_rows.proofs.counts.name_kinds.Goals as goal
 

@@ -1,5 +1,5 @@
 use Rattle.std.proofs.Common.{◌≡◌, List, ℕ, take}
-use Rattle.hotel_core.specs.KindRooms.{rooms_in}
+use Rattle.hotel_books.specs.KindRooms.{rooms_in}
 use Rattle.hotel_rows.specs.Counts.{KnowsKinds}
 use Rattle.hotel_rows.proofs.counts.name_kinds.Given as goal
 

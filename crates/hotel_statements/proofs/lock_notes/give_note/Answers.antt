@@ -1,7 +1,7 @@
 use Rattle.std.proofs.Common.{[], ◌∷◌, subst}
 use Rattle.hotel_statements.specs.Statements.{WritesBy, sets_noted}
-use Rattle.hotel_core.specs.Refinement.Finds.{AnyRows}
-use Rattle.hotel_core.proofs.OfCode.NoteFields.{room_is}
+use Rattle.hotel_books.specs.Refinement.Finds.{AnyRows}
+use Rattle.hotel_books.proofs.OfCode.NoteFields.{room_is}
 use Rattle.hotel_statements.specs.Steps.{room_noted}
 use Rattle.hotel_statements.proofs.InTurn.{writes_then, writes_stopped}
 use Rattle.hotel_statements.proofs.lock_notes.give_note.Goals as goal

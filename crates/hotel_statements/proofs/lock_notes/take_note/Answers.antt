@@ -3,11 +3,11 @@ use Rattle.hotel_model.specs.Refinement.Change.{made}
 use Rattle.hotel_model.specs.declared.change.Change.TheVariants as change
 use Rattle.hotel_model.specs.declared.change.InsideMove.TheVariants.{Same, Goes, Comes}
 use Rattle.hotel_statements.specs.Statements.{WritesBy, takes_note, removes_inside, adds_inside}
-use Rattle.hotel_core.specs.Refinement.Finds.{AnyRows}
+use Rattle.hotel_books.specs.Refinement.Finds.{AnyRows}
 use Rattle.hotel_statements.specs.Steps.{IsNumbered, inside_gone, inside_added}
 use Rattle.hotel_statements.proofs.InTurn.{writes_then, writes_stopped, writes_as}
 use Rattle.hotel_statements.proofs.Made.Rooms.{note_is}
-use Rattle.hotel_core.proofs.OfCode.NoteFields.{room_is}
+use Rattle.hotel_books.proofs.OfCode.NoteFields.{room_is}
 use Rattle.hotel_statements.proofs.lock_notes.take_note.Goals as goal
 
 pub returns-in_err-give_note-in-Goes-clause-makes : goal.returns-in_err-give_note-in-Goes-clause-makes

@@ -1,6 +1,6 @@
 use Rattle.std.proofs.Common.{[], ◌∷◌, ap, refl}
 use Rattle.keycard_rules.specs.Note.{Note}
-use Rattle.hotel_core.proofs.OfCode.NoteFields.{act_is, room_is}
+use Rattle.hotel_books.proofs.OfCode.NoteFields.{act_is, room_is}
 use Rattle.hotel_statements.specs.Values.{int, maybe_int}
 use Rattle.hotel_statements.specs.Columns.{act_number, act_card, act_first, act_second}
 use Rattle.hotel_statements.proofs.InTurn.{writes_row}

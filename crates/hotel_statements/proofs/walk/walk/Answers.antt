@@ -1,7 +1,7 @@
 use Rattle.std.proofs.Common.{◌≡◌, ◌∙◌, ap, refl, Err, Some, arith, rules}
 use Rattle.sqlite.specs.Held.{state}
 use Rattle.sqlite.specs.Values.{bound}
-use Rattle.hotel_core.specs.declared.books.walks.WalkFault.TheVariants as why
+use Rattle.hotel_books.specs.declared.books.walks.WalkFault.TheVariants as why
 use Rattle.hotel_statements.specs.Walks.{HandsOne, WalkFails, WalksRows}
 use Rattle.hotel_statements.proofs.Walked.{starts, refused, goes_on, left, ended, broken_off, cut}
 use Rattle.hotel_statements.proofs.walk.walk.Goals as goal

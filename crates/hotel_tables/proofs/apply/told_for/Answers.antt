@@ -1,6 +1,6 @@
 use Rattle.std.proofs.Common.{sym, subst}
 use Rattle.sqlite.specs.Held.{state}
-use Rattle.hotel_core.proofs.Names.{Note}
+use Rattle.hotel_books.proofs.Names.{Note}
 use Rattle.hotel_statements.specs.LookUps.{HasCause}
 use Rattle.hotel_statements.specs.Failures.{FitFails}
 use Rattle.hotel_tables.specs.Causes.{ToldFails}

@@ -5,8 +5,8 @@ use Rattle.std.specs.BTreeSet.{insert_key}
 use Rattle.std.specs.Map.{keys_of}
 use Rattle.keycard_rules.specs.declared.chain.Memory.{Memory}
 use Rattle.hotel_model.specs.declared.change.Change.{Change}
-use Rattle.hotel_core.specs.KindRooms.{is_there}
-use Rattle.hotel_core.proofs.OfNights.KindKeys.{known_there}
+use Rattle.hotel_books.specs.KindRooms.{is_there}
+use Rattle.hotel_books.proofs.OfNights.KindKeys.{known_there}
 use Rattle.hotel_tables.specs.Counted.{HasItsKind}
 use Rattle.hotel_tables.proofs.counted.count_added.Goals as goal
 

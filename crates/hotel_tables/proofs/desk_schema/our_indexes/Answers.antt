@@ -3,8 +3,10 @@ use Rattle.std.proofs.lemmas.Bool.Decides.{nat_tests}
 use Rattle.hotel_statements.specs.SameSchema.{same_prefix}
 use Rattle.hotel_tables.proofs.MemoryDesk.{prefix_is_nine, nine_is_taken, nine_has}
 use Rattle.hotel_tables.proofs.desk_schema.our_indexes.Goals as goal
-use Rattle.hotel_tables.proofs.desk_schema.our_indexes.Goals.{then-indexes-lt-KEYS-via-then-indexes-lt-KEYS}
-use Rattle.hotel_tables.proofs.desk_schema.our_indexes.Goals.{then-indexes-lt-KEYS-via-else-indexes-lt-KEYS+then-indexes}
+use Rattle.hotel_tables.proofs.desk_schema.our_indexes.Goals.{
+  then-indexes-lt-KEYS-via-then-indexes-lt-KEYS,
+  then-indexes-lt-KEYS-via-else-indexes-lt-KEYS+then-indexes,
+}
 
 pub returns-then-indexes-lt-KEYS-clause-none : goal.returns-then-indexes-lt-KEYS-clause-none
 returns-then-indexes-lt-KEYS-clause-none g c = λ _ count is.

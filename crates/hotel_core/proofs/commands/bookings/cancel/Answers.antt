@@ -1,6 +1,7 @@
 use Rattle.std.proofs.Common.{◌≡◌, true, false, refl, []}
-use Rattle.hotel_core.proofs.{Names.outcome_on, Names.is_booked_state, OfCode.Parts.begun, OfCode.Parts.then_found}
-use Rattle.hotel_core.proofs.{OfCode.Parts.stopped, OfCode.Parts.refuses, OfCode.Parts.ends}
+use Rattle.hotel_books.proofs.Names.{outcome_on, is_booked_state}
+use Rattle.hotel_core.proofs.OfCode.Parts.{begun, then_found}
+use Rattle.hotel_core.proofs.OfCode.Parts.{stopped, refuses, ends}
 use Rattle.hotel_model.specs.declared.reply.Refusal.TheVariants as refusal
 use Rattle.hotel_core.proofs.OfCode.AnswerParts.{answers}
 use Rattle.hotel_model.specs.declared.command.Command.TheVariants as command

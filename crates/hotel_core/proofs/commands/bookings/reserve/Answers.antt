@@ -1,11 +1,11 @@
 use Rattle.std.proofs.Common.{ℕ, ◌≡◌, true, false, None, List, refl, sym, ap, ◌∙◌, arith, nat_lt, ◌+◌, ◌-◌, []}
-use Rattle.hotel_core.proofs.{Names.outcome_on, Names.nat_tests, Names.Change, Names.Outcome, Names.accepted}
-use Rattle.hotel_core.proofs.{OfTables.DayNumbers.is_day, OfTables.DayNumbers.no_day}
+use Rattle.hotel_books.proofs.Names.{outcome_on, nat_tests, Change, Outcome, accepted}
+use Rattle.hotel_memory.proofs.OfTables.DayNumbers.{is_day, no_day}
 use Rattle.hotel_model.specs.declared.reply.Refusal.TheVariants as refusal
 use Rattle.hotel_model.specs.declared.reply.Reply.TheVariants as reply
 use Rattle.hotel_model.specs.declared.change.Change.TheVariants as change
-use Rattle.hotel_core.proofs.{OfCode.Parts.begun, OfCode.Parts.then_found, OfCode.Parts.stopped, OfCode.Parts.refuses}
-use Rattle.hotel_core.proofs.{OfCode.Parts.ends, OfCode.Parts.only, OfCode.Parts.number_is}
+use Rattle.hotel_core.proofs.OfCode.Parts.{begun, then_found, stopped, refuses}
+use Rattle.hotel_core.proofs.OfCode.Parts.{ends, only, number_is}
 use Rattle.hotel_nights.specs.declared.stay.StayState.TheVariants as state
 use Rattle.hotel_core.proofs.OfCode.AnswerParts.{answers}
 use Rattle.hotel_model.specs.declared.command.Command.TheVariants as command

@@ -1,5 +1,5 @@
 use Rattle.std.proofs.Common.{◌≡◌, true, false, refl, is_some, []}
-use Rattle.hotel_core.proofs.Names.{AlreadyBegun, outcome_on}
+use Rattle.hotel_books.proofs.Names.{AlreadyBegun, outcome_on}
 use Rattle.hotel_core.proofs.OfCode.Parts.{begun, then_found, stopped, refuses, ends, only}
 use Rattle.hotel_core.proofs.OfCode.AnswerParts.{answers}
 use Rattle.hotel_model.specs.declared.command.Command.TheVariants as command

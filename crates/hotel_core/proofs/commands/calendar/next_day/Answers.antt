@@ -1,9 +1,9 @@
 use Rattle.std.proofs.Common.{ℕ, ◌≡◌, true, false, nat_lt, ◌+◌, refl, arith, sym, ap, []}
-use Rattle.hotel_core.proofs.{Names.nat_tests, Names.LastDay, Names.accepted, Names.outcome_on}
-use Rattle.hotel_core.proofs.{OfTables.DayNumbers.is_day, OfTables.DayNumbers.no_day}
+use Rattle.hotel_books.proofs.Names.{nat_tests, LastDay, accepted, outcome_on}
+use Rattle.hotel_memory.proofs.OfTables.DayNumbers.{is_day, no_day}
 use Rattle.hotel_model.specs.declared.reply.Reply.TheVariants as reply
 use Rattle.hotel_model.specs.declared.change.Change.TheVariants as change
-use Rattle.hotel_core.proofs.{OfCode.Parts.begun, OfCode.Parts.then_found, OfCode.Parts.stopped, OfCode.Parts.refuses}
+use Rattle.hotel_core.proofs.OfCode.Parts.{begun, then_found, stopped, refuses}
 use Rattle.hotel_core.proofs.{OfCode.Parts.ends, OfCode.AnswerParts.answers}
 use Rattle.hotel_model.specs.declared.command.Command.TheVariants as command
 use Rattle.hotel_core.proofs.commands.calendar.next_day.Goals as goal

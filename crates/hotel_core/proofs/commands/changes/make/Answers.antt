@@ -1,4 +1,4 @@
-use Rattle.hotel_core.proofs.{OfCode.Parts.makes, OfCode.Parts.fails}
+use Rattle.hotel_core.proofs.OfCode.Parts.{makes, fails}
 use Rattle.hotel_model.proofs.RowsAfter.FitsAfter.{fits_after}
 use Rattle.hotel_core.proofs.commands.changes.make.Goals as goal
 

@@ -1,10 +1,10 @@
 use Rattle.std.proofs.Common.{◌≡◌, true, false, is_some, refl, sym, ◌∙◌}
-use Rattle.hotel_core.proofs.Names.{turn, IsUntaken, opened_on, refused}
+use Rattle.hotel_books.proofs.Names.{turn, IsUntaken, opened_on, refused}
 use Rattle.hotel_model.specs.declared.reply.Refusal.TheVariants as refusal
 use Rattle.hotel_core.proofs.OfCode.Parts.{given, then_found, at_now, halted, refuses, ends, bars_refuse, bars_pass}
 use Rattle.hotel_core.proofs.OfCode.CheckParts.{then_passed, refused_first, bars_of_card, has_link_now}
 use Rattle.hotel_core.proofs.OfCode.AnswerParts.{comes_now, comes_of}
-use Rattle.hotel_core.proofs.OfCode.NoteFields.{room_is}
+use Rattle.hotel_books.proofs.OfCode.NoteFields.{room_is}
 use Rattle.hotel_core.proofs.commands.entries.enter.Goals as goal
 
 pub returns-in_err-noted_card : goal.returns-in_err-noted_card

@@ -1,8 +1,8 @@
 use Rattle.std.proofs.Common.{ℕ, ◌≡◌, true, refl}
-use Rattle.hotel_core.proofs.Names.{Link, Note, RoomRow, Rows, IsUntaken, has_link_on}
+use Rattle.hotel_books.proofs.Names.{Link, Note, RoomRow, Rows, IsUntaken, has_link_on}
 use Rattle.hotel_core.proofs.OfCode.Parts.{given, then_found, stopped, halted, ends, only}
 use Rattle.hotel_core.proofs.{OfCode.NoteParts.link_is_there, OfCode.AnswerParts.answers, OfCode.AnswerParts.comes_of}
-use Rattle.hotel_core.proofs.OfCode.NoteFields.{room_is}
+use Rattle.hotel_books.proofs.OfCode.NoteFields.{room_is}
 use Rattle.hotel_core.proofs.commands.entries.open.Goals as goal
 
 abbrev Known : Note → RoomRow → ℕ → Link → Rows → Type 0

@@ -1,10 +1,10 @@
 use Rattle.std.proofs.Common.{refl, ◌∙◌}
-use Rattle.hotel_core.proofs.Names.{IsUntaken, refused}
+use Rattle.hotel_books.proofs.Names.{IsUntaken, refused}
 use Rattle.hotel_model.specs.declared.reply.Refusal.TheVariants as refusal
 use Rattle.hotel_core.proofs.OfCode.Parts.{given, then_found, stopped, refuses, ends, only, bars_refuse, bars_pass}
 use Rattle.hotel_core.proofs.OfCode.CheckParts.{then_passed, refused_first, bars_of_card}
 use Rattle.hotel_core.proofs.OfCode.AnswerParts.{answers, comes_of}
-use Rattle.hotel_core.proofs.OfCode.NoteFields.{room_is}
+use Rattle.hotel_books.proofs.OfCode.NoteFields.{room_is}
 use Rattle.hotel_core.proofs.commands.exits.leave.Goals as goal
 
 pub returns-in_err-noted_card : goal.returns-in_err-noted_card

@@ -1,6 +1,6 @@
 use Rattle.std.proofs.Common.{refl, None}
-use Rattle.hotel_core.proofs.{Names.outcome_on, Names.bars_to_check_in, Names.words, Names.issued_on}
-use Rattle.hotel_core.proofs.{OfCode.AnswerParts.comes_now}
+use Rattle.hotel_books.proofs.Names.{outcome_on, bars_to_check_in, words, issued_on}
+use Rattle.hotel_core.proofs.OfCode.AnswerParts.{comes_now}
 use Rattle.hotel_core.proofs.OfCode.Parts.{begun, then_found, at_now, stopped, barred, ends, bars_refuse, bars_pass}
 use Rattle.hotel_model.specs.declared.command.Command.TheVariants as command
 use Rattle.hotel_core.proofs.commands.guest_moves.check_in.Goals as goal

@@ -1,5 +1,5 @@
 use Rattle.std.proofs.Common.{◌≡◌, Some, None, refl, []}
-use Rattle.hotel_core.proofs.Names.{room_of_state, outcome_on}
+use Rattle.hotel_books.proofs.Names.{room_of_state, outcome_on}
 use Rattle.hotel_model.specs.declared.reply.Refusal.TheVariants as refusal
 use Rattle.hotel_core.proofs.OfCode.Parts.{begun, then_found, stopped, halted, refuses, ends}
 use Rattle.hotel_core.proofs.OfCode.AnswerParts.{answers}

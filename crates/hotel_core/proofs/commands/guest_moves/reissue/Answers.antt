@@ -1,6 +1,6 @@
 use Rattle.std.proofs.Common.{◌≡◌, Some, None, refl}
-use Rattle.hotel_core.proofs.{Names.room_of_state, Names.outcome_on, Names.words, Names.issued_on}
-use Rattle.hotel_core.proofs.{OfCode.AnswerParts.comes_now}
+use Rattle.hotel_books.proofs.Names.{room_of_state, outcome_on, words, issued_on}
+use Rattle.hotel_core.proofs.OfCode.AnswerParts.{comes_now}
 use Rattle.hotel_model.specs.declared.reply.Refusal.TheVariants as refusal
 use Rattle.hotel_core.proofs.OfCode.Parts.{begun, then_found, at_now, stopped, halted, refuses, ends}
 use Rattle.hotel_model.specs.declared.command.Command.TheVariants as command

@@ -1,6 +1,7 @@
 use Rattle.std.proofs.Common.{◌≡◌, Some, None, refl}
-use Rattle.hotel_core.proofs.{Names.room_of_state, Names.outcome_on, Names.bars_to_transfer, Names.words}
-use Rattle.hotel_core.proofs.{Names.issued_on, OfCode.AnswerParts.comes_now}
+use Rattle.hotel_books.proofs.Names.{room_of_state, outcome_on, bars_to_transfer, words}
+use Rattle.hotel_books.proofs.Names.{issued_on}
+use Rattle.hotel_core.proofs.OfCode.AnswerParts.{comes_now}
 use Rattle.hotel_model.specs.declared.reply.Refusal.TheVariants as refusal
 use Rattle.hotel_core.proofs.OfCode.Parts.{begun, then_found, at_now, stopped, refuses, barred, ends, bars_refuse}
 use Rattle.hotel_core.proofs.OfCode.Parts.{bars_pass}

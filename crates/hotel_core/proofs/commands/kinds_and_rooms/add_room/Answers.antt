@@ -1,5 +1,5 @@
 use Rattle.std.proofs.Common.{◌≡◌, true, false, is_some, refl}
-use Rattle.hotel_core.proofs.Names.{NoKind, RoomExists, outcome_on, words}
+use Rattle.hotel_books.proofs.Names.{NoKind, RoomExists, outcome_on, words}
 use Rattle.hotel_model.specs.declared.reply.Reply.TheVariants as reply
 use Rattle.hotel_model.specs.declared.change.Change.TheVariants as change
 use Rattle.hotel_core.proofs.OfCode.Parts.{begun, then_found, stopped, refuses, only}

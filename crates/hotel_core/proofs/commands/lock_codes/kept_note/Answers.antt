@@ -1,8 +1,9 @@
 use Rattle.std.proofs.Common.{◌<◌, ◌-◌, ◌==◌, nat_lt, Some, None, refl, inl, ap, sym, ◌∙◌, arith}
-use Rattle.hotel_core.proofs.{Names.note_at, Names.since_refl, OfCode.LaterNotes.no_later_note}
+use Rattle.hotel_books.proofs.Names.{note_at, since_refl}
+use Rattle.hotel_core.proofs.OfCode.LaterNotes.{no_later_note}
 use Rattle.hotel_core.proofs.{OfCode.Counting.none_more, OfCode.LookUps.knows}
 use Rattle.hotel_model.proofs.{OfTables.Tests.and_true, OfTables.Tests.eq_from, OfTables.Tests.lt_from}
-use Rattle.hotel_core.proofs.OfCode.NoteFields.{count_is, fit_is, room_is}
+use Rattle.hotel_books.proofs.OfCode.NoteFields.{count_is, fit_is, room_is}
 use Rattle.hotel_core.proofs.commands.lock_codes.kept_note.Goals as goal
 
 pub returns-then-is_past : goal.returns-then-is_past

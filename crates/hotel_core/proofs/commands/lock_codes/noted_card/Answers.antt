@@ -1,5 +1,5 @@
 use Rattle.std.proofs.Common.{◌≡◌, true, false, refl, sym, ◌∙◌}
-use Rattle.hotel_core.proofs.Names.{same_link}
+use Rattle.hotel_books.proofs.Names.{same_link}
 use Rattle.hotel_core.proofs.OfCode.CheckParts.{refused_unfound, refused_found, passed_found}
 use Rattle.hotel_core.proofs.commands.lock_codes.noted_card.Goals as goal
 

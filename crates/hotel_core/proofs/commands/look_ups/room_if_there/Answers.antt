@@ -1,4 +1,4 @@
-use Rattle.hotel_core.proofs.Names.{room_at}
+use Rattle.hotel_books.proofs.Names.{room_at}
 use Rattle.hotel_core.proofs.OfCode.LookUps.{knows}
 use Rattle.hotel_core.proofs.commands.look_ups.room_if_there.Goals as goal
 

@@ -1,5 +1,5 @@
 use Rattle.std.proofs.Common.{refl}
-use Rattle.hotel_core.proofs.Names.{room_at}
+use Rattle.hotel_books.proofs.Names.{room_at}
 use Rattle.hotel_core.proofs.OfCode.LookUps.{finds_there}
 use Rattle.hotel_core.proofs.commands.look_ups.room_there.Goals as goal
 

@@ -1,8 +1,8 @@
 use Rattle.std.proofs.Common.{◌∙◌, sym}
-use Rattle.hotel_core.proofs.Names.{IsUntaken}
-use Rattle.hotel_core.proofs.{OfCode.Parts.given, OfCode.Parts.ends}
+use Rattle.hotel_books.proofs.Names.{IsUntaken}
+use Rattle.hotel_core.proofs.OfCode.Parts.{given, ends}
 use Rattle.hotel_core.proofs.{OfCode.NoteParts.next_told, OfCode.AnswerParts.comes_of}
-use Rattle.hotel_core.proofs.OfCode.NoteFields.{act_is}
+use Rattle.hotel_books.proofs.OfCode.NoteFields.{act_is}
 use Rattle.hotel_core.proofs.commands.notes.take_next.Goals as goal
 
 pub enter-requires-clause-outcome : goal.enter-requires-clause-outcome

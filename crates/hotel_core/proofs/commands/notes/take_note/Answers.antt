@@ -1,14 +1,14 @@
 use Rattle.std.proofs.Common.{Some, None, refl, sym, ap, ◌∙◌, [], arith, if◌then◌else◌}
-use Rattle.hotel_core.proofs.Names.{outcome_on, reported_on, said, refused}
+use Rattle.hotel_books.proofs.Names.{outcome_on, reported_on, said, refused}
 use Rattle.hotel_model.specs.declared.reply.Refusal.TheVariants as refusal
 use Rattle.hotel_model.specs.declared.reply.Reply.TheVariants as reply
 use Rattle.hotel_core.proofs.OfCode.Parts.{begun, at_now, then_found, stopped}
 use Rattle.hotel_core.proofs.OfCode.Parts.{refuses, ends, only}
-use Rattle.hotel_core.proofs.{OfCode.NoteParts.reported_there, OfCode.NoteParts.later_there, OfCode.NoteParts.says}
-use Rattle.hotel_core.proofs.{OfCode.NoteParts.not_next}
-use Rattle.hotel_core.proofs.{OfCode.AnswerParts.comes_now}
+use Rattle.hotel_core.proofs.OfCode.NoteParts.{reported_there, later_there, says}
+use Rattle.hotel_core.proofs.OfCode.NoteParts.{not_next}
+use Rattle.hotel_core.proofs.OfCode.AnswerParts.{comes_now}
 use Rattle.hotel_model.specs.declared.command.Command.TheVariants as command
-use Rattle.hotel_core.proofs.OfCode.NoteFields.{room_is}
+use Rattle.hotel_books.proofs.OfCode.NoteFields.{room_is}
 use Rattle.hotel_core.proofs.commands.notes.take_note.Goals as goal
 
 pub returns-in_err-today : goal.returns-in_err-today

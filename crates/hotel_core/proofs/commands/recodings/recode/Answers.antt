@@ -1,10 +1,10 @@
 use Rattle.std.proofs.Common.{◌≡◌, ◌==◌, ◌&&◌, true, false, nat_lt, refl, sym, ◌∙◌}
-use Rattle.hotel_core.proofs.Names.{IsUntaken, refused}
+use Rattle.hotel_books.proofs.Names.{IsUntaken, refused}
 use Rattle.hotel_model.specs.declared.reply.Refusal.TheVariants as refusal
 use Rattle.hotel_core.proofs.OfCode.Parts.{given, then_found, stopped, halted, refuses, ends}
 use Rattle.hotel_model.proofs.OfTables.Tests.{not_true}
 use Rattle.hotel_core.proofs.{OfCode.NoteParts.not_false, OfCode.AnswerParts.answers, OfCode.AnswerParts.comes_of}
-use Rattle.hotel_core.proofs.OfCode.NoteFields.{room_is}
+use Rattle.hotel_books.proofs.OfCode.NoteFields.{room_is}
 use Rattle.hotel_core.proofs.commands.recodings.recode.Goals as goal
 
 pub returns-in_err-held : goal.returns-in_err-held

@@ -1,10 +1,10 @@
 use Rattle.std.proofs.Common.{◌≡◌, true, false, nat_le, is_some, refl, ap}
-use Rattle.hotel_core.proofs.Names.{RoomTaken, FitsUsedUp, outcome_on, words, draw_from, codes_in, by_draw}
+use Rattle.hotel_books.proofs.Names.{RoomTaken, FitsUsedUp, outcome_on, words, draw_from, codes_in, by_draw}
 use Rattle.hotel_model.specs.declared.reply.Reply.TheVariants as reply
 use Rattle.hotel_model.specs.declared.change.Change.TheVariants as change
 use Rattle.hotel_core.proofs.OfCode.Parts.{begun, then_found, stopped, refuses}
 use Rattle.hotel_core.proofs.{OfCode.DrawParts.undrawn, OfCode.DrawParts.drawn_ends, OfCode.AnswerParts.drawn_answers}
-use Rattle.hotel_core.proofs.{OfCode.FitParts.used_up, OfCode.FitParts.is_left}
+use Rattle.hotel_core.proofs.OfCode.FitParts.{used_up, is_left}
 use Rattle.hotel_model.specs.declared.command.Command.TheVariants as command
 use Rattle.hotel_core.proofs.commands.refits.refit.Goals as goal
 

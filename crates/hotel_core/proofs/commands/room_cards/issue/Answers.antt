@@ -1,10 +1,11 @@
 use Rattle.std.proofs.Common.{ℕ, ◌≡◌, Some, refl}
-use Rattle.hotel_core.proofs.{Names.outcome_on, Names.Link, Names.card_of, Names.room_at, OfCode.Parts.then_found}
-use Rattle.hotel_core.proofs.{OfCode.Parts.stopped, OfCode.Parts.halted}
+use Rattle.hotel_books.proofs.Names.{outcome_on, Link, card_of, room_at}
+use Rattle.hotel_core.proofs.OfCode.Parts.{then_found}
+use Rattle.hotel_core.proofs.OfCode.Parts.{stopped, halted}
 use Rattle.hotel_model.specs.declared.reply.Reply.TheVariants as reply
 use Rattle.hotel_model.specs.declared.change.Change.TheVariants as change
 use Rattle.hotel_core.proofs.{OfCode.Parts.given, OfCode.Parts.number_is, OfCode.DrawParts.undrawn}
-use Rattle.hotel_core.proofs.{OfCode.DrawParts.drawn_ends}
+use Rattle.hotel_core.proofs.OfCode.DrawParts.{drawn_ends}
 use Rattle.hotel_core.proofs.OfCode.AnswerParts.{comes_of, drawn_answers}
 use Rattle.hotel_core.proofs.commands.room_cards.issue.Goals as goal
 

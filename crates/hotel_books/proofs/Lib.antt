@@ -1,0 +1,4 @@
+pub mod Names
+pub mod OfTables
+pub mod OfNights
+pub mod OfCode

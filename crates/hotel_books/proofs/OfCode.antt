@@ -1,0 +1,3 @@
+-- What the walks of lists need.
+pub mod NoteFields
+pub mod Walking

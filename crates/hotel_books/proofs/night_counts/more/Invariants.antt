@@ -1,0 +1,12 @@
+use Rattle.std.proofs.Common.{◌≡◌, ℕ, ◌+◌, ◌-◌, ◌≤◌, ◌<◌, ◌^◌, ◌&&◌, nat_le, nat_lt, get_or}
+use Rattle.hotel_nights.specs.Block.{one_if}
+use Rattle.hotel_books.proofs.night_counts.more.Given as goal
+
+abbrev pub invariant-loop-place : goal.invariant-loop-place
+invariant-loop-place l = record {
+  order : l.from ≤ l.place;
+  short : l.place - l.from ≤ l.to - l.from;
+  counts : (j : ℕ) → get_or l.initial.counts j 0 < 2 ^ 64 - 1
+      → get_or l.counts j 0 ≡ get_or l.initial.counts j 0 + one_if (nat_le l.from j && nat_lt j l.place);
+  taken : (j : ℕ) → l.from ≤ j → j < l.place → 0 < get_or l.counts j 0;
+}

@@ -1,0 +1,14 @@
+use Rattle.std.proofs.Common.{◌≡◌, ℕ, ◌-◌, ◌≤◌, List}
+use Rattle.hotel_books.proofs.Names.{one_if, counted, spans}
+use Rattle.hotel_books.proofs.night_index.NightIndex.uncount.Given as goal
+
+abbrev pub invariant-loop-night : goal.invariant-loop-night
+invariant-loop-night l = record {
+  order : l.from ≤ l.night;
+  short : l.night - l.from ≤ l.to - l.from;
+  counts : (k : List ℕ) (d : ℕ)
+      → counted l.self k d ≡ counted l.initial.self k d - one_if (spans l.kind l.from l.night k d);
+}
+
+abbrev pub decreases-loop-night : goal.decreases-loop-night
+decreases-loop-night l = l.to - l.night

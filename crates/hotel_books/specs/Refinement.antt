@@ -1,0 +1,2 @@
+-- The code's own terms, over books.
+pub mod Finds

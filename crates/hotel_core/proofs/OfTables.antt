@@ -1,8 +1,0 @@
-pub mod RowsByPlace
-pub mod MapEntries
-pub mod RowsChanged
-pub mod LaterPlaces
-pub mod PlacedCodes
-pub mod DayNumbers
-pub mod CardsInside
-pub mod RoomNotes

@@ -1,9 +1,0 @@
-use Rattle.std.proofs.Common.{ap, ◌∙◌}
-use Rattle.std.specs.Map.{keys_of}
-use Rattle.keycard_rules.specs.Words.{is_one_of}
-use Rattle.hotel_core.proofs.OfTables.MapEntries.{known_key}
-use Rattle.hotel_core.proofs.memory.code_table.CodeTable.has.Goals as goal
-
-pub returns : goal.returns
-returns c = c.contains_key.ensures ∙ known_key c.self.inside.codes.entries c.args.code
-    ∙ ap (λ es. is_one_of c.args.code (keys_of es)) c.self.view_is

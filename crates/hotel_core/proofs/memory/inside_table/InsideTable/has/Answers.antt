@@ -1,7 +1,0 @@
-use Rattle.std.proofs.Common.{ap, ◌∙◌}
-use Rattle.hotel_core.proofs.{Names.is_one_of, Names.those_in, OfTables.CardsInside.known_inside}
-use Rattle.hotel_core.proofs.memory.inside_table.InsideTable.has.Goals as goal
-
-pub returns : goal.returns
-returns c = c.contains.ensures ∙ known_inside c.self.inside.pairs.keys c.args.room c.args.number
-    ∙ ap (λ pairs. is_one_of c.args.number (those_in pairs c.args.room)) c.self.view_is
