@@ -5,7 +5,7 @@ use Rattle.keycard_rules.specs.declared.kept.Kept.{Ghosts as KeptOf}
 use Rattle.hotel_model.specs.{Run.Runs, Run.Steps}
 use Rattle.hotel_model.specs.{declared.command.Command.Command, declared.reply.Reply.Reply}
 use Rattle.hotel_model.specs.declared.command.Command.TheVariants.{Reported}
-use Rattle.hotel_core.specs.declared.books.Books.{Ghosts as BooksOf}
+use Rattle.hotel_books.specs.declared.books.Books.{Ghosts as BooksOf}
 use Rattle.hotel_core.proofs.OfCode.Happens.{runs_follow}
 use Rattle.hotel_building.specs.Calls.{Houses, IfAccepted, MayRun}
 use Rattle.building_calls.specs.Calls.{CallsStay}

@@ -1,7 +1,7 @@
 -- The connections of a server, over books that stand in a building.
 use Rattle.rand_core.specs.Stream.{Stream}
 use Rattle.keycard_rules.specs.declared.kept.Kept.{Ghosts as KeptOf}
-use Rattle.hotel_core.specs.declared.books.Books.{Ghosts as BooksOf}
+use Rattle.hotel_books.specs.declared.books.Books.{Ghosts as BooksOf}
 use Rattle.hotel_http.specs.Serve.{served_in}
 use Rattle.hotel_http.specs.declared.origins.Origins.TheVariants.{Local}
 use Rattle.hotel_program.specs.declared.listener.Caller.{Ghosts as CallerOf}

@@ -1,7 +1,7 @@
 -- Calls over books that stand in a building, by what happened over them.
 use Rattle.std.proofs.Common.{◌≡◌, [], refl, ap, sym, ◌∙◌, subst}
 use Rattle.keycard_rules.specs.{declared.kept.Kept.Ghosts as KeptOf, Calls.Told}
-use Rattle.hotel_core.specs.declared.books.Books.{Ghosts as BooksOf}
+use Rattle.hotel_books.specs.declared.books.Books.{Ghosts as BooksOf}
 use Rattle.hotel_model.specs.{History.History, Rows.Rows, RowsOf.rows_of, Run.Reached}
 use Rattle.hotel_model.proofs.{Invariants.Assurance.assured, Starts.StartRows.rows_of_start}
 use Rattle.hotel_core.specs.Books.Happens.{Happens, HappensBy}

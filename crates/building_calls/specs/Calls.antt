@@ -4,7 +4,7 @@ use Rattle.rand_core.specs.Stream.{Stream}
 use Rattle.keycard_rules.specs.{Note.Note, declared.kept.Kept.Ghosts as KeptOf}
 use Rattle.hotel_model.specs.{declared.command.Command.Command, declared.reply.Reply.Reply, Run.Steps, Run.Runs}
 use Rattle.hotel_model.specs.declared.command.Command.TheVariants.{Reported}
-use Rattle.hotel_core.specs.declared.books.Books.{Ghosts as BooksOf}
+use Rattle.hotel_books.specs.declared.books.Books.{Ghosts as BooksOf}
 use Rattle.hotel_core.specs.Books.Stepped.{Noted, RunThrough, Stepped}
 use Rattle.hotel_building.specs.Calls.{Houses, IfAccepted, MayRun}
 use Rattle.building_calls.specs.Stands.{StaysIn}

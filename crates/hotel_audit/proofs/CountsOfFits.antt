@@ -2,9 +2,9 @@
 use Rattle.std.proofs.Common.{◌≡◌, ◌∙◌, ◌+◌, ◌-◌, ◌≤◌, ℕ, zero, suc, Bool, true, false, cond, List, [], ◌∷◌, Option}
 use Rattle.std.proofs.Common.{Some, None, length, drop, filter, map, refl, ap, sym, arith, ◌==◌, nat_le, slice_get}
 use Rattle.std.proofs.Common.{is_eq, Ordering, Equal}
-use Rattle.hotel_core.proofs.Names.{Note, Rows, History, Reached, fit_at, fits, fits_at, is_at, is_of_fit, is_room}
-use Rattle.hotel_core.proofs.Names.{list_all, lookup, note_at, note_numbered, notes_of, of_fit, pair_cmp}
-use Rattle.hotel_core.proofs.Names.{range_with_len, rows_of, said_of, count_up}
+use Rattle.hotel_books.proofs.Names.{Note, Rows, History, Reached, fit_at, fits, fits_at, is_at, is_of_fit, is_room}
+use Rattle.hotel_books.proofs.Names.{list_all, lookup, note_at, note_numbered, notes_of, of_fit, pair_cmp}
+use Rattle.hotel_books.proofs.Names.{range_with_len, rows_of, said_of, count_up}
 use Rattle.hotel_model.proofs.{OfTables.AtRoom.first_in, OfTables.AtRoom.found_at, OfTables.AtRoom.fits_are_picked}
 use Rattle.hotel_model.proofs.{OfTables.AtRoom.keys_at, OfTables.AtRoom.none_in, OfTables.Pairs.pair_exact}
 use Rattle.hotel_model.proofs.{OfTables.Tests.and_true, OfTables.Tests.eq_from}

@@ -1,6 +1,6 @@
 -- Files lead to the events of the notes that were taken, and the notes of each fit are counted.
 use Rattle.std.proofs.Common.{◌≡◌, ◌∙◌, false, List, [], ◌∷◌, ◌++◌, inl, inr, refl, ap, sym, subst, All}
-use Rattle.hotel_core.proofs.Names.{Stream, words, Note, Event, History, ◌▷◌, grown, IsReply, Reached, Runs, StepsIf}
+use Rattle.hotel_books.proofs.Names.{Stream, words, Note, Event, History, ◌▷◌, grown, IsReply, Reached, Runs, StepsIf}
 use Rattle.std.proofs.lemmas.List.Elements.{All-cons, All-nil}
 use Rattle.hotel_model.specs.declared.command.Command.TheVariants as command
 use Rattle.hotel_model.specs.declared.reply.Reply.{Reply}

@@ -3,9 +3,9 @@ use Rattle.std.proofs.Common.{◌≡◌, ◌∙◌, ◌<◌, ◌≤◌, ℕ, zer
 use Rattle.std.proofs.Common.{inr, length, drop, refl, ap, sym, subst, arith, length-append, eq-eqb, ◌==◌, ◌+◌, ◌-◌}
 use Rattle.std.proofs.lemmas.Bool.Decides.{nat_tests}
 use Rattle.std.proofs.lemmas.List.Elements.{filter-append}
-use Rattle.hotel_core.proofs.Names.{Stream, words, Note, answer_to, reported, is_begun, is_room, is_fit, present_fit}
-use Rattle.hotel_core.proofs.Names.{Event, note_of, History, ◌▷◌, notes, notes_of, same_note, standing, standing_among}
-use Rattle.hotel_core.proofs.Names.{with_note, Outcome, grown, needs, Runs, StepsIf, and_last, when}
+use Rattle.hotel_books.proofs.Names.{Stream, words, Note, answer_to, reported, is_begun, is_room, is_fit, present_fit}
+use Rattle.hotel_books.proofs.Names.{Event, note_of, History, ◌▷◌, notes, notes_of, same_note, standing, standing_among}
+use Rattle.hotel_books.proofs.Names.{with_note, Outcome, grown, needs, Runs, StepsIf, and_last, when}
 use Rattle.keycard_rules.specs.declared.note.Act.{Act}
 use Rattle.keycard_rules.specs.declared.note.Act.TheVariants as act
 use Rattle.hotel_model.specs.declared.command.Command.TheVariants as command

@@ -4,7 +4,7 @@ use Rattle.std.proofs.Common.{sym, refl, ap, append_assoc}
 use Rattle.std.specs.Prelude.{zip}
 use Rattle.std.proofs.lemmas.List.{take-append-drop}
 use Rattle.keycard_rules.specs.{declared.kept.Kept.Ghosts as KeptOf, Calls.Passes}
-use Rattle.hotel_core.specs.declared.books.Books.{Ghosts as BooksOf}
+use Rattle.hotel_books.specs.declared.books.Books.{Ghosts as BooksOf}
 use Rattle.keycard_rules.specs.declared.issued.LookFault.{LookFault}
 use Rattle.keycard_rules.specs.declared.issued.LookFault.TheVariants as look
 use Rattle.hotel_lock.specs.declared.audit_file.AuditFault.{AuditFault}

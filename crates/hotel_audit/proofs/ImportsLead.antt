@@ -4,14 +4,14 @@ use Rattle.std.proofs.Common.{subst}
 use Rattle.std.specs.Prelude.{zip}
 use Rattle.rand_core.specs.Stream.{Stream}
 use Rattle.keycard_rules.specs.{declared.kept.Kept.Ghosts as KeptOf, Leaves.Leaves, Calls.Passes}
-use Rattle.hotel_core.specs.declared.books.Books.{Ghosts as BooksOf}
+use Rattle.hotel_books.specs.declared.books.Books.{Ghosts as BooksOf}
 use Rattle.keycard_rules.specs.declared.issued.LookFault.{LookFault}
 use Rattle.keycard_rules.specs.declared.issued.LookFault.TheVariants as look
 use Rattle.keycard_rules.proofs.CallsTogether.{passes_join, together}
-use Rattle.hotel_core.proofs.Names.{Note, Reply, Runs, is_failed}
+use Rattle.hotel_books.proofs.Names.{Note, Reply, Runs, is_failed}
 use Rattle.hotel_core.proofs.OfCode.Counting.{untold}
 use Rattle.hotel_core.proofs.OfCode.{Happens.kept_by, StopsAfter.no_stops, StopsAfter.stops_once, StopsAfter.stops_then}
-use Rattle.hotel_core.specs.Books.Stops.{StopsThrough}
+use Rattle.hotel_books.specs.Books.Stops.{StopsThrough}
 use Rattle.hotel_core.specs.Books.{Happens.Happens, Stepped.Noted, Stepped.Stepped}
 use Rattle.hotel_model.proofs.Invariants.Assurance.{assured}
 use Rattle.hotel_model.specs.NoteReplies.{IsNoteReply}

@@ -1,17 +1,13 @@
 -- The list of a room's notes, sent as an audit file: it is read as these notes, and each is seen.
 use Rattle.std.proofs.Common.{◌≡◌, ◌∙◌, ◌+◌, ◌-◌, ◌<◌, ◌≤◌, ℕ, zero, suc, Bool, true, false, cond, List, [], ◌∷◌, ◌++◌}
-use Rattle.std.proofs.Common.{All, Ok, Err, length, drop, filter, map, refl, ap, sym, subst, arith, ◌==◌, ◌||◌}
-use Rattle.std.proofs.Common.{is_some, nat_lt, slice_index_or}
+use Rattle.std.proofs.Common.{All, Ok, Err, length, drop, filter, map, refl, ap, sym, subst, arith, ◌==◌}
+use Rattle.std.proofs.Common.{nat_lt, slice_index_or}
 use Rattle.std.proofs.lemmas.List.Elements.{All-cons, All-head, All-nil, All-tail, All-weaker}
-use Rattle.csv.proofs.OnLiterals.{csv_on_literals}
-use Rattle.hotel_core.proofs.Names.{History, Note, Reached, has_kind, is_begun, is_fit, is_room, list_any, notes}
-use Rattle.hotel_core.proofs.Names.{notes_at, notes_of, range_with_len, rows_of}
-use Rattle.hotel_model.specs.Stays.{day, kinds}
-use Rattle.hotel_model.specs.declared.rows.RoomRow.{RoomRow}
+use Rattle.hotel_books.proofs.Names.{History, Note, Reached, is_fit, is_room, notes}
+use Rattle.hotel_books.proofs.Names.{notes_at, notes_of, range_with_len, rows_of}
 use Rattle.hotel_model.proofs.{Lifted.LiftEasy.room_is_there, OfTables.NotesListed.notes_are_listed}
-use Rattle.hotel_model.proofs.OfTables.{RoomNumbers.room_there, RowTests.found_passes}
-use Rattle.hotel_model.proofs.OfTables.Tests.{eq_from, eq_self, not_both, not_lt_from}
-use Rattle.hotel_model.proofs.SoundRows.AllSound.{rows_sound}
+use Rattle.hotel_model.proofs.OfTables.Tests.{eq_self, not_both, not_lt_from}
+use Rattle.hotel_model.proofs.SoundRows.SoundKinds.{begun_with_room}
 use Rattle.hotel_lock.specs.NoteLine.{audit_header, note_line}
 use Rattle.hotel_lists.specs.Listings.{Listing}
 use Rattle.hotel_lists.specs.Listings.{in_full, listing, of_room}
@@ -22,7 +18,7 @@ use Rattle.hotel_lock.specs.declared.line.Line.{Line}
 use Rattle.hotel_lock.specs.declared.line.Line.TheVariants as line
 use Rattle.hotel_lock.specs.{ReadBack.IsNote, NoteLine.notes_text}
 use Rattle.hotel_audit.specs.ListSent.{ListIsSeen, ListReadsBack, list_text}
-use Rattle.hotel_lock.proofs.LogRead.{notes_read_back}
+use Rattle.hotel_lock.proofs.LogRead.{no_bytes, notes_read_back}
 use Rattle.hotel_audit.proofs.{CountsOfFits.notes_counted, NotesSound.IsOf}
 use Rattle.hotel_audit.proofs.{NotesKnown.BeginsWith, NotesKnown.Knows, NotesKnown.same_note_itself}
 use Rattle.hotel_audit.proofs.{NotesSound.notes_are_of, SentAgain.KnowsLines, SentAgain.knows_lines_along}
@@ -48,10 +44,6 @@ list_reads_back h room ok there few =
     let values = All-weaker (IsOf h room) IsNote (λ note is. is.values) (notes h room) (notes_are_of h ok room) in
     ap audit_lines same ∙ notes_read_back (notes h room) values (subst (λ text. length text ≤ AUDIT_BYTES) same few)
 
-no_bytes : audit_lines [] ≡ Err NoHeader
-unfolding csv_on_literals
-no_bytes = refl
-
 too_long : (text : List ℕ) (lines : List Line) → nat_lt AUDIT_BYTES (length text) ≡ true
     → audit_lines text ≡ Ok lines → ⊥
 too_long text lines long e = let t = rw long at e in cc t
@@ -73,21 +65,6 @@ lines_are h ok room lines e =
         cc read
 
 -- ---- each note of a room is known
-
--- a day is set where there is a room
-begun_by : (d : Bool) (ks : List (List ℕ)) (test : List ℕ → Bool) → list_any test ks ≡ true
-    → (d || (length ks == 0)) ≡ true → d ≡ true
-begun_by d [] test any e = not_both false any refl
-begun_by true (k ∷ ks) test any e = refl
-begun_by false (k ∷ ks) test any e = let none = eq_from (length (k ∷ ks)) 0 e in absurd (omega (arith, none))
-
-begun : (h : History) → Reached h → (room : ℕ) → is_room h room ≡ true → is_begun h ≡ true
-begun h ok room there =
-    let sound = rows_sound h ok in
-    let row = room_there h room there in
-    let kind = found_passes (λ (e : ℕ × RoomRow). has_kind (rows_of h) e.1.kind) (rows_of h).rooms room _
-    sound.room_kind row.2 in
-    begun_by (is_some (day h)) (kinds h) _ kind sound.meta_kinds
 
 -- notes that are counted up have each its place
 begins_at : (xs : List Note) (k n : ℕ) (d : Note) → map (λ (x : Note). x.count) xs ≡ range_with_len n (length xs)
@@ -133,7 +110,7 @@ known h ok r k d l =
     let kept = all_unfiltered (λ (n : Note). n.fit == note.fit) (IsAtCount h r note.fit) (notes h r)
     (at_counts h ok r note.fit) k d l (eq_self note.fit) in
     record {
-      begun = begun h ok r is.there;
+      begun = begun_with_room h ok r is.there;
       room = subst (λ z. is_room h z ≡ true) back is.there;
       fit = subst (λ z. is_fit h z note.fit ≡ true) back is.fit;
       kept = subst (λ z. IsAtCount h z note.fit note) back kept;

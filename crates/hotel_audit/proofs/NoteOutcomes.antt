@@ -1,9 +1,9 @@
 -- A note is taken as the next one of its room's present fit, or nothing happens.
 use Rattle.std.proofs.Common.{◌≡◌, ℕ, Bool, true, false, List, [], ◌∷◌, Option, Some, None, ◌⊎◌, inl, inr, length, drop}
 use Rattle.std.proofs.Common.{refl, ap, ◌==◌, ◌+◌, ◌-◌, if◌then◌else◌}
-use Rattle.hotel_core.proofs.Names.{is_fit, present_fit, notes_of, Note, answer_to, told, reported, is_begun, is_card}
-use Rattle.hotel_core.proofs.Names.{is_room, has_link, opens, Event, inside, History, awaited, Copy, Conflicting, Next}
-use Rattle.hotel_core.proofs.Names.{After, same_note, standing_among, Outcome, accepted, needs, unless, is_one_of}
+use Rattle.hotel_books.proofs.Names.{is_fit, present_fit, notes_of, Note, answer_to, told, reported, is_begun, is_card}
+use Rattle.hotel_books.proofs.Names.{is_room, has_link, opens, Event, inside, History, awaited, Copy, Conflicting, Next}
+use Rattle.hotel_books.proofs.Names.{After, same_note, standing_among, Outcome, accepted, needs, unless, is_one_of}
 use Rattle.std.proofs.lemmas.Bool.{eqb-true}
 use Rattle.keycard_rules.specs.declared.note.Act.{Act}
 use Rattle.keycard_rules.specs.declared.note.Act.TheVariants as act

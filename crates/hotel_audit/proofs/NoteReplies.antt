@@ -1,6 +1,6 @@
 -- What a note is answered: Taken, Seen or a refusal.
 use Rattle.std.proofs.Common.{◌≡◌, Bool, true, false, [], ◌∷◌, Some, refl, Ok, Err}
-use Rattle.hotel_core.proofs.Names.{Note, is_failed, failure_in}
+use Rattle.hotel_books.proofs.Names.{Note, is_failed, failure_in}
 use Rattle.keycard_rules.specs.declared.issued.LookFault.{LookFault}
 use Rattle.keycard_rules.specs.declared.issued.LookFault.TheVariants as look
 use Rattle.hotel_model.specs.{declared.reply.Reply.Reply, NoteReplies.IsNoteReply}

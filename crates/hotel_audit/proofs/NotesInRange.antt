@@ -1,8 +1,8 @@
 -- The notes that a file's lines are have their values in range.
 use Rattle.std.proofs.Common.{◌≡◌, ◌≤◌, ℕ, Bool, true, false, List, [], ◌∷◌, ◌++◌, Option, Some, None, Result, Ok, Err}
-use Rattle.std.proofs.Common.{refl, sym, ◌∙◌, subst, arith, map, option_and_then, ◌&&◌, ◌+◌, ◌*◌, ◌==◌, ◌||◌, nat_le, nat_lt}
-use Rattle.std.proofs.Common.{if◌then◌else◌, slice_index, slice_range, length, All}
-use Rattle.hotel_core.proofs.{Names.IsTimed, Names.IsNumberUpTo, Names.IsCommand}
+use Rattle.std.proofs.Common.{refl, sym, ◌∙◌, subst, arith, map, option_and_then, ◌&&◌, ◌+◌, ◌*◌, ◌==◌, ◌||◌, nat_le}
+use Rattle.std.proofs.Common.{nat_lt, if◌then◌else◌, slice_index, slice_range, length, All}
+use Rattle.hotel_books.proofs.Names.{IsTimed, IsNumberUpTo, IsCommand}
 use Rattle.hotel_model.proofs.OfTables.Tests.{and_true}
 use Rattle.std.specs.Option.{ok_or}
 use Rattle.std.proofs.lemmas.Bool.{leb-true}

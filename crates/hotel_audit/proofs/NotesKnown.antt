@@ -2,12 +2,12 @@
 use Rattle.std.proofs.Common.{◌≡◌, ◌∙◌, ℕ, zero, suc, Bool, true, false, List, [], ◌∷◌, ◌++◌, Option, Some, None}
 use Rattle.std.proofs.Common.{length, drop, filter, sym, refl, subst, ap, arith, eq-eqb, ◌==◌, ◌+◌, ◌-◌, nat_le}
 use Rattle.std.proofs.Common.{is_some, option_map, if◌then◌else◌}
-use Rattle.hotel_core.proofs.Names.{Stream, Note, words, answer_to, moment_of, told, reported, is_begun, is_card}
-use Rattle.hotel_core.proofs.Names.{is_room, has_link, opens, inside, awaited, Event, Begun, NextDay, Install, Refitted}
-use Rattle.hotel_core.proofs.Names.{note_of, History, ◌▷◌, Copy, Conflicting, Next, After, notes, notes_of, with_note}
-use Rattle.hotel_core.proofs.Names.{same_note, same_link, is_fit, present_fit, standing, standing_among, Outcome}
-use Rattle.hotel_core.proofs.Names.{accepted, grown, needs, said, unless, Runs, Steps, StepsIf, answered, is_failed}
-use Rattle.hotel_core.proofs.Names.{day, and_last, is_one_of, when}
+use Rattle.hotel_books.proofs.Names.{Stream, Note, words, answer_to, moment_of, told, reported, is_begun, is_card}
+use Rattle.hotel_books.proofs.Names.{is_room, has_link, opens, inside, awaited, Event, Begun, NextDay, Install, Refitted}
+use Rattle.hotel_books.proofs.Names.{note_of, History, ◌▷◌, Copy, Conflicting, Next, After, notes, notes_of, with_note}
+use Rattle.hotel_books.proofs.Names.{same_note, same_link, is_fit, present_fit, standing, standing_among, Outcome}
+use Rattle.hotel_books.proofs.Names.{accepted, grown, needs, said, unless, Runs, Steps, StepsIf, answered, is_failed}
+use Rattle.hotel_books.proofs.Names.{day, and_last, is_one_of, when}
 use Rattle.std.proofs.lemmas.Bool.{eqb-true}
 use Rattle.std.proofs.lemmas.Bool.Decides.{nat_tests}
 use Rattle.std.proofs.lemmas.List.Elements.{filter-append}

@@ -3,10 +3,10 @@ use Rattle.std.proofs.Common.{◌≡◌, ◌∙◌, ◌+◌, ◌-◌, ◌<◌, �
 use Rattle.std.proofs.Common.{Option, Some, None, All, length, drop, refl, ap, sym, subst, arith, ◌==◌, ◌&&◌, nat_le}
 use Rattle.std.proofs.Common.{is_some, nat_cmp, nat_lt}
 use Rattle.std.proofs.lemmas.List.Elements.{All-cons, All-nil}
-use Rattle.hotel_core.proofs.Names.{CodeRow, FitRow, History, IsSound, Note, Reached, RoomRow, Rows, at_number}
-use Rattle.hotel_core.proofs.Names.{count_up, fit_at, fits, fits_at, is_at, is_fit, is_of_fit, is_room, keys_of}
-use Rattle.hotel_core.proofs.Names.{list_all, lookup, notes, notes_at, notes_before_each, pair_cmp, rows_of, said_of}
-use Rattle.hotel_core.proofs.Names.{same_link, when}
+use Rattle.hotel_books.proofs.Names.{CodeRow, FitRow, History, IsSound, Note, Reached, RoomRow, Rows, at_number}
+use Rattle.hotel_books.proofs.Names.{count_up, fit_at, fits, fits_at, is_at, is_fit, is_of_fit, is_room, keys_of}
+use Rattle.hotel_books.proofs.Names.{list_all, lookup, notes, notes_at, notes_before_each, pair_cmp, rows_of, said_of}
+use Rattle.hotel_books.proofs.Names.{same_link, when}
 use Rattle.keycard_rules.specs.declared.{card.Card.Card, card.Link.Link, code.TheConstants.CODES, note.Act.Act}
 use Rattle.keycard_rules.specs.declared.note.Act.TheVariants as act
 use Rattle.hotel_model.specs.Ranges.{IsCode, IsCount, IsFit, IsRoomNumber}

@@ -1,9 +1,9 @@
 -- In a run a room's notes grow by those that were answered Taken.
 use Rattle.std.proofs.Common.{◌≡◌, ◌∙◌, ℕ, Bool, true, false, List, [], ◌∷◌, ◌++◌, Option, Some, None, inl, inr, refl}
 use Rattle.std.proofs.Common.{ap, sym, subst, append_assoc, append-nil, ◌==◌}
-use Rattle.hotel_core.proofs.Names.{Stream, draw_from, words, Note, answer_to, checks, effect, next_card, next_fit}
-use Rattle.hotel_core.proofs.Names.{own_room, Event, note_of, History, issued_codes, notes, with_note, grown, Steps}
-use Rattle.hotel_core.proofs.Names.{StepsIf, answered, is_failed, and_last, when}
+use Rattle.hotel_books.proofs.Names.{Stream, draw_from, words, Note, answer_to, checks, effect, next_card, next_fit}
+use Rattle.hotel_books.proofs.Names.{own_room, Event, note_of, History, issued_codes, notes, with_note, grown, Steps}
+use Rattle.hotel_books.proofs.Names.{StepsIf, answered, is_failed, and_last, when}
 use Rattle.hotel_model.specs.{declared.command.Command.Command, declared.reply.Reply.Reply}
 use Rattle.hotel_model.specs.declared.command.Command.TheVariants as command
 use Rattle.hotel_model.specs.declared.reply.Reply.TheVariants as reply

@@ -1,10 +1,10 @@
 -- A note of a room changes nothing that the notes of another one turn on.
 use Rattle.std.proofs.Common.{◌≡◌, ℕ, Bool, true, false, List, [], ◌∷◌, refl, ap, sym, ◌∙◌, ◌==◌, ◌&&◌, if◌then◌else◌}
 use Rattle.std.proofs.Common.{Ordering, Less, Equal, Greater}
-use Rattle.hotel_core.proofs.Names.{insert_key, match_ordering, is_at, remove_key, Note, answer_to, told, reported}
-use Rattle.hotel_core.proofs.Names.{cards, is_begun, is_room, present_fit, insiders, inside, those_in, History, ◌▷◌}
-use Rattle.hotel_core.proofs.Names.{awaited, turns, held, Standing, Copy, Conflicting, OfOldFit, Next, After, notes}
-use Rattle.hotel_core.proofs.Names.{standing, and_last, pair_cmp, when, without, after}
+use Rattle.hotel_books.proofs.Names.{insert_key, match_ordering, is_at, remove_key, Note, answer_to, told, reported}
+use Rattle.hotel_books.proofs.Names.{cards, is_begun, is_room, present_fit, insiders, inside, those_in, History, ◌▷◌}
+use Rattle.hotel_books.proofs.Names.{awaited, turns, held, Standing, Copy, Conflicting, OfOldFit, Next, After, notes}
+use Rattle.hotel_books.proofs.Names.{standing, and_last, pair_cmp, when, without, after}
 use Rattle.keycard_rules.specs.declared.note.Act.{Act}
 use Rattle.keycard_rules.specs.declared.note.Act.TheVariants as act
 use Rattle.hotel_model.specs.declared.command.Command.TheVariants as command

@@ -1,7 +1,7 @@
 -- Lines that were all Taken or Seen are seen when they come again.
 use Rattle.std.proofs.Common.{◌≡◌, ◌∙◌, List, [], ◌∷◌, map, false, sym, refl, subst, ap, All}
-use Rattle.hotel_core.proofs.Names.{All-head, All-tail, Stream, Note, words, Event, History, Outcome, grown, Runs}
-use Rattle.hotel_core.proofs.Names.{StepsIf}
+use Rattle.hotel_books.proofs.Names.{All-head, All-tail, Stream, Note, words, Event, History, Outcome, grown, Runs}
+use Rattle.hotel_books.proofs.Names.{StepsIf}
 use Rattle.hotel_model.specs.{declared.command.Command.Command, declared.reply.Reply.Reply}
 use Rattle.hotel_model.specs.declared.command.Command.TheVariants as command
 use Rattle.hotel_model.specs.declared.reply.Reply.TheVariants as reply

@@ -1,6 +1,6 @@
 -- Lines in which no lock's counts fall change nothing when they come again at once.
 use Rattle.std.proofs.Common.{◌≡◌, ◌∙◌, List, [], ◌∷◌, ◌++◌, ap, sym}
-use Rattle.hotel_core.proofs.Names.{History, Note}
+use Rattle.hotel_books.proofs.Names.{History, Note}
 use Rattle.hotel_lock.specs.declared.line.Line.{Line}
 use Rattle.hotel_audit.specs.SentAtOnce.{CountsDoNotFall, NoneLower}
 use Rattle.hotel_audit.specs.{SentAtOnce.SentAtOnce, SentAtOnce.StoppedAndSent}

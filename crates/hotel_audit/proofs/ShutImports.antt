@@ -3,7 +3,7 @@ use Rattle.std.proofs.Common.{[], ◌∷◌, Ok, List, subst, sym}
 use Rattle.hotel_core.proofs.OfCode.Counting.{untold}
 use Rattle.rand_core.specs.Stream.{Stream}
 use Rattle.keycard_rules.specs.{Since.Since, declared.kept.Kept.Ghosts as KeptOf, Calls.BeganShut, Calls.Passes}
-use Rattle.hotel_core.specs.declared.books.Books.{Ghosts as BooksOf}
+use Rattle.hotel_books.specs.declared.books.Books.{Ghosts as BooksOf}
 use Rattle.keycard_rules.proofs.Sinces.{since_refl, since_then}
 use Rattle.hotel_lock.specs.declared.line.Line.{Line}
 use Rattle.hotel_audit.specs.declared.answer.LineAnswer.{LineAnswer}

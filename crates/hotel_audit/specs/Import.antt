@@ -3,7 +3,7 @@ use Rattle.std.specs.Prelude.{ℕ, ◌≡◌, ◌⊎◌, Bool, true, false, List
 use Rattle.std.specs.Prelude.{if◌then◌else◌, Result, Ok, Err}
 use Rattle.rand_core.specs.Stream.{Stream}
 use Rattle.keycard_rules.specs.{declared.issued.LookFault.LookFault, declared.kept.Kept.Ghosts as KeptOf}
-use Rattle.hotel_core.specs.declared.books.Books.{Ghosts as BooksOf}
+use Rattle.hotel_books.specs.declared.books.Books.{Ghosts as BooksOf}
 use Rattle.keycard_rules.specs.{Leaves.Leaves, Calls.LeaveAll, Calls.Passes}
 use Rattle.keycard_rules.specs.declared.issued.LookFault.TheVariants as look
 use Rattle.hotel_model.specs.{declared.command.Command.Command, declared.reply.Reply.Reply}
@@ -12,7 +12,8 @@ use Rattle.hotel_model.specs.declared.command.Command.TheVariants as command
 use Rattle.hotel_model.specs.declared.reply.Reply.TheVariants as reply
 use Rattle.hotel_model.specs.declared.reply.Refusal.TheVariants as refusal
 use Rattle.hotel_model.specs.Run.{Runs, is_failed}
-use Rattle.hotel_core.specs.{Books.Happens.Happens, Books.Stepped.Noted, Books.Stops.StopsThrough}
+use Rattle.hotel_core.specs.{Books.Happens.Happens, Books.Stepped.Noted}
+use Rattle.hotel_books.specs.Books.Stops.{StopsThrough}
 use Rattle.hotel_lock.specs.declared.audit_file.AuditFault.{AuditFault}
 use Rattle.hotel_audit.specs.declared.answer.LineAnswer.{LineAnswer}
 use Rattle.hotel_audit.specs.{declared.imports.ImportFault.ImportFault}

@@ -2,7 +2,7 @@
 use Rattle.std.specs.Prelude.{List, ⊤}
 use Rattle.std.specs.List.{AllByRecursion}
 use Rattle.keycard_rules.specs.{declared.kept.Kept.Ghosts as KeptOf, Calls.BeganShut, Calls.Passes}
-use Rattle.hotel_core.specs.declared.books.Books.{Ghosts as BooksOf}
+use Rattle.hotel_books.specs.declared.books.Books.{Ghosts as BooksOf}
 use Rattle.hotel_lock.specs.declared.line.Line.{Line}
 use Rattle.hotel_audit.specs.{declared.answer.LineAnswer.LineAnswer, Import.LineImported}
 use Rattle.hotel_lock.specs.declared.line.Line.TheVariants.{Note, Unread}

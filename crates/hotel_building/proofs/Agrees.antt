@@ -1,15 +1,15 @@
 -- A door is as the notes of all its acts say.
 use Rattle.std.proofs.Common.{ℕ, ◌≡◌, ◌+◌, Bool, true, false, cond, List, [], ◌∷◌, ◌++◌, length}
-use Rattle.std.proofs.Common.{filter, refl, ap, sym, ◌∙◌, arith, ◌==◌, ◌&&◌, ◌||◌, not, inl, inr, nat_le}
-use Rattle.hotel_model.proofs.Names.{nat_tests, list_all, when, and_last, is_one_of, Note, Act}
+use Rattle.std.proofs.Common.{filter, refl, ap, sym, ◌∙◌, arith, ◌==◌, ◌&&◌, ◌||◌, not, inl, inr}
+use Rattle.hotel_model.proofs.Names.{when, and_last, is_one_of, Note, Act}
 use Rattle.hotel_model.proofs.Names.{Link, Moment, Entered, Left, Install, Issue, Refitted, History, ◌▷◌, held, inside}
 use Rattle.hotel_model.proofs.Names.{insiders, notes}
 use Rattle.hotel_model.proofs.Names.{notes_of, present_fit, is_room, Reached}
 use Rattle.keycard_rules.specs.declared.note.Act.TheVariants as act
-use Rattle.hotel_model.proofs.OfTables.Tests.{eq_from, eq_self, and_true, not_both, either_way}
+use Rattle.hotel_model.proofs.OfTables.Tests.{eq_from, eq_self, not_both, either_way}
 use Rattle.hotel_model.proofs.OfTables.Grown.{may_follow}
 use Rattle.hotel_model.proofs.Invariants.NoRooms.{nothing_noted}
-use Rattle.hotel_model.proofs.Invariants.NotesOfFits.{notes_for}
+use Rattle.hotel_model.proofs.Invariants.NotesOfFits.{none_later, notes_for}
 use Rattle.hotel_model.proofs.Invariants.InsideRooms.{none_inside}
 use Rattle.hotel_model.proofs.SoundRows.SoundInside.{insiders_seen}
 use Rattle.hotel_building.specs.Building.{Door, but, new_door, refitted, first_door, slipped_out, event_by}
@@ -80,18 +80,6 @@ agrees_installed h room kind code ok =
           (sym none i));
       its_inside = λ n. none_there h ok.0 room n there;
     }
-
--- no note is of a lock after the present one
-pub none_later : (present : ℕ) (taken : List Note) → list_all (λ (note : Note). nat_le note.fit present) taken ≡ true
-    → filter (λ (note : Note). note.fit == present + 1) taken ≡ []
-none_later present [] all = refl
-none_later present (x ∷ taken) all =
-    let p = and_true (nat_le x.fit present) (list_all (λ (note : Note). nat_le note.fit present) taken) all in
-    ap (λ b. cond b (x ∷ filter (λ (note : Note). note.fit == present + 1) taken)
-    (filter (λ (note : Note). note.fit == present + 1) taken)) (other x.fit present p.0) ∙ none_later present taken p.1
-  where
-    other : (a b : ℕ) → nat_le a b ≡ true → (a == b + 1) ≡ false
-    other a b l = grind (arith, nat_tests)
 
 pub agrees_refitted : (h : History) (room fit code : ℕ) (door : Door) → Reached (h ▷ Refitted room fit code)
     → door.inside ≡ [] → Agrees (h ▷ Refitted room fit code) room (refitted room fit code door)

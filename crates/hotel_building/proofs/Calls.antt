@@ -3,7 +3,7 @@ use Rattle.std.proofs.Common.{ℕ, ◌≡◌, Bool, true, false, Option, Some, N
 use Rattle.std.proofs.Common.{subst, inl, inr, option_map}
 use Rattle.hotel_model.proofs.Names.{Note, Event, History, ◌▷◌, note_of, issued_codes, draw_from, next_card, next_fit}
 use Rattle.hotel_model.proofs.Names.{own_room, Outcome, grown, checks, effect, is_failed}
-use Rattle.hotel_model.proofs.Names.{IsCommand, IsReply, Reached, Steps, StepsIf, Stream, words, rows_of}
+use Rattle.hotel_model.proofs.Names.{Reached, Steps, StepsIf, Stream, words, rows_of}
 unfoldable use Rattle.hotel_model.specs.Answer.{answer_to}
 use Rattle.hotel_model.specs.Event as event
 use Rattle.hotel_model.specs.declared.command.Command.{Command}
@@ -11,7 +11,7 @@ use Rattle.hotel_model.specs.declared.command.Command.TheVariants as command
 use Rattle.hotel_model.specs.declared.reply.Reply.{Reply}
 use Rattle.keycard_rules.specs.declared.draw.TheConstants.{MOST_WORDS}
 use Rattle.hotel_model.proofs.Invariants.Following.{passed_all, same_event, from_draw}
-use Rattle.hotel_model.proofs.Invariants.EventRanges.{last_in_range, step_keeps}
+use Rattle.hotel_model.proofs.{Invariants.EventRanges.last_in_range, Lifted.Runs.step_reaches}
 use Rattle.hotel_building.specs.Building.{Building, Accepted, Told, ◌▸◌, desk, at_once, event_of, after_first}
 use Rattle.hotel_building.specs.Building.{LeavesNothing, Reachable}
 use Rattle.hotel_building.specs.Promises.{IsOfStaff}
@@ -121,13 +121,6 @@ call_stays b source left (command.Reported note) reply later ok may reached p =
     note_calls (is_failed reply) b source left note reply later ok may p
 call_stays b source left c reply later ok may reached p =
     staff_calls (is_failed reply) b source left c reply later ok tt may reached p
-
--- a command with values in their ranges leads to a history that can be reached
-pub step_reaches : (failed : Bool) (h : History) (s : Stream) (c : Command) (reply : Reply) (later : History)
-    (left : Stream) → Reached h → IsCommand c → IsReply reply → StepsIf failed h s c reply later left → Reached later
-step_reaches true h s c reply later left ok fits range p = subst Reached (sym p.0) ok
-step_reaches false h s c reply later left ok fits range p =
-    subst Reached (sym p.1) (step_keeps h (words MOST_WORDS s) c reply fits (sym p.0) range ok)
 
 pub calls_stay : CallsStayInBuildings
 calls_stay b source left c reply later ok may fits range p =

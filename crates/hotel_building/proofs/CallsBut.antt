@@ -9,14 +9,14 @@ use Rattle.hotel_model.specs.declared.command.Command.TheVariants as command
 use Rattle.hotel_model.specs.declared.reply.Reply.{Reply}
 use Rattle.keycard_rules.specs.declared.draw.TheConstants.{MOST_WORDS}
 use Rattle.hotel_model.proofs.OfTables.Tests.{eq_from, not_both, either_way}
-use Rattle.hotel_model.proofs.Invariants.EventRanges.{last_in_range}
+use Rattle.hotel_model.proofs.{Invariants.EventRanges.last_in_range, Lifted.Runs.step_reaches}
 use Rattle.hotel_building.specs.Building.{Building, Accepted, Told, Forged, ◌▸◌, desk, after_first}
 use Rattle.hotel_building.specs.Promises.{IsOfStaff}
 use Rattle.hotel_building.specs.Faults.{is_bad, room_at_once, ReachableBut}
 use Rattle.hotel_building.specs.Calls.{MayAsk, MayAskBut, IfAccepted, GoesOn, NoMoreBad}
 use Rattle.hotel_building.specs.Calls.{CallsStayButForFaults}
 use Rattle.hotel_building.proofs.TrueNotes.{true_is_next, event_taken}
-use Rattle.hotel_building.proofs.Calls.{staff_does, step_reaches}
+use Rattle.hotel_building.proofs.Calls.{staff_does}
 use Rattle.hotel_building.proofs.Faults.{faults_harm_their_doors, room_but, not_bad}
 
 -- what a call leads to

@@ -8,9 +8,9 @@ use Rattle.hotel_model.specs.declared.command.Command.TheVariants as command
 use Rattle.keycard_rules.specs.declared.note.Act.TheVariants as act
 use Rattle.hotel_lock.specs.Door.{acts, enters, leaves, is_set}
 use Rattle.hotel_model.proofs.Facts.Follow.{MayFollow}
-use Rattle.hotel_model.proofs.OfTables.Tests.{eq_from, eq_self, not_both, either_way}
+use Rattle.hotel_model.proofs.OfTables.Tests.{eq_from, either_way}
 use Rattle.hotel_model.proofs.OfTables.Grown.{may_follow}
-use Rattle.hotel_model.proofs.OfTables.Insiders.{insiders_in_order}
+use Rattle.hotel_model.proofs.{OfTables.Insiders.insiders_in_order, RowsAfter.RowsRooms.eq_flip}
 use Rattle.hotel_model.proofs.Invariants.{NoRooms.nothing_noted, InsideRooms.one_of_these, Assurance.assured}
 use Rattle.hotel_building.specs.Building.{Building, opened, ◌▸◌, Accepted, Shown, GoesOut, SlipsOut, SetTo, Told, Fails}
 use Rattle.hotel_building.specs.Building.{Forged, Door, new_door, refitted, shown, gone_out, slipped_out, was_set}
@@ -179,17 +179,11 @@ kept_note r d t o x ok may range f f' k =
     (noted_quiet d x ∙ k.same ∙ sym (noted_quiet t x)) (grows_same d (d ▷ event_of x) (sym (noted_quiet d x)))
     (touches_by x x.act r ∙ f) (λ s m a. others_more d t (event_of x) (keeps_by x x.act) ok k.all_ok s a) k
 
-eq_back : (a b : ℕ) → (a == b) ≡ false → (b == a) ≡ false
-eq_back a b f = elim (either_way (b == a)) [
-  | inl m ↦ not_both (a == b) (ap (λ z. a == z) (eq_from b a m) ∙ eq_self a) f
-  | inr g ↦ g
-]
-
 kept_first : (room r : ℕ) (d t : History) (o : Door) (xs : List Note) → Reached d → Replays room d xs
     → (room == r) ≡ false → Kept r d t o → Kept r (after_first d xs) (after_first t xs) o
 kept_first room r d t o [] ok p f k = k
 kept_first room r d t o (x ∷ xs) ok p f k =
-    let g = other_lock room r x.room p.0 f in kept_note r d t o x ok p.1 p.2 g (eq_back x.room r g) k
+    let g = other_lock room r x.room p.0 f in kept_note r d t o x ok p.1 p.2 g (eq_flip x.room r g) k
 
 -- the desk hears a note of the room
 told_others : (r s : ℕ) (d t : History) (xs : List Note) → Ordered d → Replays r d xs → (r == s) ≡ false → Alike s d t
@@ -402,7 +396,7 @@ whole_but (b ▸ Forged note) ok =
       desk_ok = desk_ok;
       rooms = λ r bad. let g = others_good note.room r (is_bad b r) bad in
           kept_note r (desk b) (room_at_once b r) (door b r) note w.desk_ok
-          (may_follow (desk b) (event_of note) desk_ok) ok.1.2 g.0 (eq_back note.room r g.0) (w.rooms r g.1);
+          (may_follow (desk b) (event_of note) desk_ok) ok.1.2 g.0 (eq_flip note.room r g.0) (w.rooms r g.1);
     }
 
 pub room_but : (b : Building) → ReachableBut b → (r : ℕ) → is_bad b r ≡ false → RoomIs b (room_at_once b r) r

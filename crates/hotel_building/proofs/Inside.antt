@@ -4,7 +4,7 @@ use Rattle.std.proofs.Common.{arith, ◌==◌, ◌&&◌, ◌||◌, not, is_eq, i
 use Rattle.hotel_model.proofs.Names.{match_ordering, insert_key, remove_key, is_at, when, pair_cmp}
 use Rattle.hotel_model.proofs.Names.{is_one_of, those_in, those_elsewhere, are_none}
 use Rattle.hotel_model.proofs.OfTables.Tests.{eq_from, eq_self, not_both, either_way}
-use Rattle.hotel_model.proofs.OfTables.Pairs.{pair_is, same_pair}
+use Rattle.hotel_model.proofs.OfTables.{Insiders.those_are, Pairs.pair_is, Pairs.same_pair}
 use Rattle.hotel_model.proofs.OfTables.KeysInOrder.{InOrder, AllAfter, has_key}
 use Rattle.hotel_building.specs.Building.{but}
 
@@ -86,19 +86,6 @@ lost k j (x ∷ xs) s = by (is_at (pair_cmp j) x) refl (lost k j xs s.1)
         (λ t. ap (λ z. is_eq (pair_cmp z j)) (same_pair k x t) ∙ other_way x j e)
 
 -- ---- cards inside a room
-
-those_by : (b : Bool) (n m : ℕ) (ns : List ℕ)
-    → is_one_of n (when b (λ numbers. m ∷ numbers) ns) ≡ ((b && (m == n)) || is_one_of n ns)
-those_by true n m ns = refl
-those_by false n m ns = refl
-
--- a card is inside a room where the pair of the two is one of the keys
-those_are : (es : List (ℕ × ℕ)) (r n : ℕ) → is_one_of n (those_in es r) ≡ has_key pair_cmp (r, n) es
-those_are [] r n = refl
-those_are (e ∷ es) r n =
-    those_by (e.0 == r) n e.1 (those_in es r)
-    ∙ ap (λ b. ((e.0 == r) && (e.1 == n)) || b) (those_are es r n)
-    ∙ ap (λ b. b || has_key pair_cmp (r, n) es) (sym (pair_is r n e))
 
 -- who is inside after a card came in
 pub came : (es : List (ℕ × ℕ)) (room number r n : ℕ)

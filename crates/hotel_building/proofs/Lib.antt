@@ -17,3 +17,4 @@ pub mod RunsStay
 pub mod Faults
 pub mod CallsBut
 pub mod NotesTold
+pub mod Opened

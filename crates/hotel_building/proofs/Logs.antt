@@ -9,8 +9,7 @@ use Rattle.hotel_model.proofs.Names.{note_of, Reached}
 use Rattle.hotel_model.specs.Event as event
 use Rattle.hotel_model.proofs.OfTables.Grown.{may_follow}
 use Rattle.hotel_model.proofs.Invariants.NoRooms.{nothing_noted}
-use Rattle.hotel_model.proofs.Invariants.NotesOfFits.{notes_for}
-use Rattle.hotel_building.proofs.Agrees.{none_later}
+use Rattle.hotel_model.proofs.Invariants.NotesOfFits.{none_later, notes_for}
 use Rattle.hotel_building.proofs.Alike.{filter_more}
 use Rattle.hotel_model.proofs.Names.{History, ◌▷◌, cards, those_in}
 use Rattle.hotel_model.specs.Rows.{Rows, notes_at}
@@ -26,7 +25,7 @@ use Rattle.hotel_building.specs.Building.{Fails, Forged, Door}
 use Rattle.hotel_building.specs.Building.{new_door, refitted, shown, gone_out, slipped_out, was_set, heard, door}
 use Rattle.hotel_building.specs.Building.{desk, after_first, LeavesNothing, Reachable}
 use Rattle.hotel_building.specs.Building.{event_of}
-use Rattle.hotel_building.specs.Logs.{logged, new_log, OpensEmpty, NotesExits, LogIsTold, LogsAreDoors}
+use Rattle.hotel_building.specs.Logs.{logged, new_log, set_to, OpensEmpty, NotesExits, LogIsTold, LogsAreDoors}
 use Rattle.hotel_building.proofs.Quiet.{noted_quiet}
 use Rattle.hotel_building.proofs.Inside.{is_in, one_but}
 use Rattle.hotel_building.proofs.Grows.{Grows, grows_event, grows_same}
@@ -144,20 +143,47 @@ sets_as : (lock : Lock) (d : Door) (code : ℕ) (at : Moment) → d.lock.made < 
 sets_as lock d code at few e =
     ap (λ k. sets k code at) e ∙ ap (λ b. if b then is_set d.lock code at else None) (counts d.lock few)
 
-set_log : (h : History) (l : Logged) (d : Door) (code : ℕ) (at : Moment) → d.lock.made < 9999999 → AtLog h l d
-    → AtLog h (logged_after l (sets l.lock code at)) (was_set (is_set d.lock code at) d)
-set_log h l d code at few i =
-    subst (λ o. AtLog h (logged_after l o) (was_set (is_set d.lock code at) d))
+set_lock : (h : History) (l : Logged) (d : Door) (code : ℕ) (at : Moment) → d.lock.made < 9999999 → AtLog h l d
+    → (logged_after l (sets l.lock code at)).lock ≡ (was_set (is_set d.lock code at) d).lock
+set_lock h l d code at few i =
+    subst (λ o. (logged_after l o).lock ≡ (was_set (is_set d.lock code at) d).lock)
     (sym (sets_as l.lock d code at few i.its_lock)) (by (d.lock.held == code))
   where
-    by : (b : Bool) → AtLog h (logged_after l (set_by d code at b)) (was_set (set_by d code at b) d)
-    by true = i
-    by false =
-        let x = (acts d.lock (act.Recoded d.lock.held code) code at).note in
-        record {
-          its_lock = refl;
-          its_log = λ n link f. inside_more n link false l.notes x ∙ i.its_log n link f;
-        }
+    by : (b : Bool) → (logged_after l (set_by d code at b)).lock ≡ (was_set (set_by d code at b) d).lock
+    by true = i.its_lock
+    by false = refl
+
+-- a setting brings no card in or out, by the log
+inside_set : (l : Logged) (code : ℕ) (at : Moment) (n : ℕ) (link : Link)
+    → is_inside (logged_after l (sets l.lock code at)).notes n link ≡ is_inside l.notes n link
+inside_set l code at n link = by (has_count l.lock) (l.lock.held == code)
+  where
+    x : Noted
+    x = acts l.lock (act.Recoded l.lock.held code) code at
+
+    by : (counted same : Bool) → is_inside (logged_after l
+        (if counted then (if same then None else Some x) else None)).notes n link ≡ is_inside l.notes n link
+    by false same = refl
+    by true true = refl
+    by true false = inside_more n link false l.notes x.note
+
+-- so it is, whether the log has the note of the setting or lacks it
+inside_stays : (l : Logged) (code : ℕ) (at : Moment) (n : ℕ) (link : Link)
+    → is_inside (set_to code at l).notes n link ≡ is_inside l.notes n link
+inside_stays l code at n link = search inside_set
+
+-- and none at the door
+door_stays : (d : Door) (n : ℕ) (o : Option Noted) → has_inside (was_set o d) n ≡ has_inside d n
+door_stays d n None = refl
+door_stays d n (Some it) = refl
+
+set_log : (h : History) (l : Logged) (d : Door) (code : ℕ) (at : Moment) → d.lock.made < 9999999 → AtLog h l d
+    → AtLog h (set_to code at l) (was_set (is_set d.lock code at) d)
+set_log h l d code at few i = record {
+  its_lock = set_lock h l d code at few i;
+  its_log = λ n link f. inside_stays l code at n link ∙ i.its_log n link f
+      ∙ sym (door_stays d n (is_set d.lock code at));
+}
 
 slipped_log : (h : History) (l : Logged) (d : Door) (number : ℕ) → is_one_of number d.inside ≡ true → AtLog h l d
     → AtLog h l (slipped_out number d)
@@ -224,7 +250,7 @@ logs_at (b ▸ SlipsOut room number) ok empty r =
     (slipped_log (desk b) (logged b room) (door b room) number (one_of_these (door b room).inside number ok.1)
     (logs_at b ok.0 empty room)) (logs_at b ok.0 empty r)
 logs_at (b ▸ SetTo room code at) ok empty r =
-    at_both (desk b) (logged b) (door b) (λ l. logged_after l (sets l.lock code at))
+    at_both (desk b) (logged b) (door b) (set_to code at)
     (λ d. was_set (is_set d.lock code at) d) room r
     (set_log (desk b) (logged b room) (door b room) code at ok.1.0.1 (logs_at b ok.0 empty room))
     (logs_at b ok.0 empty r)

@@ -1,5 +1,5 @@
--- Notes one after the other, at a desk in a building whose doors may fail: each that may be told at first may be told in
--- its turn.
+-- Notes one after the other, at a desk in a building whose doors may fail: each that may be told at first may be told
+-- in its turn.
 use Rattle.std.proofs.Common.{ℕ, suc, ◌≡◌, Bool, true, false, not, ◌||◌, ◌==◌, Option, Some, None, List, [], ◌∷◌}
 use Rattle.std.proofs.Common.{refl, ap, sym, ◌∙◌, subst, inl, inr, Contains, arith}
 use Rattle.std.specs.Prelude.{All}

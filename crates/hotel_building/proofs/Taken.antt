@@ -1,10 +1,9 @@
 -- A note that may follow is taken.
-use Rattle.std.proofs.Common.{ℕ, suc, ◌≡◌, ◌+◌, ◌-◌, true, Option, Some, None, List, [], ◌∷◌, drop, cond}
-use Rattle.std.proofs.Common.{length, refl, ap, sym, ◌∙◌, arith, ◌==◌, ◌||◌, is_some, nat_le}
+use Rattle.std.proofs.Common.{ℕ, ◌≡◌, ◌+◌, ◌-◌, true, List, [], ◌∷◌, drop, cond}
+use Rattle.std.proofs.Common.{length, ap, sym, ◌∙◌, arith, ◌==◌, nat_le}
 use Rattle.std.proofs.lemmas.List.{drop_all}
-use Rattle.std.specs.Prelude.{bytes_eq}
-use Rattle.hotel_model.proofs.Names.{list_any, Note, Act, Event, History, ◌▷◌, notes_of, present_fit, is_begun, is_room}
-use Rattle.hotel_model.proofs.Names.{kinds, rooms, day, has_kind, rows_of, room_row, Reached, InRange, Outcome}
+use Rattle.hotel_model.proofs.Names.{Note, Act, Event, History, ◌▷◌, notes_of, present_fit, is_room}
+use Rattle.hotel_model.proofs.Names.{Reached, InRange, Outcome}
 use Rattle.hotel_model.proofs.Names.{accepted, needs, unless, told, reported, standing, standing_among, Next, After}
 use Rattle.hotel_model.proofs.Names.{IsTimed}
 use Rattle.hotel_model.specs.declared.reply.Refusal.TheVariants.{NoCard, CardDiffers, LockShut, NotInside}
@@ -15,28 +14,10 @@ use Rattle.hotel_model.specs.declared.command.Command.TheVariants as command
 use Rattle.hotel_model.specs.declared.reply.Reply.TheVariants as reply
 use Rattle.keycard_rules.specs.declared.note.Act.TheVariants as act
 use Rattle.hotel_model.proofs.Facts.Follow.{MayFollow}
-use Rattle.hotel_model.proofs.OfTables.Tests.{eq_from, eq_self, le_self}
-use Rattle.hotel_model.proofs.OfTables.RowTests.{all_mapped, found_passes}
-use Rattle.hotel_model.proofs.OfTables.TableKeys.{row_of_key}
-use Rattle.hotel_model.proofs.{SoundRows.SoundDay.day_before, SoundRows.SoundKinds.room_kinds}
+use Rattle.hotel_model.proofs.OfTables.Tests.{eq_self, le_self}
+use Rattle.hotel_model.proofs.SoundRows.SoundKinds.{begun_with_room}
 use Rattle.hotel_model.specs.Refits.{is_fit}
 use Rattle.hotel_building.specs.Building.{event_by, event_of}
-
--- a day is set where a kind is there
-begun_by : (o : Option ℕ) (ks : List (List ℕ)) (kind : List ℕ)
-    → (is_some o || (length ks == 0)) ≡ true → list_any (λ k. bytes_eq k kind) ks ≡ true → is_some o ≡ true
-begun_by (Some d) ks kind set there = refl
-begun_by None [] kind set there = cc
-begun_by None (k ∷ ks) kind set there =
-    let none : suc (length ks) ≡ 0 = eq_from (length (k ∷ ks)) 0 set in absurd (omega (arith, none))
-
--- and where a room is
-pub begun_with : (h : History) → Reached h → (r : ℕ) → is_room h r ≡ true → is_begun h ≡ true
-begun_with h ok r there =
-    let row = row_of_key (rooms h) r there in
-    let all = sym (all_mapped _ (λ e. (e.0, room_row h e.0 e.1)) (rooms h)) ∙ room_kinds h ok in
-    begun_by (day h) (kinds h) row.0 (day_before h ok)
-    (found_passes (λ e. has_kind (rows_of h) e.1) (rooms h) r row.0 all row.1)
 
 -- what each note needs: its room is there, its lock is the present one, and it is the next of this lock
 pub note_needs : (h : History) (note : Note) (a : Act) → MayFollow h (event_by note a)
@@ -77,7 +58,7 @@ pub taken : (h : History) → Reached h → (note : Note) → MayFollow h (event
 unfolding answer_to
 taken h ok note m ahead =
     let p = note_needs h note note.act m in
-    let begun = begun_with h ok note.room p.1 in
+    let begun = begun_with_room h ok note.room p.1 in
     let fits : is_fit h note.room note.fit ≡ true =
     ap (λ z. nat_le note.fit z) (sym p.2) ∙ le_self note.fit in
     let so : reported h note (standing h note) ≡ accepted reply.Taken (event_of note) =

@@ -8,7 +8,6 @@ use Rattle.std.proofs.lemmas.List.Elements.{Contains-append_cases}
 use Rattle.hotel_model.proofs.Names.{when, and_last, said_of, pair_cmp, Note, Act, Event, History, ◌▷◌, notes, notes_of}
 use Rattle.hotel_model.proofs.Names.{all_notes, present_fit, is_room, rows_of, fit_at, note_at, note_numbered}
 use Rattle.hotel_model.proofs.Names.{of_fit, is_of_fit, Reached, reported, standing, Standing, Next, checks, effect}
-use Rattle.hotel_model.proofs.Names.{After, Copy, Conflicting, standing_among, same_note}
 unfoldable use Rattle.hotel_model.specs.Answer.{answer_to}
 use Rattle.hotel_model.specs.declared.command.Command.TheVariants as command
 use Rattle.hotel_model.specs.declared.rows.FitRow.{FitRow}
@@ -20,7 +19,7 @@ use Rattle.hotel_model.proofs.OfTables.AtRoom.{first_in, some_left}
 use Rattle.hotel_model.proofs.OfTables.NotesKept.{note_kept}
 use Rattle.hotel_model.proofs.Lifted.NotesFound.{note_found}
 use Rattle.hotel_model.proofs.SoundRows.SoundNotes.{notes_all_of_fits}
-use Rattle.hotel_model.proofs.Invariants.Following.{passed_all, needed, same_event}
+use Rattle.hotel_model.proofs.Invariants.Following.{next_count, passed_all, needed, same_event}
 use Rattle.hotel_model.proofs.Names.{needs, accepted, told, opens, is_card, has_link, inside, awaited, is_one_of}
 use Rattle.hotel_model.specs.Cases.{holds}
 use Rattle.hotel_model.specs.declared.reply.Reply.TheVariants as reply
@@ -113,22 +112,6 @@ only_next : (h : History) (note : Note) (s : Standing) (e : Event) → standing 
     → (reported h note s).happens ≡ Some e → standing h note ≡ Next
 only_next h note Next e f q = f
 only_next h note _ e f q = cc
-
-if_next : (b : Bool) (n : ℕ) → cond b Next (After n) ≡ Next → b ≡ true
-if_next true n h = refl
-if_next false n h = cc
-
-not_next : (b : Bool) → cond b Copy Conflicting ≡ Next → ⊥
-not_next true h = cc
-not_next false h = cc
-
--- what the next note is
-next_count : (present : Bool) (taken : ℕ) (note : Note) (kept : List Note)
-    → standing_among present taken note kept ≡ Next → (present ≡ true) × (note.count ≡ taken + 1)
-next_count true taken note [] h =
-    (refl, eq_from note.count (taken + 1) (if_next (note.count == taken + 1) (taken + 1) h))
-next_count false taken note [] h = cc
-next_count present taken note (k ∷ ks) h = absurd (not_next (same_note k note) h)
 
 -- a note that is taken is the next one
 taken_is_next : (h : History) (ahead : List ℕ) (note : Note) (e : Event)

@@ -9,7 +9,7 @@ use Rattle.hotel_model.proofs.Names.{Reached, InRange, Outcome, accepted, needs,
 use Rattle.hotel_model.proofs.Names.{standing, Standing, Next, is_card, has_link, opens, inside, awaited}
 use Rattle.hotel_model.proofs.Names.{notes, notes_of, present_fit, issued, and_last}
 use Rattle.hotel_model.proofs.Invariants.NoRooms.{nothing_noted}
-use Rattle.hotel_model.proofs.Invariants.NotesOfFits.{notes_for}
+use Rattle.hotel_model.proofs.Invariants.NotesOfFits.{none_later, notes_for}
 unfoldable use Rattle.hotel_model.specs.Answer.{answer_to}
 use Rattle.hotel_model.specs.Cases.{holds}
 use Rattle.hotel_model.specs.Event as event
@@ -39,7 +39,6 @@ use Rattle.hotel_building.proofs.Grows.{grows_event, grows_same}
 use Rattle.hotel_building.proofs.Alike.{Alike, alike_self, cleared, Ordered, ordered_more, after_all}
 use Rattle.hotel_building.proofs.Replays.{Replays, touches_by}
 use Rattle.hotel_building.proofs.Agrees.{Agrees, agrees_first, agrees_installed, agrees_refitted, agrees_slipped}
-use Rattle.hotel_building.proofs.Agrees.{none_later}
 use Rattle.hotel_building.proofs.AtDoor.{AtDoor, CanMake, card_given, did, elsewhere_at_both}
 use Rattle.hotel_building.proofs.AtDoor.{elsewhere_at_desk, elsewhere_at_doors, told_here, slipped_here, shown_here}
 use Rattle.hotel_building.proofs.AtDoor.{left_here, set_here, set_by, may_enter, may_leave, may_be_set, MayMake}

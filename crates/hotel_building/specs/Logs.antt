@@ -19,6 +19,10 @@ use Rattle.hotel_building.specs.Building.{at_once, IsIssued, CanNote, IsNotedIns
 abbrev pub new_log : ℕ → ℕ → ℕ → Logged
 new_log room fit code = record { first = code; lock = fitted room fit code; notes = [] }
 
+-- a lock with its log, set to a code
+abbrev pub set_to : ℕ → Moment → Logged → Logged
+set_to code at l = logged_after l (sets l.lock code at)
+
 -- The lock of each door with its log: it does what is done at its door.
 abbrev pub logged : Building → ℕ → Logged
 logged (opened t) r = record (new_log r 0 0) { lock = (first_door (start t) r).lock }
@@ -28,7 +32,7 @@ logged (b ▸ Shown room card at) r =
     when (room == r) (λ l. logged_after l (shows l.lock card.number card.link at)) (logged b r)
 logged (b ▸ GoesOut room card at) r =
     when (room == r) (λ l. logged_after l (goes_out l.lock l.notes card.number card.link at)) (logged b r)
-logged (b ▸ SetTo room code at) r = when (room == r) (λ l. logged_after l (sets l.lock code at)) (logged b r)
+logged (b ▸ SetTo room code at) r = when (room == r) (set_to code at) (logged b r)
 logged (b ▸ _) r = logged b r
 
 -- the building opened with an empty desk

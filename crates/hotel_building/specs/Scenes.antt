@@ -4,3 +4,6 @@ pub mod Lines
 pub mod LateLog
 pub mod Recoding
 pub mod ReplacedLock
+pub mod BadDoor
+-- What goes wrong without a premise.
+pub mod Premises

@@ -64,38 +64,41 @@ fn sync_folder(rt: &HostRuntime, name: &str) -> Result<(), Fault> {
     folder.sync_all().map_err(|_| Fault::File)
 }
 
-/// A file that its owner alone may read, for its bytes: a new one, or also one that is there.
-fn open_to_write(rt: &HostRuntime, name: &str, is_new: bool) -> io::Result<File> {
-    let mut options = OpenOptions::new();
-    options.write(true).mode(0o600);
-    if is_new {
-        options.create_new(true);
-    } else {
-        options.create(true).truncate(true);
-    }
-    options.open(rt, name)
-}
-
-/// Makes a new file. One that is there is refused.
-pub(crate) fn create_file(rt: &HostRuntime, name: &str, bytes: &[u8]) -> Result<(), Fault> {
-    let file = match open_to_write(rt, name, true) {
-        Ok(file) => file,
-        Err(why) if why.kind() == io::ErrorKind::AlreadyExists => return Err(Fault::Exists),
+/// Writes the bytes to a new file beside this one, which its owner alone may read. Returns its name. A file that an
+/// earlier call left there goes first: it may be the lock's own, by a second name.
+fn write_beside(rt: &HostRuntime, name: &str, bytes: &[u8]) -> Result<String, Fault> {
+    let Ok(beside) = format!(in rt.alloc(); "{name}.new") else {
+        return Err(Fault::Memory);
+    };
+    match fs::remove_file(rt, beside.as_str()) {
+        Ok(()) => {}
+        Err(why) if why.kind() == io::ErrorKind::NotFound => {}
         Err(_) => return Err(Fault::File),
+    }
+    let mut options = OpenOptions::new();
+    options.write(true).mode(0o600).create_new(true);
+    let Ok(file) = options.open(rt, beside.as_str()) else {
+        return Err(Fault::File);
     };
     fill(file, bytes)?;
-    sync_folder(rt, name)
+    Ok(beside)
+}
+
+/// Makes a new file, whole or not at all: by one beside it, which gets its name too. A file that is there is refused.
+pub(crate) fn create_file(rt: &HostRuntime, name: &str, bytes: &[u8]) -> Result<(), Fault> {
+    let beside = write_beside(rt, name, bytes)?;
+    let named = fs::hard_link(rt, beside.as_str(), name);
+    let left = fs::remove_file(rt, beside.as_str());
+    match named {
+        Ok(()) if left.is_ok() => sync_folder(rt, name),
+        Err(why) if why.kind() == io::ErrorKind::AlreadyExists => Err(Fault::Exists),
+        _ => Err(Fault::File),
+    }
 }
 
 /// Replaces a file whole: by a new one beside it, which then takes its name. Until then it is as it was.
 pub(crate) fn replace_file(rt: &HostRuntime, name: &str, bytes: &[u8]) -> Result<(), Fault> {
-    let Ok(beside) = format!(in rt.alloc(); "{name}.new") else {
-        return Err(Fault::Memory);
-    };
-    let Ok(file) = open_to_write(rt, beside.as_str(), false) else {
-        return Err(Fault::File);
-    };
-    fill(file, bytes)?;
+    let beside = write_beside(rt, name, bytes)?;
     if fs::rename(rt, beside.as_str(), name).is_err() {
         return Err(Fault::File);
     }

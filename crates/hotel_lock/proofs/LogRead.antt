@@ -1,11 +1,10 @@
 -- The text of a log, read as an audit file.
-use Rattle.std.proofs.Common.{◌≡◌, ◌∙◌, ◌<◌, ℕ, List, [], ◌∷◌, ◌++◌, All, Some, Ok}
+use Rattle.std.proofs.Common.{◌≡◌, ◌∙◌, ◌<◌, ℕ, List, [], ◌∷◌, ◌++◌, All, Some, Ok, Err}
 use Rattle.std.proofs.Common.{arith, length, map, refl, sym, ap}
 use Rattle.std.proofs.lemmas.Bool.{le-ltb}
 use Rattle.std.proofs.lemmas.List.Elements.{All-head, All-tail}
-use Rattle.std.specs.Fmt.{decimal}
 use Rattle.std.specs.List.{concat}
-use Rattle.csv.proofs.RoundTrip.{read-write, rows_text}
+use Rattle.csv.proofs.{OnLiterals.csv_on_literals, RoundTrip.read-write, RoundTrip.rows_text}
 use Rattle.csv.specs.{Machine.Read, Machine.next_record, Reading.AreRecords, Reading.Reached, Reading.default_config}
 use Rattle.csv.specs.{Reading.records, Reading.strip_bom, Writing.default_writer, Writing.fields_text}
 use Rattle.csv.specs.{Writing.is_blank, Writing.row_text}
@@ -16,11 +15,11 @@ use Rattle.keycard_rules.specs.declared.note.Act.{Act}
 use Rattle.keycard_rules.specs.declared.note.Act.TheVariants as act
 use Rattle.keycard_rules.specs.declared.numbers.TheConstants.{LAST_FIT, LAST_NUMBER, LAST_ROOM}
 use Rattle.keycard_rules.proofs.NumeralLemmas.{numeral-fixed_text}
-use Rattle.hotel_nights.specs.Moments.{moment_of, moment_text}
 use Rattle.hotel_nights.proofs.MomentLemmas.{read_moment-text}
 use Rattle.hotel_lock.specs.NoteLine.{audit_header, note_fields, note_line, notes_text}
 use Rattle.hotel_lock.specs.{declared.header.Columns.TheVariants.WithFit, Header.column_names, Line.read_line}
-use Rattle.hotel_lock.specs.AuditFile.{file_records, lines_of}
+use Rattle.hotel_lock.specs.AuditFile.{audit_lines, file_records, lines_of}
+use Rattle.hotel_lock.specs.declared.audit_file.AuditFault.TheVariants.{NoHeader}
 use Rattle.hotel_lock.specs.declared.audit_file.TheConstants.{AUDIT_BYTES}
 use Rattle.hotel_lock.specs.declared.line.Line.TheVariants as line
 use Rattle.hotel_lock.specs.ReadBack.{IsAct, IsNote, NotesReadBack}
@@ -133,3 +132,10 @@ pub notes_read_back : NotesReadBack
 notes_read_back taken all few =
     rw (le-ltb AUDIT_BYTES (length (notes_text taken)) few)
     (ap lines_of (list_read taken) ∙ ap Ok (notes_read taken all))
+
+-- ---- what isn't there
+
+-- A file of no byte has no header.
+pub no_bytes : audit_lines [] ≡ Err NoHeader
+unfolding csv_on_literals
+no_bytes = refl

@@ -41,8 +41,8 @@ one_more held note =
     ap (λ l. lines_text held ++ l) (sym (append-nil (note_line note))) ∙ sym (lines_of_both held (note ∷ []))
 
 pub line_added : (old now new : Option (List ℕ)) (gathered left : List ℕ) (notes : List Note) (note : Note)
-    (done : Unit {0}) → Stands old now gathered notes → GathersOrEnds (gathered ++ note_line note) now new left (Ok done)
-    → Stands old new left (notes ++ (note ∷ []))
+    (done : Unit {0}) → Stands old now gathered notes
+    → GathersOrEnds (gathered ++ note_line note) now new left (Ok done) → Stands old new left (notes ++ (note ∷ []))
 line_added old now new gathered left notes note done (sent, held, all, written, same) (inl (kept, is)) = (
   sent,
   held ++ (note ∷ []),

@@ -5,7 +5,7 @@ use Rattle.std.proofs.lemmas.Bool.{le-leb}
 use Rattle.std.proofs.lemmas.Fmt.{decimal_by_steps, length-decimal-le}
 use Rattle.std.proofs.lemmas.List.Elements.{All-cons, All-nil, All-push}
 use Rattle.std.specs.Fmt.{decimal}
-use Rattle.keycard_rules.specs.Numerals.{digit_value, is_numeral, number_of, number_up_to}
+use Rattle.keycard_rules.specs.Numerals.{digit_value, number_of, number_up_to}
 use Rattle.keycard_rules.specs.Numbers.{IsNumberUpTo}
 use Rattle.keycard_rules.proofs.NumeralLemmas.{is_numeral-true, number_of-push}
 

@@ -1,5 +1,5 @@
 //! The line of a note, as text of a CSV file, and the header of a file of such lines.
-ghost use Rattle.std.specs.Prelude.{◌≡◌, [], ◌∷◌, ◌++◌, OnOk};
+ghost use Rattle.std.specs.Prelude.{◌≡◌, [], ◌∷◌, ◌++◌, OnErr, OnOk};
 ghost use Rattle.std.specs.Fmt.{decimal};
 ghost use Rattle.keycard_rules.specs.Numerals.{code_text};
 ghost use Rattle.hotel_nights.specs.Moments.{moment_of, moment_text};
@@ -25,9 +25,10 @@ fn push_fields(
     old: Code,
     new: Code,
 ) -> Result<(), Memory>
-    ensures { OnOk result (lines.new ≡ lines.old ++ line_of (
+    ensures ok { OnOk result (lines.new ≡ lines.old ++ line_of (
         decimal note.now.room ∷ decimal note.now.fit ∷ decimal note.now.count ∷ kind.now ∷ card.now
         ∷ code_text old ∷ code_text new ∷ moment_text (moment_of note.now) ∷ [])) }
+    ensures err { OnErr result (lines.new ≡ []) }
 {
     let mut room = itoa::Buffer::new();
     let mut fit = itoa::Buffer::new();
@@ -48,9 +49,10 @@ fn push_fields(
 }
 
 impl Gathered {
-    /// Puts the line of a note behind the others.
+    /// Puts the line of a note behind the others. Where memory is refused, none is left.
     pub fn push_note(&mut self, note: &LockNote) -> Result<(), Memory>
-        ensures { OnOk result (self.new ≡ self.old ++ note_line note.now) }
+        ensures ok { OnOk result (self.new ≡ self.old ++ note_line note.now) }
+        ensures err { OnErr result (self.new ≡ []) }
     {
         let mut buffer = itoa::Buffer::new();
         match note.act {

@@ -1,5 +1,5 @@
 -- A scene of a building: lines over an empty desk, and what holds where they are played.
-use Rattle.std.specs.Prelude.{ℕ, ◌≡◌, Bool, List, [], ◌∷◌, Option, Some, None, is_some, length, take, drop}
+use Rattle.std.specs.Prelude.{ℕ, ◌≡◌, Bool, List, [], ◌∷◌, ◌++◌, Option, Some, None, is_some, length, take, drop}
 use Rattle.keycard_rules.specs.declared.card.Card.{Card}
 use Rattle.keycard_rules.specs.declared.draw.TheConstants.{MOST_WORDS}
 use Rattle.keycard_rules.specs.Note.{Note}
@@ -18,8 +18,10 @@ use Rattle.hotel_model.specs.Answer.{answer_to}
 use Rattle.hotel_model.specs.Scenes.Words.{M}
 use Rattle.hotel_model.specs.Scenes.Lines.{source}
 use Rattle.hotel_lock.specs.Door.{enters}
-use Rattle.hotel_building.specs.Building.{Accepted, Shown, GoesOut, SlipsOut, SetTo, Told, Building, opened, ◌▸◌}
-use Rattle.hotel_building.specs.Building.{Door, door, desk, Reachable}
+use Rattle.hotel_building.specs.Building.{Accepted, Shown, GoesOut, SlipsOut, SetTo, Told, Fails, Forged, Building}
+use Rattle.hotel_building.specs.Building.{opened, ◌▸◌, Door, door, desk, Reachable}
+use Rattle.hotel_building.specs.Promises.{Promised}
+use Rattle.hotel_building.specs.Faults.{is_bad, ReachableBut}
 
 infix 70 ◌⇒◌
 -- A line of a scene.
@@ -40,6 +42,12 @@ pub data Line : Type 0 where
   Says : (room code : ℕ) → List ℕ → List ℕ → Bool → Line
   -- what is so at a door: the code that the lock holds, how many notes the desk has not heard, and the cards inside
   IsSo : (room code unread : ℕ) → List ℕ → Line
+  -- a fault: a door is then so, whatever its lock did, and whichever cards came in
+  Breaks : (room : ℕ) → Door → Line
+  -- a fault: the desk takes a note that no lock made
+  Forges : Note → Line
+  -- whether a room is bad
+  IsBad : (room : ℕ) → Bool → Line
 
 -- what playing lines comes to: the same lines as they come out, and the building at their end
 pub record Played : Type 0 where
@@ -86,6 +94,9 @@ play b ahead (Tells room _ ∷ lines) =
     first_line (Tells room (reply_to (desk b) (door b room).unread)) (play (b ▸ Told room) ahead lines)
 play b ahead (Says room _ _ _ _ ∷ lines) = first_line (says b room) (play b ahead lines)
 play b ahead (IsSo room _ _ _ ∷ lines) = first_line (is_so (door b room) room) (play b ahead lines)
+play b ahead (Breaks room after ∷ lines) = first_line (Breaks room after) (play (b ▸ Fails room after) ahead lines)
+play b ahead (Forges note ∷ lines) = first_line (Forges note) (play (b ▸ Forged note) ahead lines)
+play b ahead (IsBad room _ ∷ lines) = first_line (IsBad room (is_bad b room)) (play b ahead lines)
 
 -- the lines played over an empty desk, where the source gives these codes and then the last one for ever
 abbrev pub played : List ℕ → ℕ → List Line → Played
@@ -94,3 +105,15 @@ played codes last lines = play (opened no_rows) (source codes last) lines
 -- The scene holds: the lines come out so, and the building at their end can be.
 abbrev pub Holds : List ℕ → ℕ → List Line → Type 0
 Holds codes last lines = ((played codes last lines).lines ≡ lines) × Reachable (played codes last lines).building
+
+-- The scene of a fault holds: the lines come out so, and but for its faults the building at their end can be.
+abbrev pub HoldsBut : List ℕ → ℕ → List Line → Type 0
+HoldsBut codes last lines =
+    ((played codes last lines).lines ≡ lines) × ReachableBut (played codes last lines).building
+
+-- A premise is needed. What happened before can be; after a step without the premise what is promised doesn't hold; and
+-- all lines come out so.
+abbrev pub IsNeeded : List ℕ → ℕ → List Line → List Line → List Line → Type 0
+IsNeeded codes last before step later = Reachable (played codes last before).building
+    × (Promised (played codes last (before ++ step)).building → ⊥)
+    × ((played codes last (before ++ step ++ later)).lines ≡ before ++ step ++ later)

@@ -3,7 +3,7 @@ use Rattle.std.proofs.Common.{refl, ap, inl}
 use Rattle.std.specs.Prelude.{zip}
 use Rattle.std.proofs.lemmas.List.{take_all}
 use Rattle.keycard_rules.specs.Calls.{Passes}
-use Rattle.hotel_core.proofs.Names.{take_more}
+use Rattle.hotel_books.proofs.Names.{take_more}
 use Rattle.hotel_audit.specs.{declared.answer.LineAnswer.LineAnswer, declared.imports.ImportFault.ImportFault}
 use Rattle.hotel_audit.specs.Import.{AreAnswered, Imports, LineImported, has_taken, stopped}
 use Rattle.hotel_lock.specs.declared.audit_file.AuditFault.TheVariants as fault

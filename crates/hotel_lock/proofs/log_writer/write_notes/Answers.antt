@@ -1,10 +1,10 @@
-use Rattle.std.proofs.Common.{rules, ◌≡◌, ◌∙◌, ◌∷◌, ◌++◌, ◌+◌, Err, ap, drop, subst, sym, take, take-append-drop}
+use Rattle.std.proofs.Common.{rules, ◌≡◌, ◌∙◌, ◌∷◌, ◌++◌, ◌+◌, Err, ap, drop, sym, take, take-append-drop}
 use Rattle.std.proofs.lemmas.List.{take_all}
 use Rattle.hotel_streams.proofs.CallsLemmas.{none_forgotten, then_none_forgotten}
 use Rattle.hotel_lock.specs.LogWriter.{LogEnds}
 use Rattle.hotel_lock.specs.declared.log_writer.LogFault.TheVariants as fault
 use Rattle.hotel_lock.proofs.Logs.{drop_one, take_one}
-use Rattle.hotel_lock.proofs.LogWritten.{Stands, begun, header_failed, line_added, line_failed, rest_ended}
+use Rattle.hotel_lock.proofs.LogWritten.{begun, header_failed, line_added, line_failed, rest_ended}
 use Rattle.hotel_lock.proofs.log_writer.write_notes.Goals as goal
 
 pub returns-in_err-write_bytes-clause-log : goal.returns-in_err-write_bytes-clause-log
