@@ -9,8 +9,8 @@
 //!         hotel_program hotel_tables
 //!
 //! - keycard_rules, hotel_nights: values. hotel_core: commands and replies, and books in memory, `ListBooks`.
-//! - hotel_streams: readers and writers for tests. hotel_lists: the lists. hotel_audit: the import of audit files, whose
-//!   lines hotel_lock reads.
+//! - hotel_streams: readers and writers for tests. hotel_lists: the lists. hotel_audit: the import of audit files; their
+//!   lines are read by hotel_lock.
 //! - hotel_http: one request. hotel_program: scripts, a command line's arguments, connections. (The crate hotel_desk is
 //!   the program, and no crate can depend on a program.)
 //! - hotel_tables: books in a database. Whoever makes its connection names sqlite too; the tests here also name

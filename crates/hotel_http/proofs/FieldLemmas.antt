@@ -1,7 +1,7 @@
 -- Field lines that are looked at one after the other.
 use Rattle.std.proofs.Common.{◌≡◌, ℕ, ◌+◌, ◌*◌, ◌-◌, ◌<◌, ◌≤◌, List, [], ◌∷◌, ◌++◌, length, take, take_all, map, get_or}
 use Rattle.std.proofs.Common.{min, sym, ap, ◌∙◌, subst, refl, arith, cond, Bool, true, false, append-nil, ◌||◌, filter}
-use Rattle.hotel_core.proofs.Names.{take_more, list_any}
+use Rattle.hotel_books.proofs.Names.{take_more, list_any}
 use Rattle.std.proofs.lemmas.List.{map-append}
 use Rattle.std.proofs.lemmas.List.Elements.{filter-append}
 use Rattle.std.proofs.lemmas.List.Folds.{list_any_at}

@@ -2,9 +2,9 @@
 use Rattle.std.proofs.Common.{◌≡◌, ◌∙◌, ℕ, List, [], ◌∷◌, refl, sym, ap, subst, inl, inr}
 use Rattle.std.proofs.Common.{take}
 use Rattle.std.proofs.Common.{Option, Some, None, IfSome, Result, Ok, Err, Bool, false, OnOk, OnErr}
-use Rattle.hotel_core.proofs.{Names.Stream, Names.failure_in, Names.History}
+use Rattle.hotel_books.proofs.Names.{Stream, failure_in, History}
 use Rattle.keycard_rules.specs.{declared.kept.Kept.Ghosts as KeptOf}
-use Rattle.hotel_core.specs.declared.books.Books.{Ghosts as BooksOf}
+use Rattle.hotel_books.specs.declared.books.Books.{Ghosts as BooksOf}
 use Rattle.keycard_rules.specs.declared.issued.LookFault.TheVariants as look
 use Rattle.keycard_rules.specs.Calls.{LeaveAll, NoCallFailed, Told}
 use Rattle.keycard_rules.proofs.CallsTogether.{together}

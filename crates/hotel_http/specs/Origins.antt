@@ -3,7 +3,7 @@ use Rattle.std.specs.Prelude.{ℕ, Bool, true, false, not, ◌&&◌, ◌||◌, L
 use Rattle.std.specs.Prelude.{if◌then◌else◌, slice_index, Result, Ok, Err}
 use Rattle.std.specs.List.{list_all, list_any}
 use Rattle.std.specs.Char.{is_ascii_digit}
-use Rattle.std.specs.Str.{str_eq_ignore_ascii_case}
+use Rattle.std.specs.Str.{bytes_eq, str_eq_ignore_ascii_case}
 use Rattle.hotel_http.specs.{Fields.Pair, Fields.is_named, Fields.values_named}
 use Rattle.hotel_http.specs.{declared.origins.Origins.Origins, declared.rejection.Rejection.Rejection}
 use Rattle.hotel_http.specs.declared.origins.Origins.TheVariants.{Any, Local}
@@ -27,10 +27,15 @@ has_name name host = str_eq_ignore_ascii_case (take (length name) host) name && 
 abbrev pub is_local : List ℕ → Bool
 is_local host = has_name (codes "localhost") host || has_name (codes "127.0.0.1") host
 
--- The field shows that the request comes from a web page: an Origin, or a Host that isn't this computer, as a page has
--- whose site's name leads here.
+-- a browser says of a request that no page of another site sends it: the desk's own does, or the user
+abbrev pub is_own_fetch : List ℕ → Bool
+is_own_fetch site = bytes_eq site (codes "same-origin") || bytes_eq site (codes "none")
+
+-- The field shows that the request comes from a web page: an Origin, a Host that isn't this computer, as a page has
+-- whose site's name leads here, or a Sec-Fetch-Site that says so.
 abbrev pub is_foreign : Pair → Bool
 is_foreign field = is_named (codes "origin") field || (is_named (codes "host") field && not (is_local field.1))
+    || (is_named (codes "sec-fetch-site") field && not (is_own_fetch field.1))
 
 -- a request with these fields is refused for where it comes from
 unfoldable pub is_refused : Origins → List Pair → Bool

@@ -4,10 +4,11 @@ use Rattle.std.specs.Prelude.{None, IfSome, Result, Ok, Err, codes}
 use Rattle.std.specs.{Io.KnownBytes.Appends, Option.unwrap_or}
 use Rattle.rand_core.specs.Stream.{Stream}
 use Rattle.keycard_rules.specs.{declared.issued.LookFault.LookFault, declared.kept.Kept.Ghosts as KeptOf}
-use Rattle.hotel_core.specs.declared.books.Books.{Ghosts as BooksOf}
+use Rattle.hotel_books.specs.declared.books.Books.{Ghosts as BooksOf}
 use Rattle.keycard_rules.specs.Calls.{NoCallFailed, Told}
 use Rattle.hotel_model.specs.{declared.reply.Reply.Reply, declared.reply.Refusal.Refusal, History.History}
-use Rattle.hotel_core.specs.{Books.Failures.failure_in, Books.Failures.refusal_of, Books.Happens.HappensBy}
+use Rattle.hotel_books.specs.Books.Failures.{failure_in, refusal_of}
+use Rattle.hotel_core.specs.Books.Happens.{HappensBy}
 use Rattle.hotel_model.specs.declared.reply.Reply.TheVariants as reply
 use Rattle.hotel_model.specs.declared.reply.Refusal.TheVariants as refusal
 use Rattle.hotel_model.specs.Run.{Steps, Runs}

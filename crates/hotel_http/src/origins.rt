@@ -1,4 +1,4 @@
-//! Where a request comes from: its Host and Origin fields.
+//! Where a request comes from: its Host, Origin and Sec-Fetch-Site fields.
 
 ghost use Rattle.std.specs.Prelude.{◌≡◌, List, ℕ, length, map, All};
 ghost use Rattle.std.specs.{Char.is_ascii_digit, List.list_all, List.list_any};
@@ -16,8 +16,9 @@ pub enum Origins {
     /// All.
     Any,
     /// Those that don't show a web page: without an `Origin`, which browsers add to a page's POST (Fetch, "append a
-    /// request `Origin` header"), and to no `Host` but `localhost` and `127.0.0.1`, with a port or without. So a page's
-    /// GET to these names is among them.
+    /// request `Origin` header"), to no `Host` but `localhost` and `127.0.0.1`, with a port or without, and with no
+    /// `Sec-Fetch-Site` but `same-origin` and `none` (Fetch Metadata), in just these letters. So the GET of a page in a
+    /// browser that sends no `Sec-Fetch-Site` is among them.
     Local,
 }
 
@@ -61,14 +62,23 @@ fn is_local(host: &[u8]) -> bool
     has_name(b"localhost", host) || has_name(b"127.0.0.1", host)
 }
 
+/// Whether a browser says of a request that no page of another site sends it: the desk's own does, or the user.
+fn is_own_fetch(site: &[u8]) -> bool
+    ensures { result ≡ spec.is_own_fetch site.now }
+{
+    site == b"same-origin".as_slice() || site == b"none".as_slice()
+}
+
 /// Whether a field shows that the request comes from a web page.
 fn is_foreign(bytes: &[u8], header: &HeaderSpan) -> bool
     requires { IsHeaderWithin (length bytes.now) header.now }
     ensures { result ≡ spec.is_foreign (header_bytes bytes.now header.now) }
 {
     let name = header.name.of(bytes);
+    let value = header.value.of(bytes);
     is_same_text(name, b"origin")
-        || is_same_text(name, b"host") && !is_local(header.value.of(bytes))
+        || is_same_text(name, b"host") && !is_local(value)
+        || is_same_text(name, b"sec-fetch-site") && !is_own_fetch(value)
 }
 
 /// Whether a request is refused for where it comes from.

@@ -1,7 +1,7 @@
 -- A kind is free for some nights as often as bookings of it are accepted.
 use Rattle.std.proofs.Common.{ℕ, zero, suc, ◌≡◌, ◌≤◌, ◌<◌, ◌+◌, ◌-◌, ◌↔◌, Bool, true, false, cond, Option, Some, None}
 use Rattle.std.proofs.Common.{List, [], ◌∷◌, refl, ap, sym, ◌∙◌, subst, arith, ◌||◌, ◌&&◌, not, nat_le, nat_lt, is_some}
-use Rattle.std.proofs.Common.{option_map, bytes_eq, length, ◌==◌}
+use Rattle.std.proofs.Common.{option_map}
 use Rattle.std.proofs.lemmas.Bool.{leb-false}
 use Rattle.hotel_nights.specs.declared.stay.Stay.{Stay}
 use Rattle.hotel_nights.specs.declared.stay.StayState.TheVariants as state
@@ -11,13 +11,13 @@ use Rattle.hotel_model.specs.declared.reply.Refusal.TheVariants.{PastArrival, Pa
 use Rattle.hotel_model.specs.{Words.greatest, Lists.are_ahead, Lists.free}
 use Rattle.hotel_model.specs.FurtherLaws.{BookingsTakeOne, FreeIsKept, refuses_nights}
 use Rattle.hotel_model.proofs.Names.{nat_tests, bytes_eq-Decides, first_day, nights_taken, takes}
-use Rattle.hotel_model.proofs.Names.{list_any, NotBegun, NoKind, KindFull, NumbersUsedUp, Event, Reserved, Outcome}
+use Rattle.hotel_model.proofs.Names.{NotBegun, NoKind, KindFull, NumbersUsedUp, Event, Reserved, Outcome}
 use Rattle.hotel_model.proofs.Names.{accepted, bars, needs, unless, answer_to, said_of, History, ◌▷◌, day}
-use Rattle.hotel_model.proofs.Names.{kinds, stays, nights, rooms_of, first_full, is_begun, is_kind, next_party, Reached}
+use Rattle.hotel_model.proofs.Names.{stays, nights, rooms_of, first_full, is_begun, is_kind, next_party, Reached}
 use Rattle.hotel_model.proofs.Names.{parties_used_up}
-use Rattle.hotel_model.proofs.OfTables.Tests.{eq_from, le_tested, lt_tested, not_both, not_le}
+use Rattle.hotel_model.proofs.OfTables.Tests.{le_tested, lt_tested, not_both, not_le}
 use Rattle.hotel_model.proofs.{OfTables.StayCounts.count_inserted, OfTables.StayCounts.passed_over}
-use Rattle.hotel_model.proofs.{Invariants.Numbering.next_party_free, SoundRows.SoundDay.day_before}
+use Rattle.hotel_model.proofs.{Invariants.Numbering.next_party_free, SoundRows.SoundKinds.begun_with_kind}
 
 -- ---- the fullest of some nights
 
@@ -111,21 +111,10 @@ free_on_day (Some today) arrive nights rooms most full set same =
     (sym (λ i. early i || (late i || is_some full))) by
 free_on_day None arrive nights rooms most full set same = cc
 
--- a day is set where a kind is there
-begun_by : (o : Option ℕ) (ks : List (List ℕ)) (kind : List ℕ)
-    → (is_some o || (length ks == 0)) ≡ true → list_any (λ k. bytes_eq k kind) ks ≡ true → is_some o ≡ true
-begun_by (Some d) ks kind set there = refl
-begun_by None [] kind set there = cc
-begun_by None (k ∷ ks) kind set there =
-    let none : suc (length ks) ≡ 0 = eq_from (length (k ∷ ks)) 0 set in absurd (omega (arith, none))
-
-begun_with : (h : History) → Reached h → (kind : List ℕ) → is_kind h kind ≡ true → is_begun h ≡ true
-begun_with h ok kind there = begun_by (day h) (kinds h) kind (day_before h ok) there
-
 pub free_is_kept : FreeIsKept
 unfolding answer_to
 free_is_kept h ahead guest kind arrive n ok there one =
-    let begun = begun_with h ok kind there in
+    let begun = begun_with_kind h ok kind there in
     let full = first_full h kind arrive n in
     let event = Reserved (next_party h) guest kind arrive (arrive + n) in
     let same : refuses_nights (answer_to h ahead (command.Reserve guest kind arrive n)).reply

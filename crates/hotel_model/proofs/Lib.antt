@@ -12,3 +12,4 @@ pub mod Reissued
 pub mod FreeNights
 pub mod InsidersListed
 pub mod CardsShown
+pub mod CardsGrow

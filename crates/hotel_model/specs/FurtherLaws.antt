@@ -1,16 +1,9 @@
 -- What is proved beside: that what is refused changes nothing, what a reissue leaves as it is, which bookings are kept,
--- where an issued code, a card and a card inside are listed, and the limits.
+-- where an issued code, a card and a card inside are listed, and that a party's cards only grow.
 use Rattle.std.specs.Prelude.{ℕ, ◌≡◌, ◌≤◌, ◌<◌, ◌+◌, ◌↔◌, Bool, true, false, List, ◌∷◌, ◌++◌, length, map, Some}
 use Rattle.std.specs.Prelude.{is_none}
 use Rattle.rand_core.specs.Stream.{Stream}
 use Rattle.keycard_rules.specs.declared.card.Card.{Card}
-use Rattle.keycard_rules.specs.declared.code.TheConstants.{CODES}
-use Rattle.keycard_rules.specs.declared.draw.TheConstants.{MOST_WORDS}
-use Rattle.keycard_rules.specs.declared.note.TheConstants.{LAST_DAY, LAST_SECOND}
-use Rattle.keycard_rules.specs.declared.numbers.TheConstants.{LAST_FIT, LAST_NUMBER, LAST_ROOM}
-use Rattle.hotel_nights.specs.declared.guest.TheConstants.{GUEST_BYTES}
-use Rattle.hotel_nights.specs.declared.kind.TheConstants.{KIND_BYTES}
-use Rattle.hotel_nights.specs.declared.nights.TheConstants.{MOST_NIGHTS}
 use Rattle.hotel_nights.specs.declared.stay.Stay.{Stay}
 use Rattle.hotel_model.specs.declared.rows.CodeRow.{CodeRow}
 use Rattle.hotel_model.specs.declared.command.Command.{Command}
@@ -28,7 +21,7 @@ use Rattle.hotel_model.specs.Cases.{is_kind}
 use Rattle.hotel_model.specs.Answer.{answer_to}
 use Rattle.hotel_model.specs.Run.{Reached, Steps}
 use Rattle.hotel_model.specs.Cards.{cards}
-use Rattle.hotel_model.specs.Lists.{cards_inside, free}
+use Rattle.hotel_model.specs.Lists.{cards_given, cards_inside, free}
 
 -- the reply tells of no change: the command was refused or failed, or the note was seen before
 abbrev pub tells_no_change : Reply → Bool
@@ -89,15 +82,8 @@ abbrev pub CardsAreShown : Type 0
 CardsAreShown = (h : History) → Reached h → (number : ℕ) (card : Card) → at_number (cards h) number ≡ Some card
     → (stay : Stay) × (at_number (stays h) card.party ≡ Some stay)
 
--- Each limit is its number.
-pub record LimitsAre : Type 0 where
-  pub room : LAST_ROOM ≡ 9999
-  pub fit : LAST_FIT ≡ 99
-  pub number : LAST_NUMBER ≡ 9999999
-  pub code : CODES ≡ 281474976710656
-  pub words : MOST_WORDS ≡ 64
-  pub day : LAST_DAY ≡ 36524
-  pub second : LAST_SECOND ≡ 86399
-  pub nights : MOST_NIGHTS ≡ 90
-  pub kind : KIND_BYTES ≡ 8
-  pub guest : GUEST_BYTES ≡ 60
+-- With one more event the cards that a party was given are those before it, in their order, and behind them at most one
+-- more.
+abbrev pub CardsOnlyGrow : Type 0
+CardsOnlyGrow = (h : History) (event : Event) → Reached (h ▷ event) → (party : ℕ)
+    → (new : List Card) × (length new ≤ 1) × (cards_given (h ▷ event) party ≡ cards_given h party ++ new)

@@ -1,11 +1,11 @@
 //! Laws of the model, which make no call: what a caller may rest on beside the contracts of the calls.
 ghost use Rattle.hotel_model.specs.{Headline.Assured, History.History};
-ghost use Rattle.hotel_model.specs.FurtherLaws.{BookingsTakeOne, CodesAreListed, FreeIsKept, LimitsAre, ReissuesKeep};
+ghost use Rattle.hotel_model.specs.FurtherLaws.{BookingsTakeOne, CodesAreListed, FreeIsKept, ReissuesKeep};
 ghost use Rattle.hotel_model.specs.FurtherLaws.{RefusalsHaveNoEvent, RefusalsKeep};
 ghost use Rattle.hotel_model.specs.{Laws.RunsAgree, Laws.RunsCompute, Laws.RunsJoin, Laws.RunsReach, Laws.StartsStand};
-ghost use Rattle.hotel_model.specs.{FurtherLaws.CardsAreShown, FurtherLaws.InsidersAreListed, Run.Reached};
-ghost use Rattle.hotel_model.specs.{Sound.RulesAreTested, Refinement.Lift.AnswersLift, Refinement.Lift.ChangesFit};
-ghost use Rattle.hotel_model.specs.{Refinement.ListsLift.ListsLift};
+ghost use Rattle.hotel_model.specs.FurtherLaws.{CardsAreShown, CardsOnlyGrow, InsidersAreListed};
+ghost use Rattle.hotel_model.specs.{Run.Reached, Sound.RulesAreTested, Refinement.Lift.AnswersLift};
+ghost use Rattle.hotel_model.specs.{Refinement.Lift.ChangesFit, Refinement.ListsLift.ListsLift};
 
 /// The headline, and what is assured beside it, hold of each history that can be reached.
 pub fn assured()
@@ -81,7 +81,8 @@ pub fn cards_are_shown()
     ensures { CardsAreShown }
 {}
 
-/// Rooms, locks, numbers, codes, draws, days, seconds, nights, kinds and guests have the limits that they should have.
-pub fn limits_are()
-    ensures { LimitsAre }
+/// No card that a party was given is taken back: with one more event its list is the one before it, and at most one
+/// card more.
+pub fn cards_only_grow()
+    ensures { CardsOnlyGrow }
 {}

@@ -14,6 +14,7 @@ mod day;
 mod full_night;
 mod guest;
 mod kind;
+mod laws;
 mod moment;
 mod nights;
 mod stay;

@@ -4,7 +4,7 @@ use Rattle.std.proofs.Common.{Option, Some, None, Result, Ok, Err, true, false, 
 use Rattle.std.specs.declared.io.Error.{Error}
 use Rattle.rand_core.specs.Stream.{Stream}
 use Rattle.keycard_rules.specs.{declared.kept.Kept.Ghosts as KeptOf, Leaves.Leaves, Calls.Passes}
-use Rattle.hotel_core.specs.declared.books.Books.{Ghosts as BooksOf}
+use Rattle.hotel_books.specs.declared.books.Books.{Ghosts as BooksOf}
 use Rattle.keycard_rules.proofs.CallsTogether.{passes_join, together}
 use Rattle.hotel_model.proofs.{Invariants.Assurance.assured, LeadsOn.leads_as}
 use Rattle.hotel_model.specs.History.{History}

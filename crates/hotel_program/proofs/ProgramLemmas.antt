@@ -4,7 +4,7 @@ use Rattle.std.proofs.Common.{take, Option, Result, Ok, Err, refl, sym, subst, a
 use Rattle.std.specs.Prelude.{⊤}
 use Rattle.rand_core.specs.Stream.{Stream}
 use Rattle.keycard_rules.specs.{declared.kept.Kept.Ghosts as KeptOf, Rise.counted_on, Rise.times}
-use Rattle.hotel_core.specs.declared.books.Books.{Ghosts as BooksOf}
+use Rattle.hotel_books.specs.declared.books.Books.{Ghosts as BooksOf}
 use Rattle.keycard_rules.specs.declared.issued.LookFault.TheVariants as look
 use Rattle.keycard_rules.proofs.CallsTogether.{together}
 use Rattle.keycard_rules.specs.Calls.{Told}

@@ -6,10 +6,10 @@ use Rattle.std.specs.Io.KnownBytes.{Appends}
 use Rattle.std.proofs.KnownBytes.{Appends-trans, Appends-nil}
 use Rattle.rand_core.specs.Stream.{Stream}
 use Rattle.keycard_rules.specs.{declared.kept.Kept.Ghosts as KeptOf, Since.Since}
-use Rattle.hotel_core.specs.declared.books.Books.{Ghosts as BooksOf}
+use Rattle.hotel_books.specs.declared.books.Books.{Ghosts as BooksOf}
 use Rattle.keycard_rules.specs.Calls.{BeganShut, Passes, last_answers}
 use Rattle.keycard_rules.proofs.{CallsTogether.shut_fail, CallsTogether.together, Sinces.since_refl, Sinces.since_then}
-use Rattle.hotel_core.proofs.Names.{false≢true, failure_in}
+use Rattle.hotel_books.proofs.Names.{false≢true, failure_in}
 use Rattle.hotel_core.proofs.OfCode.Counting.{untold}
 use Rattle.hotel_asks.specs.declared.asked.Ask.{Ask}
 use Rattle.hotel_asks.specs.declared.asked.Ask.TheVariants as ask

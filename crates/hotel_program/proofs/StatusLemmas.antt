@@ -4,8 +4,8 @@ use Rattle.std.proofs.Common.{arith}
 use Rattle.rand_core.specs.Stream.{Stream}
 use Rattle.rand_chacha.specs.ChaCha.{ChaCha, of_seed}
 use Rattle.keycard_rules.specs.declared.kept.Kept.{Ghosts as KeptOf}
-use Rattle.hotel_core.specs.declared.books.Books.{Ghosts as BooksOf}
-use Rattle.hotel_core.specs.Memory.{Listed}
+use Rattle.hotel_books.specs.declared.books.Books.{Ghosts as BooksOf}
+use Rattle.hotel_memory.specs.Tables.{Listed}
 use Rattle.hotel_model.specs.Rows.{no_rows}
 use Rattle.hotel_model.specs.declared.reply.Refusal.{Refusal}
 use Rattle.hotel_model.specs.declared.reply.Refusal.TheVariants as refusal

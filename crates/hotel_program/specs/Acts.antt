@@ -4,7 +4,7 @@ use Rattle.std.specs.Fmt.{decimal}
 use Rattle.std.specs.Io.KnownBytes.{Appends}
 use Rattle.rand_core.specs.Stream.{Stream}
 use Rattle.keycard_rules.specs.declared.kept.Kept.{Ghosts as KeptOf}
-use Rattle.hotel_core.specs.declared.books.Books.{Ghosts as BooksOf}
+use Rattle.hotel_books.specs.declared.books.Books.{Ghosts as BooksOf}
 use Rattle.hotel_core.specs.Books.Stepped.{Stepped}
 use Rattle.hotel_model.specs.declared.command.Command.{Command}
 use Rattle.hotel_model.specs.declared.reply.Reply.{Reply}

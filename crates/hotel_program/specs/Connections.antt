@@ -4,7 +4,7 @@ use Rattle.std.specs.Prelude.{Ok, Err, IfOk, IfSome}
 use Rattle.std.specs.declared.io.Error.{Error}
 use Rattle.rand_core.specs.Stream.{Stream}
 use Rattle.keycard_rules.specs.{declared.kept.Kept.Ghosts as KeptOf, Calls.LeaveAll, Calls.Passes}
-use Rattle.hotel_core.specs.declared.books.Books.{Ghosts as BooksOf}
+use Rattle.hotel_books.specs.declared.books.Books.{Ghosts as BooksOf}
 use Rattle.hotel_model.specs.History.{History}
 use Rattle.hotel_http.specs.declared.origins.Origins.TheVariants.{Local}
 use Rattle.hotel_http.specs.declared.serve.Served.{Served}

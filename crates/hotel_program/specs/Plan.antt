@@ -5,8 +5,8 @@ use Rattle.std.specs.Io.KnownBytes.{Appends}
 use Rattle.clap.specs.Words.{Text, fault_of, first_of, matches_of, subcommand_of}
 use Rattle.rand_chacha.specs.ChaCha.{ChaCha, of_seed}
 use Rattle.keycard_rules.specs.declared.kept.Kept.{Ghosts as KeptOf}
-use Rattle.hotel_core.specs.declared.books.Books.{Ghosts as BooksOf}
-use Rattle.hotel_core.specs.Memory.{Listed}
+use Rattle.hotel_books.specs.declared.books.Books.{Ghosts as BooksOf}
+use Rattle.hotel_memory.specs.Tables.{Listed}
 use Rattle.hotel_model.specs.Rows.{no_rows}
 use Rattle.hotel_streams.specs.Bytes.{AppendsPrefix}
 use Rattle.hotel_rows.specs.declared.open_fault.FileFault.{FileFault}

@@ -127,10 +127,57 @@ pub const UNREAD_LISTS: &[Step] = &[
     Step::List(b"business-day", b"day\n2031-05-02\n", 0),
 ];
 
+/// The room's second lock, and another room; a note that was told before.
+pub const A_SECOND_LOCK: &[Step] = &[
+    Step::Line(b"left 101 2 1 a0 a1 2031-05-02T16:00:00", b"taken\n"),
+    Step::Line(
+        b"locks",
+        b"room,fit,count,at\n101,1,2,2031-05-02T16:00:00\n",
+    ),
+    Step::Line(b"refit 101", b"lock 2 code 0000000000a2\n"),
+    Step::Line(b"locks", b"room,fit,count,at\n101,2,0,\n"),
+    Step::Line(b"reserve DBL 2031-05-02 1 Bo", b"party 2\n"),
+    Step::Line(
+        b"check-in 2 101",
+        b"card 2 party 2 old 0000000000a2 new 0000000000a3\n",
+    ),
+    Step::Line(
+        b"spare 2",
+        b"card 3 party 2 old 0000000000a2 new 0000000000a3\n",
+    ),
+    Step::Line(b"entered 101/2 1 3 a2 a3 2031-05-02T17:00:00", b"taken\n"),
+    Step::Line(b"left 101 2 1 a0 a1 2031-05-02T16:00:00", b"seen\n"),
+    Step::Line(b"add-room 102 SGL", b"room code 0000000000b0\n"),
+    Step::Line(
+        b"locks",
+        b"room,fit,count,at\n101,2,1,2031-05-02T17:00:00\n102,1,0,\n",
+    ),
+    Step::Line(b"cards 1", b"card,old,new\n1,0000000000a0,0000000000a1\n"),
+    Step::Line(
+        b"cards 2",
+        b"card,old,new\n2,0000000000a2,0000000000a3\n3,0000000000a2,0000000000a3\n",
+    ),
+    Step::Line(
+        b"card 1",
+        b"card,party,guest,old,new\n1,1,Ann,0000000000a0,0000000000a1\n",
+    ),
+    Step::Line(
+        b"card 3",
+        b"card,party,guest,old,new\n3,2,Bo,0000000000a2,0000000000a3\n",
+    ),
+    Step::Line(b"card 4", b"card,party,guest,old,new\n"),
+];
+
 /// What a clerk asks.
 pub static OF_CLERKS: [Scenario; 1] = [Scenario {
     name: "clerk-asks",
-    codes: &[0xa0, 0xa1],
-    last: 0xa2,
-    parts: &[NOT_BEGUN, CAN_BE_BOOKED, IN_A_ROOM, UNREAD_LISTS],
+    codes: &[0xa0, 0xa1, 0xa2, 0xa3],
+    last: 0xb0,
+    parts: &[
+        NOT_BEGUN,
+        CAN_BE_BOOKED,
+        IN_A_ROOM,
+        UNREAD_LISTS,
+        A_SECOND_LOCK,
+    ],
 }];

@@ -52,8 +52,7 @@ struct Asked {
     path: &'static [u8],
     text: &'static [u8],
     /// How many calls of the books it makes: one before each row and one behind the last one, and of a room that is
-    /// looked up first. The business day is one look-up, a card is two: the card and its party's stay. For the locks
-    /// all rooms are walked over, and then looked up, each with the last note of its lock.
+    /// looked up first. The business day is one look-up, a card is two: the card and its party's stay.
     calls: u64,
     /// How many of them it makes before its header is written.
     unwritten: u64,
@@ -166,8 +165,8 @@ room,kind,party,secured,awaited
         line: b"locks",
         path: b"/locks",
         text: b"room,fit,count,at\n101,1,0,\n102,1,3,2031-05-01T17:00:00\n",
-        calls: 6,
-        unwritten: 6,
+        calls: 3,
+        unwritten: 0,
     },
 ];
 

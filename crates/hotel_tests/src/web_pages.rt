@@ -10,7 +10,7 @@ use std::test::Fail;
 
 /// The lines of a head behind its first one, and whether a page in a browser has it sent. The programs are curl,
 /// Python's http.client, Go's net/http and wrk.
-static HEADS: [(&[u8], bool); 14] = [
+static HEADS: [(&[u8], bool); 20] = [
     (
         b"Host: 127.0.0.1:18080\r\nUser-Agent: curl/8.5.0\r\nAccept: */*\r\n",
         false,
@@ -37,6 +37,12 @@ static HEADS: [(&[u8], bool); 14] = [
     (b"Host: localhos\r\n", true),
     (b"Host: localhost:80x\r\n", true),
     (b"Host: localhost :80\r\n", true),
+    (b"Host: localhost\r\nSec-Fetch-Site: none\r\n", false),
+    (b"Host: localhost\r\nsec-FETCH-site:same-origin \r\n", false),
+    (b"Host: localhost\r\nSec-Fetch-Site: cross-site\r\n", true),
+    (b"Sec-Fetch-Site: same-site\r\nHost: localhost\r\n", true),
+    (b"Host: localhost\r\nSec-Fetch-Site:\r\n", true),
+    (b"Host: localhost\r\nSec-Fetch-Site: None\r\n", true),
 ];
 
 /// A request of these parts.

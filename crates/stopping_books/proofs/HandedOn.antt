@@ -3,14 +3,14 @@ use Rattle.std.proofs.Common.{◌≡◌, Bool, true, false, List, [], ◌∷◌,
 use Rattle.std.proofs.Common.{inr, is_some, Some, refl, rules}
 use Rattle.std.proofs.lemmas.Bool.{false≢true}
 use Rattle.keycard_rules.specs.{declared.kept.Kept.Ghosts as KeptOf, Calls.Passes}
-use Rattle.hotel_core.specs.{Books.Walks.TakesPrefix, Books.Walks.Hands, Books.Walks.WalksOver, Books.Walks.failure_of}
-use Rattle.hotel_core.specs.{Rows.Rows, Refinement.Lookups.codes_in}
+use Rattle.hotel_books.specs.Books.Walks.{TakesPrefix, Hands, WalksOver, failure_of}
+use Rattle.hotel_model.specs.{Rows.Rows, Refinement.Lookups.codes_in}
 use Rattle.keycard_rules.specs.declared.issued.LookFault.{LookFault}
 use Rattle.stopping_books.specs.Stops.{counts, CountsFailure, EndsAs, MakesCall, Stopping, StopsEither}
 use Rattle.std.proofs.lemmas.List.{append-nil}
-use Rattle.hotel_core.specs.declared.books.walks.WalkFault.{WalkFault}
+use Rattle.hotel_books.specs.declared.books.walks.WalkFault.{WalkFault}
 use Rattle.stopping_books.specs.declared.stopping_walks.Passing.{Passing}
-use Rattle.hotel_core.specs.declared.books.walks.WalkFault.TheVariants as why
+use Rattle.hotel_books.specs.declared.books.walks.WalkFault.TheVariants as why
 
 -- what books say of their state, as `StoppingBooks` does
 abbrev of_stopping : KeptOf Stopping

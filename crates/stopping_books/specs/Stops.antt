@@ -4,9 +4,9 @@ use Rattle.std.specs.Prelude.{Result, Ok, Err, IfSome}
 use Rattle.keycard_rules.specs.declared.issued.LookFault.{LookFault}
 use Rattle.keycard_rules.specs.declared.issued.LookFault.TheVariants as look
 use Rattle.keycard_rules.specs.{Rise.Counts, Rise.HasRisen, Rise.NoFewer, Rise.one_of}
-use Rattle.hotel_core.specs.{declared.books.walks.WalkFault.WalkFault, Books.Walks.failure_of}
-use Rattle.hotel_core.specs.Rows.{Rows}
-use Rattle.hotel_core.specs.declared.books.walks.WalkFault.TheVariants as why
+use Rattle.hotel_books.specs.{declared.books.walks.WalkFault.WalkFault, Books.Walks.failure_of}
+use Rattle.hotel_model.specs.Rows.{Rows}
+use Rattle.hotel_books.specs.declared.books.walks.WalkFault.TheVariants as why
 use Rattle.stopping_books.specs.declared.calls.Calls.{Calls}
 
 -- the rows, the calls that were made and the one that is to fail, why it fails, and how many calls were answered Memory
@@ -33,6 +33,14 @@ pub record MakesCall (old new : Calls) (fails : Bool) : Type 0 where
 pub record IsLeft (old new : Stopping) : Type 0 where
   pub rows : new.rows ≡ old.rows
   pub calls : new.calls ≡ old.calls
+  pub cause : new.cause ≡ old.cause
+
+-- One more call was made. It fails for its cause where its number is that of the one that is to fail, whatever the
+-- books beneath would answer; the one that is to fail, and why, stay so.
+pub record IsCall {R : Type 0} (old new : Stopping) (result : Result R LookFault) : Type 0 where
+  pub next : old.calls.made < 2 ^ 64 - 1 → new.calls.made ≡ old.calls.made + 1
+  pub stops : (new.calls.made == old.calls.failing) ≡ true → result ≡ Err old.cause
+  pub same : new.calls.failing ≡ old.calls.failing
   pub cause : new.cause ≡ old.cause
 
 -- A failure that was told is counted by its cause, and no other one is.

@@ -1,9 +1,14 @@
 //! Books in memory of which one call fails.
-ghost use Rattle.std.specs.Prelude.{◌≡◌, is_err, Some, IfErr, refl};
+ghost use Rattle.std.specs.Prelude.{◌≡◌, ◌-◌, is_err, is_some, Some, IfErr, IfOk, true, false, length, not, refl};
+ghost use Rattle.std.specs.Prelude.{option_map};
 ghost use Rattle.std.proofs.Common.{ap, ◌∙◌};
-ghost use Rattle.keycard_rules.specs.Leaves.{told_by};
-ghost use Rattle.stopping_books.specs.Stops.{counts, CountsFailure, IsLeft, MakesCall};
-ghost use Rattle.hotel_core.specs.Refinement.Lookups.{codes_in};
+ghost use Rattle.keycard_rules.specs.{Leaves.Looks, Leaves.told_by, Words.is_one_of};
+ghost use Rattle.stopping_books.specs.Stops.{counts, CountsFailure, IsCall, IsLeft, MakesCall};
+ghost use Rattle.hotel_model.specs.{Guests.are_none, Rows.fit_at, Rows.has_kind, Rows.rooms_of_kind};
+ghost use Rattle.hotel_model.specs.Refinement.Fits.{Fits};
+ghost use Rattle.hotel_model.specs.Refinement.Lookups.{room_at, codes_in, code_place, code_at, stay_at, stays_of_kind};
+ghost use Rattle.hotel_model.specs.Refinement.Lookups.{card_at, inside_at, note_at, first_full_on, number_after};
+ghost use Rattle.hotel_books.specs.Books.{Reads.LooksUp, Reads.is_any, Reads.placed_row, Changes.Makes};
 
 use crate::calls::Calls;
 use hotel_core::{Books, Change, FitRow, ListBooks, NextNumbers, RoomRow};
@@ -163,7 +168,12 @@ impl Kept for StoppingBooks {
 }
 
 impl Issued for StoppingBooks {
-    fn is_issued(&mut self, code: Code) -> Result<bool, LookFault> {
+    fn is_issued(&mut self, code: Code) -> Result<bool, LookFault>
+        ensures answer { ⟦<StoppingBooks as Kept>⟧.is_honest self.new
+            → IfOk result (λ yes. yes ≡ is_one_of code (codes_in self.old.rows)) }
+        ensures looks { Looks ⟦<StoppingBooks as Kept>⟧ false self.old (told_by result) self.new }
+        ensures call { IsCall self.old self.new result }
+    {
         self.begin()?;
         let found = self.books.is_issued(code);
         self.found(found)
@@ -177,43 +187,73 @@ impl Books for StoppingBooks {
 
     ghost change_fails = { λ _ _ _. Unit {0} };
 
-    fn day(&mut self) -> Result<Option<Day>, LookFault> {
+    fn day(&mut self) -> Result<Option<Day>, LookFault>
+        ensures looks { LooksUp ⟦<StoppingBooks as Kept>⟧ false (λ a. a) self.old.rows.day self.old self.new result }
+        ensures call { IsCall self.old self.new result }
+    {
         self.begin()?;
         let found = self.books.day();
         self.found(found)
     }
 
-    fn kind(&mut self, kind: &KindCode) -> Result<bool, LookFault> {
+    fn kind(&mut self, kind: &KindCode) -> Result<bool, LookFault>
+        ensures looks { LooksUp ⟦<StoppingBooks as Kept>⟧ false (λ a. a) (has_kind self.old.rows kind.now)
+            self.old self.new result }
+        ensures call { IsCall self.old self.new result }
+    {
         self.begin()?;
         let found = self.books.kind(kind);
         self.found(found)
     }
 
-    fn room(&mut self, room: RoomNo) -> Result<Option<RoomRow>, LookFault> {
+    fn room(&mut self, room: RoomNo) -> Result<Option<RoomRow>, LookFault>
+        ensures looks { LooksUp ⟦<StoppingBooks as Kept>⟧ false (λ a. a) (room_at self.old.rows room)
+            self.old self.new result }
+        ensures call { IsCall self.old self.new result }
+    {
         self.begin()?;
         let found = self.books.room(room);
         self.found(found)
     }
 
-    fn code_place(&mut self, code: Code) -> Result<Option<(RoomNo, u32)>, LookFault> {
+    fn code_place(&mut self, code: Code) -> Result<Option<(RoomNo, u32)>, LookFault>
+        ensures looks { LooksUp ⟦<StoppingBooks as Kept>⟧ false (option_map placed_row) (code_place
+            self.old.rows code)
+            self.old self.new result }
+        ensures call { IsCall self.old self.new result }
+    {
         self.begin()?;
         let found = self.books.code_place(code);
         self.found(found)
     }
 
-    fn code_at(&mut self, room: RoomNo, place: u32) -> Result<Option<Code>, LookFault> {
+    fn code_at(&mut self, room: RoomNo, place: u32) -> Result<Option<Code>, LookFault>
+        ensures looks { LooksUp ⟦<StoppingBooks as Kept>⟧ false (λ a. a) (code_at self.old.rows room place)
+            self.old self.new result }
+        ensures call { IsCall self.old self.new result }
+    {
         self.begin()?;
         let found = self.books.code_at(room, place);
         self.found(found)
     }
 
-    fn stay(&mut self, party: PartyNo) -> Result<Option<Stay>, LookFault> {
+    fn stay(&mut self, party: PartyNo) -> Result<Option<Stay>, LookFault>
+        ensures looks { LooksUp ⟦<StoppingBooks as Kept>⟧ (is_some (stay_at self.old.rows party)) (λ a. a)
+            (stay_at self.old.rows party)
+            self.old self.new result }
+        ensures call { IsCall self.old self.new result }
+    {
         self.begin()?;
         let found = self.books.stay(party);
         self.found(found)
     }
 
-    fn stays_of_kind(&mut self, kind: &KindCode) -> Result<Vec<Stay>, LookFault> {
+    fn stays_of_kind(&mut self, kind: &KindCode) -> Result<Vec<Stay>, LookFault>
+        ensures looks { LooksUp ⟦<StoppingBooks as Kept>⟧ (is_any (stays_of_kind self.old.rows kind.now))
+            (λ v. v.items)
+            (stays_of_kind self.old.rows kind.now) self.old self.new result }
+        ensures call { IsCall self.old self.new result }
+    {
         self.begin()?;
         let found = self.books.stays_of_kind(kind);
         self.found(found)
@@ -224,37 +264,61 @@ impl Books for StoppingBooks {
         kind: &KindCode,
         arrive: Day,
         depart: Day,
-    ) -> Result<Option<Day>, LookFault> {
+    ) -> Result<Option<Day>, LookFault>
+        ensures looks { LooksUp ⟦<StoppingBooks as Kept>⟧ false
+            (λ a. a) (first_full_on self.old.rows kind.now arrive (depart - arrive))
+            self.old self.new result }
+        ensures call { IsCall self.old self.new result }
+    {
         self.begin()?;
         let found = self.books.full_night(kind, arrive, depart);
         self.found(found)
     }
 
-    fn copy_guest(&mut self, guest: &Guest) -> Result<Guest, LookFault> {
+    fn copy_guest(&mut self, guest: &Guest) -> Result<Guest, LookFault>
+        ensures looks { LooksUp ⟦<StoppingBooks as Kept>⟧ true (λ a. a) guest.now self.old self.new result }
+        ensures call { IsCall self.old self.new result }
+    {
         self.begin()?;
         let copy = self.books.copy_guest(guest);
         self.found(copy)
     }
 
-    fn card(&mut self, number: CardNo) -> Result<Option<Card>, LookFault> {
+    fn card(&mut self, number: CardNo) -> Result<Option<Card>, LookFault>
+        ensures looks { LooksUp ⟦<StoppingBooks as Kept>⟧ false (λ a. a) (card_at self.old.rows number)
+            self.old self.new result }
+        ensures call { IsCall self.old self.new result }
+    {
         self.begin()?;
         let found = self.books.card(number);
         self.found(found)
     }
 
-    fn inside(&mut self, room: RoomNo) -> Result<Vec<CardNo>, LookFault> {
+    fn inside(&mut self, room: RoomNo) -> Result<Vec<CardNo>, LookFault>
+        ensures looks { LooksUp ⟦<StoppingBooks as Kept>⟧ (is_any (inside_at self.old.rows room)) (λ v. v.items)
+            (inside_at self.old.rows room) self.old self.new result }
+        ensures call { IsCall self.old self.new result }
+    {
         self.begin()?;
         let found = self.books.inside(room);
         self.found(found)
     }
 
-    fn is_inside(&mut self, room: RoomNo, number: CardNo) -> Result<bool, LookFault> {
+    fn is_inside(&mut self, room: RoomNo, number: CardNo) -> Result<bool, LookFault>
+        ensures looks { LooksUp ⟦<StoppingBooks as Kept>⟧ (is_any (inside_at self.old.rows room)) (λ a. a)
+            (is_one_of number (inside_at self.old.rows room)) self.old self.new result }
+        ensures call { IsCall self.old self.new result }
+    {
         self.begin()?;
         let found = self.books.is_inside(room, number);
         self.found(found)
     }
 
-    fn has_inside(&mut self, room: RoomNo) -> Result<bool, LookFault> {
+    fn has_inside(&mut self, room: RoomNo) -> Result<bool, LookFault>
+        ensures looks { LooksUp ⟦<StoppingBooks as Kept>⟧ (is_any (inside_at self.old.rows room)) (λ a. a)
+            (not (are_none (inside_at self.old.rows room))) self.old self.new result }
+        ensures call { IsCall self.old self.new result }
+    {
         self.begin()?;
         let found = self.books.has_inside(room);
         self.found(found)
@@ -265,25 +329,44 @@ impl Books for StoppingBooks {
         room: RoomNo,
         fit: FitNo,
         count: Count,
-    ) -> Result<Option<LockNote>, LookFault> {
+    ) -> Result<Option<LockNote>, LookFault>
+        ensures looks { LooksUp ⟦<StoppingBooks as Kept>⟧ false (λ a. a) (note_at self.old.rows room fit count)
+            self.old self.new result }
+        ensures call { IsCall self.old self.new result }
+    {
         self.begin()?;
         let found = self.books.note(room, fit, count);
         self.found(found)
     }
 
-    fn fit(&mut self, room: RoomNo, fit: FitNo) -> Result<Option<FitRow>, LookFault> {
+    fn fit(&mut self, room: RoomNo, fit: FitNo) -> Result<Option<FitRow>, LookFault>
+        ensures looks { LooksUp ⟦<StoppingBooks as Kept>⟧ false (λ a. a) (fit_at self.old.rows room fit)
+            self.old self.new result }
+        ensures call { IsCall self.old self.new result }
+    {
         self.begin()?;
         let found = self.books.fit(room, fit);
         self.found(found)
     }
 
-    fn rooms_of_kind(&mut self, kind: &KindCode) -> Result<u32, LookFault> {
+    fn rooms_of_kind(&mut self, kind: &KindCode) -> Result<u32, LookFault>
+        ensures looks { LooksUp ⟦<StoppingBooks as Kept>⟧ false (λ a. a) (rooms_of_kind self.old.rows.rooms kind.now)
+            self.old self.new result }
+        ensures call { IsCall self.old self.new result }
+    {
         self.begin()?;
         let found = self.books.rooms_of_kind(kind);
         self.found(found)
     }
 
-    fn next_numbers(&mut self) -> Result<NextNumbers, LookFault> {
+    fn next_numbers(&mut self) -> Result<NextNumbers, LookFault>
+        ensures looks { LooksUp ⟦<StoppingBooks as Kept>⟧ false (λ a. a) (record {
+          party = number_after (length self.old.rows.stays);
+          card = number_after (length self.old.rows.cards);
+        })
+            self.old self.new result }
+        ensures call { IsCall self.old self.new result }
+    {
         self.begin()?;
         match self.books.next_numbers() {
             Ok(numbers) => Ok(numbers),
@@ -298,7 +381,12 @@ impl Books for StoppingBooks {
         self.books.known_sound();
     }
 
-    fn apply(&mut self, change: Change) -> Result<(), LookFault> {
+    fn apply(&mut self, change: Change) -> Result<(), LookFault>
+        requires { ⟦<StoppingBooks as Kept>⟧.is_clean self.old → Fits change self.old.rows }
+        ensures makes { Makes ⟦<StoppingBooks as Kept>⟧ (λ b. b.rows) (λ _ _ _. Unit {0})
+            (λ _ _ _. Unit {0}) change self.old self.new result }
+        ensures call { IsCall self.old self.new result }
+    {
         self.begin()?;
         let made = self.books.apply(change);
         self.found(made)

@@ -1,6 +1,6 @@
 //! Walks over books in memory of which one call fails.
 ghost use Rattle.std.specs.Prelude.{◌≡◌, Err, is_some, OnErr, OnOk, Some};
-ghost use Rattle.hotel_core.specs.Books.Walks.{failure_of};
+ghost use Rattle.hotel_books.specs.Books.Walks.{failure_of};
 ghost use Rattle.stopping_books.specs.Stops.{CountsFailure, EndsAs, IsLeft, MakesCall};
 
 use crate::calls::Calls;

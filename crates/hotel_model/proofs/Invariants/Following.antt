@@ -75,7 +75,8 @@ not_next : (b : Bool) → cond b Copy Conflicting ≡ Next → ⊥
 not_next true h = cc
 not_next false h = cc
 
-next_count : (present : Bool) (taken : ℕ) (note : Note) (kept : List Note)
+-- The next note is of the present lock, and has the next count.
+pub next_count : (present : Bool) (taken : ℕ) (note : Note) (kept : List Note)
     → standing_among present taken note kept ≡ Next → (present ≡ true) × (note.count ≡ taken + 1)
 next_count true taken note [] h =
     (refl, eq_from note.count (taken + 1) (if_next (note.count == taken + 1) (taken + 1) h))

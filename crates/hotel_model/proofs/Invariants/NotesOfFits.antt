@@ -46,7 +46,8 @@ noted_notes present before taken note n e =
       ),
     )
 
-none_later : (present : ℕ) (taken : List Note) → list_all (λ (note : Note). nat_le note.fit present) taken ≡ true
+-- No note is of a lock after the present one.
+pub none_later : (present : ℕ) (taken : List Note) → list_all (λ (note : Note). nat_le note.fit present) taken ≡ true
     → filter (λ (note : Note). note.fit == present + 1) taken ≡ []
 none_later present [] all = refl
 none_later present (x ∷ taken) all =

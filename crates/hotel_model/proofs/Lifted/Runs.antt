@@ -47,8 +47,9 @@ steps_lift h rows s command reply later rest stands n r g =
     step_by (is_failed reply) h s command reply later rest stands.0 n r
     (subst (λ o. Goes o (rows_of h) s reply later rest) (answers_lift h command stands.0 n (words 64 s)) on_history)
 
-step_reaches : (b : Bool) (h : History) (s : Stream) (command : Command) (reply : Reply) (h' : History) (s' : Stream)
-    → Reached h → IsCommand command → IsReply reply → StepsIf b h s command reply h' s' → Reached h'
+-- A command with values in their ranges leads to a history that can be reached.
+pub step_reaches : (b : Bool) (h : History) (s : Stream) (command : Command) (reply : Reply) (h' : History)
+    (s' : Stream) → Reached h → IsCommand command → IsReply reply → StepsIf b h s command reply h' s' → Reached h'
 step_reaches true h s command reply h' s' ok n r d = subst (λ z. Reached z) (sym d.0) ok
 step_reaches false h s command reply h' s' ok n r d =
     subst (λ z. Reached z) (sym d.1) (step_keeps h (words 64 s) command reply n (sym d.0) r ok)

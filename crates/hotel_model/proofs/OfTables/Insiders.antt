@@ -21,7 +21,8 @@ those_by : (b : Bool) (n m : ℕ) (ns : List ℕ)
 those_by true n m ns = refl
 those_by false n m ns = refl
 
-those_are : (es : List (ℕ × ℕ)) (room number : ℕ)
+-- A card is one of those of a room where the pair of the two is one of the keys.
+pub those_are : (es : List (ℕ × ℕ)) (room number : ℕ)
     → is_one_of number (those_in es room) ≡ has_key pair_cmp (room, number) es
 those_are [] room number = refl
 those_are (e ∷ es) room number =

@@ -1,13 +1,15 @@
--- Kinds read as codes, and the kinds of rooms and stays are there.
-use Rattle.std.proofs.Common.{ℕ, ◌≡◌, Bool, true, false, List, [], ◌∷◌, refl, ◌∙◌, ◌||◌, bytes_eq, nat_cmp, Ordering}
-use Rattle.std.proofs.Common.{Less, Equal, Greater}
+-- Kinds read as codes, the kinds of rooms and stays are there, and a day is set where a kind or a room is.
+use Rattle.std.proofs.Common.{ℕ, suc, ◌≡◌, Bool, true, false, Option, Some, None, List, [], ◌∷◌, refl, sym, ◌∙◌, ◌||◌}
+use Rattle.std.proofs.Common.{arith, bytes_eq, is_some, length, nat_cmp, ◌==◌, Ordering, Less, Equal, Greater}
 use Rattle.hotel_model.proofs.Names.{match_ordering, slice_cmp, list_any, insert_key, Event, Kind, Install, Reserved}
-use Rattle.hotel_model.proofs.Names.{History, start, ◌▷◌, kinds, rooms, room_row, rows_of, is_kind, Reached, kinds_read}
+use Rattle.hotel_model.proofs.Names.{History, start, ◌▷◌, day, kinds, rooms, room_row, rows_of, has_kind, is_begun}
+use Rattle.hotel_model.proofs.Names.{is_kind, is_room, Reached, kinds_read}
 use Rattle.hotel_model.proofs.Names.{room_kinds_there, stay_kinds_there}
 use Rattle.hotel_nights.specs.Kinds as nights
 use Rattle.hotel_model.proofs.{OfTables.Grown.may_follow, Invariants.EventRanges.last_in_range}
-use Rattle.hotel_model.proofs.OfTables.RowTests.{or_later, all_mapped, all_keys_inserted}
-use Rattle.hotel_model.proofs.SoundRows.RowsPass.{rooms_pass, stays_pass}
+use Rattle.hotel_model.proofs.OfTables.{TableKeys.row_of_key, Tests.eq_from}
+use Rattle.hotel_model.proofs.OfTables.RowTests.{or_later, all_mapped, all_keys_inserted, found_passes}
+use Rattle.hotel_model.proofs.SoundRows.{RowsPass.rooms_pass, RowsPass.stays_pass, SoundDay.day_before}
 
 -- Each kind reads as a code.
 pub kinds_are_read : (h : History) → Reached h → kinds_read (rows_of h) ≡ true
@@ -51,3 +53,21 @@ stay_kinds h ok =
     stays_pass (λ h e. is_kind h e.1.kind) (λ h event e ok. kind_stays h event e.1.kind)
     (λ s ok. ok.stay_kind) (λ h x s e. e)
     (λ h party guest kind arrive depart ok. (may_follow h (Reserved party guest kind arrive depart) ok).0) h ok
+
+begun_by : (o : Option ℕ) (ks : List (List ℕ)) (kind : List ℕ)
+    → (is_some o || (length ks == 0)) ≡ true → list_any (λ k. bytes_eq k kind) ks ≡ true → is_some o ≡ true
+begun_by (Some d) ks kind set there = refl
+begun_by None [] kind set there = cc
+begun_by None (k ∷ ks) kind set there =
+    let none : suc (length ks) ≡ 0 = eq_from (length (k ∷ ks)) 0 set in absurd (omega (arith, none))
+
+-- A day is set where a kind is there.
+pub begun_with_kind : (h : History) → Reached h → (kind : List ℕ) → is_kind h kind ≡ true → is_begun h ≡ true
+begun_with_kind h ok kind there = begun_by (day h) (kinds h) kind (day_before h ok) there
+
+-- And where a room is.
+pub begun_with_room : (h : History) → Reached h → (r : ℕ) → is_room h r ≡ true → is_begun h ≡ true
+begun_with_room h ok r there =
+    let row = row_of_key (rooms h) r there in
+    let all = sym (all_mapped _ (λ e. (e.0, room_row h e.0 e.1)) (rooms h)) ∙ room_kinds h ok in
+    begun_with_kind h ok row.0 (found_passes (λ e. has_kind (rows_of h) e.1) (rooms h) r row.0 all row.1)

@@ -1,11 +1,12 @@
 -- The scenario "clerk-asks": what day it is, what is free, what is booked, how the rooms stand and who is inside; whose
--- a card is, and which notes of the locks were taken.
+-- a card is, and which notes of the locks were taken, also of a room's second lock.
 use Rattle.std.specs.Prelude.{List, [], ◌∷◌, Some, None, true, false, codes}
 use Rattle.keycard_rules.specs.declared.note.TheConstants.{LAST_DAY}
 use Rattle.hotel_nights.specs.declared.stay.StayState.TheVariants.{Booked}
-use Rattle.hotel_model.specs.Scenes.Words.{may, a0, a1, a2, DBL, SGL, begin, add_kind, add_room, reserve, check_in}
-use Rattle.hotel_model.specs.Scenes.Words.{check_out, next_day, entered, begun, kind_added, room_code, party, card, day}
-use Rattle.hotel_model.specs.Scenes.Words.{taken, checked_out, status, free, card_of, lock_noted}
+use Rattle.hotel_model.specs.Scenes.Words.{may, a0, a1, a2, a3, b0, DBL, SGL, bo, begin, add_kind, add_room, reserve}
+use Rattle.hotel_model.specs.Scenes.Words.{check_in, spare, refit, check_out, next_day, entered, entered_by, left}
+use Rattle.hotel_model.specs.Scenes.Words.{begun, kind_added, room_code, party, card, lock, day, taken, seen}
+use Rattle.hotel_model.specs.Scenes.Words.{checked_out, status, free, card_of, lock_noted}
 use Rattle.hotel_model.specs.Scenes.Lines.{Line, ◌⇒◌, BusinessDay, RoomStatus, Inside, Bookings, Availability, Cards}
 use Rattle.hotel_model.specs.Scenes.Lines.{OneCard, Locks, Holds}
 
@@ -52,7 +53,23 @@ lines =
     ∷ OneCard 1 (record { card = card_of 1 1 a0 a1; guest = codes "Ann" } ∷ [])
     ∷ RoomStatus (status 101 None true 0 ∷ [])
     ∷ Inside (record { room = 101; card = 1; party = 1 } ∷ [])
+    ∷ left 101 2 1 a0 a1 (may 2, 57600) ⇒ taken
+    ∷ Locks (lock_noted 101 1 2 (Some (may 2, 57600)) ∷ [])
+    ∷ refit 101 ⇒ lock 2 a2
+    ∷ Locks (lock_noted 101 2 0 None ∷ [])
+    ∷ reserve DBL (may 2) 1 bo ⇒ party 2
+    ∷ check_in 2 101 ⇒ card 2 2 a2 a3
+    ∷ spare 2 ⇒ card 3 2 a2 a3
+    ∷ entered_by 101 2 1 3 a2 a3 (may 2, 61200) ⇒ taken
+    ∷ left 101 2 1 a0 a1 (may 2, 57600) ⇒ seen
+    ∷ add_room 102 SGL ⇒ room_code b0
+    ∷ Locks (lock_noted 101 2 1 (Some (may 2, 61200)) ∷ lock_noted 102 1 0 None ∷ [])
+    ∷ Cards 1 (card_of 1 1 a0 a1 ∷ [])
+    ∷ Cards 2 (card_of 2 2 a2 a3 ∷ card_of 3 2 a2 a3 ∷ [])
+    ∷ OneCard 1 (record { card = card_of 1 1 a0 a1; guest = codes "Ann" } ∷ [])
+    ∷ OneCard 3 (record { card = card_of 3 2 a2 a3; guest = bo } ∷ [])
+    ∷ OneCard 4 []
     ∷ []
 
 abbrev pub TheScene : Type 0
-TheScene = Holds (a0 ∷ a1 ∷ []) a2 lines
+TheScene = Holds (a0 ∷ a1 ∷ a2 ∷ a3 ∷ []) b0 lines

@@ -5,10 +5,11 @@ use Rattle.std.specs.Option.{IsSomeAnd}
 use Rattle.std.specs.Io.KnownBytes.{Appends}
 use Rattle.rand_core.specs.Stream.{Stream}
 use Rattle.keycard_rules.specs.{declared.kept.Kept.Ghosts as KeptOf, Calls.LeaveAll}
-use Rattle.hotel_core.specs.declared.books.Books.{Ghosts as BooksOf}
+use Rattle.hotel_books.specs.declared.books.Books.{Ghosts as BooksOf}
 use Rattle.keycard_rules.proofs.CallsTogether.{together}
 use Rattle.hotel_model.proofs.{Invariants.Assurance.assured, LeadsOn.leads_as}
-use Rattle.hotel_core.specs.{Books.Failures.failure_in, Books.Stepped.Stepped}
+use Rattle.hotel_books.specs.Books.Failures.{failure_in}
+use Rattle.hotel_core.specs.Books.Stepped.{Stepped}
 use Rattle.hotel_model.specs.declared.command.Command.{Command}
 use Rattle.hotel_model.specs.declared.reply.Reply.{Reply}
 use Rattle.hotel_model.specs.declared.reply.Refusal.TheVariants as refusal

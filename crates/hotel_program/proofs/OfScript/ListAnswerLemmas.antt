@@ -11,7 +11,7 @@ use Rattle.hotel_model.specs.declared.reply.Reply.TheVariants.{Refused}
 use Rattle.hotel_model.specs.declared.reply.Refusal.{Refusal}
 use Rattle.hotel_model.specs.declared.reply.Refusal.TheVariants as refusal
 use Rattle.hotel_model.specs.Run.{is_failed}
-use Rattle.hotel_core.proofs.Names.{false≢true}
+use Rattle.hotel_books.proofs.Names.{false≢true}
 use Rattle.hotel_model.specs.declared.reply.Reply.{Reply}
 use Rattle.hotel_core.specs.Texts.{reply_text}
 use Rattle.hotel_streams.specs.Bytes.{AppendsPrefix}
@@ -20,7 +20,7 @@ use Rattle.hotel_lists.specs.RowLines.{ListTold, LooksAt}
 use Rattle.hotel_lists.specs.declared.fault.ListFault.{ListFault}
 use Rattle.hotel_lists.specs.declared.fault.ListFault.TheVariants as fault
 use Rattle.hotel_lists.specs.Listings.{Listing, ListEnds}
-use Rattle.hotel_core.specs.Books.Failures.{refusal_of}
+use Rattle.hotel_books.specs.Books.Failures.{refusal_of}
 use Rattle.hotel_core.proofs.OfCode.Counting.{faults}
 use Rattle.hotel_program.specs.Script.ListAnswers.{AnswersList, refusal_text, ends_by, tells_failure}
 use Rattle.hotel_program.proofs.OfScript.ScriptLemmas.{appends_prefix}

@@ -7,7 +7,8 @@ use Rattle.hotel_model.specs.{declared.command.Command.Command, declared.reply.R
 use Rattle.hotel_model.specs.{declared.reply.Reply.TheVariants.Refused, declared.reply.Refusal.TheVariants.Memory}
 use Rattle.hotel_model.specs.Run.{Steps}
 use Rattle.hotel_asks.specs.Asks.{copies}
-use Rattle.hotel_core.specs.{Books.Failures.failure_in, Texts.reply_text}
+use Rattle.hotel_books.specs.Books.Failures.{failure_in}
+use Rattle.hotel_core.specs.Texts.{reply_text}
 use Rattle.hotel_program.specs.Script.Asks.{ask_in}
 use Rattle.hotel_streams.specs.{Bytes.AppendsPrefix, declared.calls.WriteFailed.WriteFailed}
 use Rattle.hotel_program.specs.Script.ListAnswers.{AnswersList, tells_failure}

@@ -4,7 +4,8 @@ use Rattle.keycard_rules.specs.{declared.issued.LookFault.LookFault, Calls.Told,
 use Rattle.hotel_model.specs.declared.reply.Reply.TheVariants.{Refused}
 use Rattle.hotel_model.specs.declared.reply.Refusal.{Refusal}
 use Rattle.hotel_model.specs.declared.reply.Refusal.TheVariants as refusal
-use Rattle.hotel_core.specs.{Books.Failures.refusal_of, Texts.reply_text}
+use Rattle.hotel_books.specs.Books.Failures.{refusal_of}
+use Rattle.hotel_core.specs.Texts.{reply_text}
 use Rattle.hotel_lists.specs.{RowLines.ListFailed, Listings.Listing, Listings.IsListPrefix, Listings.in_full}
 
 -- The line of a refusal.

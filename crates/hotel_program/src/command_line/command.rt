@@ -47,7 +47,8 @@ fn with_options<'a>(alloc: Global) -> Result<Command<'a>, AllocError>
         .bin_name("hotel_desk")?
         .version(VERSION)
         .about(
-            "The front desk of a hotel whose door locks have no network. Without arguments it runs a script in memory, for tests.",
+            "The front desk of a hotel whose door locks have no network. \
+                Without arguments it runs a script in memory, for tests.",
         )
         .no_binary_name(true)
         .subcommand_required(true)

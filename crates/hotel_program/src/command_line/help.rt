@@ -55,7 +55,8 @@ pub(crate) fn about_value<'a>(subcommand: &str, name: ValueName) -> &'a str {
         ValueName::Arrive => "the first night, YYYY-MM-DD: 2000-01-01 to 2099-12-31",
         ValueName::Nights => "the number of nights, 1 to 90",
         ValueName::Guest =>
-            "the guest's name: 1 to 60 bytes of UTF-8; no control character; no space first or last; after -- if it begins with -",
+            "the guest's name: 1 to 60 bytes of UTF-8; no control character; no space first or last; \
+                after -- if it begins with -",
         ValueName::Room => "a room's number, 1 to 9999",
         ValueName::Lock =>
             "a lock: the room's number, / and the lock's number, 1 to 99, such as 101/2; 101 alone is 101/1",

@@ -1,6 +1,6 @@
 -- no field so far says so
 use Rattle.std.proofs.Common.{◌≡◌, take, false}
-use Rattle.hotel_core.proofs.Names.{list_any}
+use Rattle.hotel_books.proofs.Names.{list_any}
 use Rattle.httparse.specs.Spans.{header_bytes}
 use Rattle.hotel_http.specs.Fields.{is_expectation}
 use Rattle.hotel_http.proofs.fields.expects_continue.Given as goal

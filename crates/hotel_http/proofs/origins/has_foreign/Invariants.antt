@@ -1,6 +1,6 @@
 -- no field so far is foreign
 use Rattle.std.proofs.Common.{◌≡◌, take, false}
-use Rattle.hotel_core.proofs.Names.{list_any}
+use Rattle.hotel_books.proofs.Names.{list_any}
 use Rattle.httparse.specs.Spans.{header_bytes}
 use Rattle.hotel_http.specs.Origins.{is_foreign}
 use Rattle.hotel_http.proofs.origins.has_foreign.Given as goal
