@@ -5,7 +5,7 @@ import { date, isWeekend, longDay, nightsOf, plus, shortDay, weekday } from "./d
 import { hotel, isEmpty, isFault, list } from "./desk.js";
 import { $, acts, button, el, field, form, guestName, head } from "./dom.js";
 import { checkInButton, done, run } from "./windows.js";
-import { words } from "./words.js";
+import { number, words } from "./words.js";
 
 const NIGHTS = 14; // of the picture
 const LONGEST = 90; // nights of a booking
@@ -174,15 +174,15 @@ const shareOf = row => row.free === "0" ? 0 : Math.ceil(4 * row.free / row.rooms
 // A row for each kind, a column for each night; the typed stay is marked. A click takes a night and a kind.
 function showGrid(days, each) {
   const last = plus(booking.arrive || hotel.today, typedNights() - 1);
-  const number = (day, at) => at && !day.endsWith("-01") ? Number(day.slice(8)) : date(day);
+  const numbered = (day, at) => at && !day.endsWith("-01") ? Number(day.slice(8)) : date(day);
   const heads = days.map((day, at) =>
-    el("th", { scope: "col", class: isWeekend(day) ? "end" : null }, weekday(day), el("br"), number(day, at)));
+    el("th", { scope: "col", class: isWeekend(day) ? "end" : null }, weekday(day), el("br"), numbered(day, at)));
   const cell = (kind, day, at) => {
     const row = each[at].find(one => one.kind === kind) ?? { free: "0", rooms: "0" };
     const isMine = kind === booking.kind && day >= booking.arrive && day <= last;
     const told = words.freeOf(kind, shortDay(day), row.free, row.rooms);
-    return el("td", { class: `f${shareOf(row)}${isMine ? " mine" : ""}` }, button(row.free, () => takeNight(day, kind),
-      null, { tabindex: -1, title: told, "aria-label": told }));
+    return el("td", { class: `f${shareOf(row)}${isMine ? " mine" : ""}` }, button(number(row.free),
+      () => takeNight(day, kind), null, { tabindex: -1, title: told, "aria-label": told }));
   };
   $("grid").replaceChildren(el("table", { class: "grid" },
     el("caption", { class: "away" }, words.freeByNight),

@@ -6,7 +6,7 @@ import { actions, GUEST, NUMBER, TYPE, UNTIL } from "./columns.js";
 import { isDay, longDay, nightsOf, plus, shortDay } from "./days.js";
 import { byName, hotel, isFault, list } from "./desk.js";
 import { $, acts, button, card, el, none, pair, printer, table, tag, titled } from "./dom.js";
-import { words } from "./words.js";
+import { number, words } from "./words.js";
 
 const LAST = "2099-12-31";
 // The day that the address names, if it is to come.
@@ -71,8 +71,8 @@ export async function fillDay() {
     if (mine !== asked || !$("night")) return;
     const toBook = ({ kind, free }) => free === "0" ? "" : button(words.book, () => bookFrom(day, kind), `book ${kind}`,
       { "aria-label": `${words.book}: ${kind}` });
-    $("night").replaceChildren(table(words.freeRooms, [TYPE, [words.free, row => row.free],
-      [words.rooms, row => row.rooms], actions(toBook)], kinds));
+    $("night").replaceChildren(table(words.freeRooms, [TYPE, [words.free, row => number(row.free)],
+      [words.rooms, row => number(row.rooms)], actions(toBook)], kinds));
   } catch (fault) {
     if (!isFault(fault)) throw fault;
   }

@@ -32,6 +32,11 @@ export function knowYear(today = "") {
 
 // A day in short words, with its year if it isn't the business day's.
 export const shortDay = day => day.startsWith(year) ? short(day) : `${short(day)} ${day.slice(0, 4)}`;
+
+// A moment of a lock's note, as the lock's own clock has it.
+const clock = new Intl.DateTimeFormat(words.locale, { timeZone: "UTC", dateStyle: "medium", timeStyle: "medium" });
+export const moment = at => clock.format(new Date(`${at}Z`));
+
 export const weekday = writer({ weekday: "short" });
 export const date = writer({ day: "numeric", month: "short" });
 

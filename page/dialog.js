@@ -1,6 +1,6 @@
 // The one window of the page: what it shows, and where the keyboard is in it and after it.
 
-import { $, acts, button, el, first, hint, hushPassing, p } from "./dom.js";
+import { $, acts, button, el, first, hint, hushPassing, p, sayMeanwhile } from "./dom.js";
 import { words } from "./words.js";
 
 export const isShown = () => $("dialog").open;
@@ -40,10 +40,17 @@ export function askOnce(title, content, doing, onyes) {
 const SLOW = 400; // milliseconds, after which a clerk is told that the page waits
 let isHeld = false; // whether a command is being carried out: then the window can't be closed
 
-// The result of `doing`. Until it is there the window's buttons do nothing, and after a while a window says `what`.
+// The result of `doing`. Until it is there the window's buttons do nothing, and after a while a window says `what`. If
+// no window is open, a message does: the clerk goes on typing in the view.
 export async function whileHeld(what, doing) {
-  for (const one of isShown() ? $("dialog").querySelectorAll("button, input") : []) one.disabled = true;
+  const isAsked = isShown();
+  let hush = () => undefined;
+  for (const one of isAsked ? $("dialog").querySelectorAll("button, input") : []) one.disabled = true;
   const timer = setTimeout(() => {
+    if (!isAsked) {
+      hush = sayMeanwhile([`${words.pleaseWait}. `, ...what.childNodes]);
+      return;
+    }
     isHeld = true;
     show(words.pleaseWait, what, hint(words.oneAfterTheOther));
   }, SLOW);
@@ -51,6 +58,7 @@ export async function whileHeld(what, doing) {
     return await doing();
   } finally {
     clearTimeout(timer);
+    hush();
     isHeld = false;
   }
 }

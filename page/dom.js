@@ -106,3 +106,10 @@ export function say(told, { mustClose = false } = {}) {
   $("said").replaceChildren(p(told), button(words.close, hush, null, { class: "plain" }));
   if (!isKept) passing = setTimeout(hush, 12_000);
 }
+
+// Says something until what it returns is called, unless something else is said before.
+export function sayMeanwhile(told) {
+  say(told, { mustClose: true });
+  const said = $("said").firstChild;
+  return () => said.isConnected && hush();
+}

@@ -7,6 +7,7 @@ import { clockDay, shortDay } from "./days.js";
 import { hotel, isRefreshing, refresh } from "./desk.js";
 import { isShown } from "./dialog.js";
 import { $, el, head, none, say } from "./dom.js";
+import { SHEET } from "./mistakes.js";
 import { setup } from "./setup.js";
 import { guests, locks, openSought, rooms, today } from "./views.js";
 import { isDoing } from "./windows.js";
@@ -101,6 +102,7 @@ function drawAround() {
   for (const one of document.querySelectorAll("[data-word]")) one.textContent = words[one.dataset.word];
   document.querySelector("header nav").setAttribute("aria-label", words.views);
   $("find").placeholder = words.findWhat;
+  $("sheet").href = SHEET;
   $("about-keys").append(...words.keys(key => el("kbd", {}, key)));
   $("language").append(...Object.entries(LANGUAGES).map(([name, text]) =>
     el("option", { value: name, lang: name, selected: name === words.language }, text)));

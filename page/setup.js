@@ -7,7 +7,7 @@ import { chainOf, hotel, ifSoon, isFault, pause, refresh, rowOf } from "./desk.j
 import { askOnce, show, shut, whileHeld } from "./dialog.js";
 import { acts, card, code, copier, el, field, first, form, head, none, p, pair, printer, so, table } from "./dom.js";
 import { done, exclusively, run, wordsOf } from "./windows.js";
-import { words } from "./words.js";
+import { number, words } from "./words.js";
 
 const typed = { kind: "", rooms: "", of: "" }; // it outlives the view
 
@@ -24,7 +24,7 @@ export function setup() {
   };
   return [head(words.setup), pair(
     card(words.roomTypes, hotel.kinds.length
-      ? table(words.roomTypes, [[words.type, row => row.kind], [words.rooms, row => row.rooms]], hotel.kinds)
+      ? table(words.roomTypes, [[words.type, row => row.kind], [words.rooms, row => number(row.rooms)]], hotel.kinds)
       : none(words.noneYet),
     form({ class: "row", oninput: keep }, values => askKind(values.kind.toUpperCase()),
       field(words.newType, kind, words.typeForm), el("button", { "data-key": "add kind" }, words.addType))),

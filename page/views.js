@@ -11,7 +11,7 @@ import { $, acts, button, card, code, el, field, form, guestName, head, hint, no
   table, tableOfFirst, tag, titled } from "./dom.js";
 import { bookingActs, cancel, checkInButton, checkOut, done, guestActs, refit, run, showGuest, showRoom, showWhose,
   wordsOf } from "./windows.js";
-import { explained, words } from "./words.js";
+import { explained, number, words } from "./words.js";
 
 // --- today ----------------------------------------------------------------------------------------------------------
 
@@ -56,7 +56,7 @@ export function rooms() {
   const floors = Map.groupBy(hotel.rooms, row => Math.floor(row.room / 100));
   const counts = Map.groupBy(hotel.rooms, row => stateOf(row)[0]);
   const legend = Object.entries(words.legend).map(([state, word]) =>
-    el("span", {}, el("i", { class: `dot ${state}` }), `${counts.get(state)?.length ?? 0} ${word}`));
+    el("span", {}, el("i", { class: `dot ${state}` }), `${number(counts.get(state)?.length ?? 0)} ${word}`));
   const waiting = hotel.rooms.filter(isStuck).length;
   const size = hotel.rooms.length > 100 ? "many" : null;
   return [head(words.rooms, el("p", { class: "legend" }, legend, el("span", {}, el("b", { class: "mark" }, "!"),

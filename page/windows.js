@@ -1,36 +1,47 @@
 // The windows in which something is done: for a guest, a card, a room, a lock; and what came of it.
 
 import { act, cardOf, commands, Lost, roomOfCard } from "./commands.js";
-import { longDay, nightsOf, shortDay } from "./days.js";
+import { longDay, moment, nightsOf, shortDay } from "./days.js";
 import { cardRow, cardsIn, chainOf, freeRooms, guestOf, hotel, ifSoon, isDue, isEmpty, isFault, isStuck, list, refresh,
   Refused, rowOf, stateOf } from "./desk.js";
 import { askOnce, isShown, show, showWhenReady, shut, whileHeld } from "./dialog.js";
 import { acts, button, code, copier, el, first, form, guestName, hint, none, p, pair, printer, rowButton, say, so,
   tableOfFirst, table } from "./dom.js";
+import { mistakes } from "./mistakes.js";
 import { explained, stateWord, words } from "./words.js";
 
 // --- doing ----------------------------------------------------------------------------------------------------------
 
 let doing; // in words, what is being done
+let isAnswered; // whether the desk has answered it, and only the lists are still asked
+let begin; // begins what comes next, if something waits for the lists
 export const isDoing = () => doing !== undefined;
 
 // What is being done, once more: an element can be in one place alone.
 const again = what => what.map(part => part.cloneNode?.(true) ?? part);
 const asked = (command, tell = words.asked) => el("p", { class: "what" }, tell(again(command.what)));
 
-// Does this, unless something else is being done. Whether it was begun.
+// Does this, unless something else is being done, or waits for it. Whether it was begun.
 export async function exclusively(what, does) {
-  if (doing) {
+  if (doing && (begin || !isAnswered)) {
     say(words.stillAsked(again(doing)));
     return false;
   }
+  if (doing) {
+    await new Promise(then => {
+      begin = then;
+    });
+  }
   doing = what;
+  isAnswered = false;
+  begin = undefined;
   document.body.classList.add("busy");
   try {
     await does();
   } finally {
     doing = undefined;
     document.body.classList.remove("busy");
+    begin?.();
   }
   return true;
 }
@@ -41,6 +52,7 @@ export async function run(command, onanswer, onundone = () => undefined) {
   const isBegun = await exclusively(command.what, async () => {
     try {
       const answer = await whileHeld(asked(command), () => act(command));
+      isAnswered = true;
       await onanswer(answer, Boolean(await ifSoon(refresh())));
     } catch (fault) {
       if (fault instanceof Lost) await showLost(fault, onundone);
@@ -100,7 +112,8 @@ const codeRow = (term, id, text) => [term, id, text, code(text)];
 
 // A new card: its number and codes, to be written, copied or printed. `room` is the one that its codes are of, if that
 // is known; `note` says what to do with it, after these warnings, and `ifStuck` what to do if the lock waits.
-function showCard(answer, { guest, depart }, { room, isFresh, note = words.write, ifStuck = note, warnings = [] }) {
+function showCard(answer, { guest, depart }, { room, isFresh, note = words.write,
+  ifStuck = `${note} ${words.earlierFirst}`, warnings = [] }) {
   const card = cardOf(answer);
   const isWaiting = room && isFresh && isStuck(rowOf(room));
   const stuck = !room ? words.roomUnknown : !isFresh ? words.lockUnknown : isWaiting ? words.lockIsStuck : "";
@@ -204,7 +217,7 @@ export function showGuest(guest) {
   show(guestName(guest.guest), p(where),
     acts(guest.room ? guestActs(guest) : bookingActs(guest, { autofocus: true }),
       button(words.close, shut, null, { autofocus: !isAwaited })),
-    otherwise(guest.room ? words.otherwiseInHouse : words.otherwiseBooked));
+    otherwise(guest.room ? words.otherwiseInHouse : words.otherwiseBooked), mistakes(guest.room ? "house" : "booked"));
 }
 
 // --- whose card -----------------------------------------------------------------------------------------------------
@@ -249,7 +262,7 @@ const showInside = room => Promise.all(cardsIn(room).map(async ({ card, party })
 
 const CODES = [[words.number, row => row.place], [words.code, row => code(row.code)],
   [words.inTheLock, row => stateWord(row.state)]];
-const NOTES = [[words.when, row => row.at.replace("T", " ")], [words.what, row => words.happened[row.kind]],
+const NOTES = [[words.when, row => moment(row.at)], [words.what, row => words.happened[row.kind]],
   [words.card, row => row.card || "–"], [words.lock, row => row.fit], [words.count, row => row.count]];
 
 async function roomLists(room) {
@@ -274,6 +287,7 @@ export const showRoom = room => showWhenReady(roomLists(room), ([chain, notes, i
     inside.length ? p(words.inside, inside.flatMap((one, at) => at ? [", ", one] : [one])) : null,
     acts(guest ? guestActs(guest) : row.party ? null : button(words.replaceTheLock, () => refit(room)),
       button(words.close, shut, null, { autofocus: true })),
+    mistakes(...guest ? ["house", "room"] : ["free"]),
     pair(el("section", {}, el("h3", {}, words.codes), table(words.codes, CODES, chain)),
       el("section", {}, el("h3", {}, words.reported), notes.length
         ? tableOfFirst(words.notes, NOTES, notes.toReversed()) : none(words.nothingImported)))

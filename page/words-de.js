@@ -1,15 +1,19 @@
 // The page's words in German (see words-en.js).
 
-const many = (count, one, more) => `${count} ${count === 1 ? one : more}`;
+const locale = "de-DE";
+const { format: number } = new Intl.NumberFormat(locale);
+const many = (count, one, more) => `${number(count)} ${count === 1 ? one : more}`;
 const rooms = count => many(count, "Zimmer", "Zimmer");
 const nights = count => many(count, "Nacht", "Nächte");
 const CALL = "Rufen Sie an, wer den Computer des Systems betreut.";
+const NEW_NUMBER = "Wenn der Gast abgereist ist, dem Schloss eine neue Nummer geben: „Ein Schloss ersetzen“ "
+  + "(Schlösser).";
 const RESTORED = "Wurde das System aus einer Sicherung hergestellt, so rufen Sie an, wer den Computer des Systems "
   + "betreut: dann fehlen noch Schritte.";
 
 export const words = {
   language: "de",
-  locale: "de-DE",
+  locale,
 
   // the head and the foot of the page
   desk: "Rezeption",
@@ -26,6 +30,7 @@ export const words = {
   logOut: "Abmelden",
   keys: key => ["Einzelne Tasten: ", key("1"), " bis ", key("6"), " öffnen die Ansichten, ", key("/"), " die Suche, ",
     key("→"), " ", key("←"), " einen anderen Tag"],
+  sheet: "Das Blatt für die Rezeption",
   languages: "Sprache",
   calendar: day => `Kalender: ${day}`,
   locksToSet: "Schlösser zum Einstellen",
@@ -47,10 +52,10 @@ export const words = {
   copyWhat: what => `Kopieren: ${what}`,
   pleaseWait: "Bitte warten",
   oneAfterTheOther: "Das System erledigt eins nach dem anderen. Ein großer Import dauert eine halbe Minute.",
-  moreRows: count => `${count} weitere werden nicht gezeigt.`,
+  moreRows: count => `${number(count)} weitere werden nicht gezeigt.`,
   room: "Zimmer",
   number: "Nr.",
-  type: "Typ",
+  type: "Kategorie",
   guest: "Gast",
   arrival: "Anreise",
   until: "Bis",
@@ -64,8 +69,8 @@ export const words = {
 
   // Today, and another day
   sumOfToday: (arriving, leaving, inHouse, free, empty) => [many(arriving, "Anreise", "Anreisen"),
-    `${many(leaving, "Abreise", "Abreisen")} fällig`, `${inHouse} im Haus`, `${rooms(free)} frei für heute Nacht`,
-    `${empty} jetzt leer`],
+    `${many(leaving, "Abreise", "Abreisen")} fällig`, `${number(inHouse)} im Haus`,
+    `${rooms(free)} frei für heute Nacht`, `${number(empty)} jetzt leer`],
   sumOfDay: (ahead, arriving, leaving) => [`In ${many(ahead, "Tag", "Tagen")}`, many(arriving, "Anreise", "Anreisen"),
     many(leaving, "Abreise", "Abreisen")],
   arrivals: "Anreisen",
@@ -99,7 +104,7 @@ export const words = {
 
   // Book
   nightsField: "Nächte",
-  roomType: "Zimmertyp",
+  roomType: "Zimmerkategorie",
   freeRooms: "Freie Zimmer",
   free: "Frei",
   earlier: "Früher",
@@ -110,11 +115,11 @@ export const words = {
   fromTo: (from, to) => `${from} bis ${to}`,
   tooLong: count => `Eine Buchung hat höchstens ${nights(count)}.`,
   dayIsOver: "Dieser Tag ist vorbei. Auch auf das Jahr achten.",
-  full: "voll",
-  freeCount: count => `${count} frei`,
-  emptyCount: count => `, ${count} jetzt leer`,
-  freeOf: (kind, day, free, all) => `${kind}, ${day}: ${free} von ${all} frei`,
-  freeByNight: "Freie Zimmer jedes Typs in jeder Nacht",
+  full: "ausgebucht",
+  freeCount: count => `${number(count)} frei`,
+  emptyCount: count => `, ${number(count)} jetzt leer`,
+  freeOf: (kind, day, free, all) => `${kind}, ${day}: ${number(free)} von ${number(all)} frei`,
+  freeByNight: "Freie Zimmer jeder Kategorie in jeder Nacht",
 
   // Rooms
   legend: { free: "frei", taken: "eingetreten", waiting: "nicht eingetreten", leaving: "noch drin" },
@@ -169,7 +174,8 @@ export const words = {
   unreadable: ["Der Browser kann diese Datei nicht lesen.", "Die Datei noch einmal auswählen."],
   importLost: ["Die Antwort ging verloren. Einige Zeilen sind vielleicht übernommen.",
     "Dieselbe Datei noch einmal senden: das schadet nicht."],
-  importSum: (taken, seen, bad) => `${taken} übernommen, ${seen} schon bekannt, ${bad} nicht übernommen`,
+  importSum: (taken, seen, bad) => `${number(taken)} übernommen, ${number(seen)} schon bekannt, `
+    + `${number(bad)} nicht übernommen`,
   linesNotTaken: "Zeilen, die nicht übernommen wurden",
   line: "Zeile",
   whatItSays: "Was darin steht",
@@ -183,31 +189,31 @@ export const words = {
   day: "Tag",
   beginsWith: "Die Geschäftstage beginnen mit diesem Tag. Er lässt sich später nicht ändern.",
   beginWithDay: "Mit diesem Tag beginnen",
-  roomTypes: "Zimmertypen",
+  roomTypes: "Zimmerkategorien",
   noneYet: "Noch keine.",
-  newType: "Neuer Typ",
+  newType: "Neue Kategorie",
   typeForm: "1 bis 8 Buchstaben und Ziffern",
-  addType: "Typ hinzufügen",
-  addTheType: "Den Typ hinzufügen",
-  addTypeNamed: kind => `Den Zimmertyp ${kind} hinzufügen`,
-  cantBeChanged: "Er lässt sich später nicht ändern oder entfernen.",
-  typeAdded: kind => `Der Typ ${kind} ist hinzugefügt.`,
+  addType: "Kategorie hinzufügen",
+  addTheType: "Die Kategorie hinzufügen",
+  addTypeNamed: kind => `Die Zimmerkategorie ${kind} hinzufügen`,
+  cantBeChanged: "Sie lässt sich später nicht ändern oder entfernen.",
+  typeAdded: kind => `Die Kategorie ${kind} ist hinzugefügt.`,
   roomsThereAre: count => `${rooms(count)}. Ein Zimmer lässt sich nicht ändern oder entfernen.`,
   roomsForm: "eines, oder erstes-letztes",
   add: "Hinzufügen",
-  typeFirst: "Zuerst einen Typ hinzufügen.",
+  typeFirst: "Zuerst eine Kategorie hinzufügen.",
   noRoomsToAdd: "Keine Zimmer hinzuzufügen",
   roomsThereAlready: "Diese Nummern gibt es schon.",
   roomNumbers: "Zimmer haben Nummern von 1 bis 9999, die erste zuerst.",
   addRooms: "Zimmer hinzufügen",
-  roomsOfType: (count, kind, from, to) => `${rooms(count)} vom Typ ${kind}${count > 1 ? `, ${from} bis ${to}`
+  roomsOfType: (count, kind, from, to) => `${rooms(count)} der Kategorie ${kind}${count > 1 ? `, ${from} bis ${to}`
     : `: ${from}`}`,
   leftOut: count => `Ausgelassen: ${many(count, "Nummer", "Nummern")}, die das Hotel schon hat.`,
   hotelThenHas: count => `Gelingen alle, so hat das Hotel ${rooms(count)}. Zimmer lassen sich später nicht ändern oder `
     + "entfernen.",
   addSoMany: count => `${rooms(count)} hinzufügen`,
   adding: counter => ["Zimmer werden hinzugefügt: ", counter],
-  countOf: (count, all) => `${count} von ${all}`,
+  countOf: (count, all) => `${number(count)} von ${number(all)}`,
   roomNotAdded: (room, why) => `Zimmer ${room} wurde nicht hinzugefügt, und keines danach. ${why}`,
   noRoomAdded: "Kein Zimmer wurde hinzugefügt",
   setTheseLocks: "Diese Schlösser einstellen",
@@ -242,17 +248,18 @@ export const words = {
   maybeInside: "In jedem freien Zimmer kann noch jemand sein.",
   insideMeans: "„Noch drin“: eine Karte des letzten Gastes ist nicht herausgekommen. Prüfen Sie, dass das Zimmer leer "
     + "ist, bevor Sie es wählen.",
-  waitsMeans: "„Schloss wartet“: das Schloss kennt eine frühere Karte nicht. Das Personal muss es einstellen, bevor "
-    + "eine neue Karte es öffnet.",
-  noneFree: kind => [`Kein Zimmer vom Typ ${kind} ist frei.`,
-    "Einen Gast auschecken, der abgereist ist, oder einen anderen Typ buchen."],
+  waitsMeans: "„Schloss wartet“: das Schloss kennt eine frühere Karte nicht. Es zuerst auslesen, und seine Datei "
+    + "importieren: sonst öffnet ihm vielleicht eine neue Karte nicht.",
+  noneFree: kind => [`Kein Zimmer der Kategorie ${kind} ist frei.`,
+    "Einen Gast auschecken, der abgereist ist, oder eine andere Kategorie buchen."],
   somethingElse: "Etwas anderes?",
+  aMistake: "Ein Fehler?",
   otherwiseInHouse: [
     ["Länger bleiben", "Die weiteren Nächte buchen. An der ersten davon den Gast auschecken, die neue Buchung in "
       + "dasselbe Zimmer einchecken und ihre Karte schreiben. Früh buchen: die Nächte nach einem gebuchten Aufenthalt "
       + "gelten als frei."],
-    ["Ein anderer Zimmertyp", "Ab heute buchen, den Gast auschecken und die neue Buchung einchecken."]],
-  otherwiseBooked: [["Anderer Name, Tag, Typ oder andere Dauer", "Neu buchen, dann diese Buchung stornieren."],
+    ["Eine andere Zimmerkategorie", "Sie ab heute buchen, den Gast auschecken und die neue Buchung einchecken."]],
+  otherwiseBooked: [["Anderer Name, Tag, andere Kategorie oder Dauer", "Neu buchen, dann diese Buchung stornieren."],
     ["Früher kommen", "Auch die Nächte ab heute buchen."]],
 
   // cards
@@ -260,8 +267,10 @@ export const words = {
   write: "Die Nummer und beide Codes auf die Karte schreiben.",
   writeAndCollect: room => "Die Nummer und beide Codes auf die Karte schreiben. Sie ist für Zimmer "
     + `${room}: die Karten des anderen Zimmers einsammeln.`,
-  lockIsStuck: "Das Schloss öffnet dieser Karte noch nicht: es wartet auf eine frühere. Das Schloss von Hand auf den "
-    + "neuen Code einstellen, dann seine Datei importieren (Schlösser).",
+  lockIsStuck: "Das Schloss öffnet dieser Karte noch nicht: es wartet auf eine frühere.",
+  earlierFirst: "Mit jeder Karte, die Sie für das Zimmer haben, hinein- und hinausgehen, die niedrigste Nummer zuerst. "
+    + "Bleibt die Tür der letzten verschlossen, das Schloss von Hand auf ihren neuen Code einstellen, dann seine Datei "
+    + "importieren (Schlösser).",
   lockUnknown: "Das System ist beschäftigt: ob das Schloss auf eine frühere Karte wartet, ist nicht bekannt. In einer "
     + "Minute bei den Schlössern nachsehen.",
   roomUnknown: "Für welches Zimmer diese Karte ist, ist nicht bekannt. Vor der Übergabe beim Gast nachsehen: "
@@ -273,15 +282,16 @@ export const words = {
   writeNew: "Die neue Karte schreiben",
   enterAtOnce: "Den Gast sofort mit dieser Karte eintreten lassen: bis dahin öffnet die verlorene Karte die Tür. Die "
     + "anderen Karten des Gastes öffnen danach nicht mehr: für jede eine Zusatzkarte schreiben.",
-  setAtOnce: "Das Schloss sofort einstellen: bis dahin kann die verlorene Karte die Tür öffnen. Die anderen Karten des "
-    + "Gastes öffnen danach nicht mehr: für jede eine Zusatzkarte schreiben.",
+  setAtOnce: "Das Schloss sofort auf den neuen Code einstellen, und seine Datei importieren (Schlösser): bis dahin "
+    + "kann die verlorene Karte die Tür öffnen. Die anderen Karten des Gastes öffnen danach nicht mehr: für jede eine "
+    + "Zusatzkarte schreiben.",
 
   // a room's window, and its lock
   codes: "Codes",
   inTheLock: "Im Schloss",
   codeStates: { held: "jetzt", awaited: "noch nicht", passed: "nicht mehr" },
-  setLockTo: code => ["Das Schloss wartet auf eine frühere Karte. Es auf ", code,
-    " einstellen und seine Datei importieren."],
+  setLockTo: code => ["Das Schloss wartet auf eine frühere Karte. Einstellen auf ", code,
+    ", dann seine Datei importieren."],
   inside: "Drin: ",
   replaceTheLock: "Das Schloss ersetzen",
   reported: "Was das Schloss meldete",
@@ -304,7 +314,7 @@ export const words = {
 
   // what the desk is asked to do
   toBegin: day => [`mit ${day} beginnen`],
-  toAddType: kind => [`den Zimmertyp ${kind} hinzufügen`],
+  toAddType: kind => [`die Zimmerkategorie ${kind} hinzufügen`],
   toAddRoom: room => [`Zimmer ${room} hinzufügen`],
   toAddRooms: ["Zimmer hinzufügen"],
   toBook: (kind, guest) => [`${kind} buchen für `, guest],
@@ -345,7 +355,7 @@ export const words = {
   othersChangedRoom: "Jemand anders hat dieses Zimmer geändert: seine Codes ansehen.",
   setLostLock: code => `Das neue Schloss auf den Code ${code} einstellen. Seine Nummer ist um eins höher als die des `
     + "alten.",
-  theType: "Der Typ",
+  theType: "Die Kategorie",
   wasThere: what => `${what} war schon da.`,
   isThere: what => `${what} ist da.`,
   isntThere: what => `${what} ist nicht da.`,
@@ -380,8 +390,8 @@ export const words = {
   refusals: {
     1: ["Das System hat noch nicht begonnen.", "Den ersten Geschäftstag unter Einrichten festlegen."],
     2: ["Das System hat schon begonnen.", "Nur der Tageswechsel bewegt den Geschäftstag."],
-    3: ["Diesen Zimmertyp gibt es schon.", "Nichts ist zu tun."],
-    4: ["Diesen Zimmertyp gibt es nicht.", "Zuerst den Typ unter Einrichten hinzufügen."],
+    3: ["Diese Zimmerkategorie gibt es schon.", "Nichts ist zu tun."],
+    4: ["Diese Zimmerkategorie gibt es nicht.", "Zuerst die Kategorie unter Einrichten hinzufügen."],
     5: ["Dieses Zimmer gibt es schon.", "Die Nummer prüfen. Ein Zimmer wird einmal hinzugefügt."],
     6: ["Dieses Zimmer gibt es nicht.", "Die Nummer prüfen."],
     7: ["Keine Buchung hat diese Nummer.", "Den Gast mit dem Namen suchen."],
@@ -391,35 +401,38 @@ export const words = {
     10: ["Der Aufenthalt beginnt nach heute.",
       "Den Gast am Tag der Anreise einchecken, oder die Nächte ab heute buchen."],
     11: ["Die gebuchten Nächte sind vorbei.", "Die Buchung stornieren, und neue Nächte ab heute buchen."],
-    12: ["Das Zimmer ist nicht vom gebuchten Typ.", "Ein Zimmer dieses Typs wählen. Für einen anderen Typ neu buchen."],
+    12: ["Das Zimmer ist nicht von der gebuchten Kategorie.",
+      "Ein Zimmer dieser Kategorie wählen. Für eine andere Kategorie neu buchen."],
     13: ["Der Gast hat dieses Zimmer schon.",
       "Ein anderes Zimmer wählen. Für eine weitere Karte „Zusatzkarte“ wählen."],
     14: ["In diesem Zimmer ist ein Gast angemeldet.", "Ein anderes Zimmer wählen, oder jenen Gast zuerst auschecken."],
     15: ["Die Anreise ist vor dem Geschäftstag.",
       "Heute oder einen späteren Tag wählen. Ist der Tag oben falsch, den „Tageswechsel“ ansehen."],
     16: ["Der Aufenthalt würde nach dem Jahr 2099 enden.", "Weniger Nächte wählen."],
-    17: ["Kein Zimmer dieses Typs ist frei am {}.", "Einen anderen Typ oder andere Nächte wählen."],
+    17: ["Kein Zimmer dieser Kategorie ist frei am {}.", "Eine andere Kategorie oder andere Nächte wählen."],
     18: ["Das System hat alle seine Nummern vergeben.", CALL],
     19: ["Das System fand keinen unbenutzten Code.", `Noch einmal versuchen. Misslingt auch das: ${CALL}`],
     20: ["Das ist der letzte Tag im Kalender des Systems.", CALL],
     21: ["Das Schloss hat unter diesem Zähler schon etwas anderes gemeldet.",
       `Wurde das Schloss ersetzt, so muss das Lesegerät seine neue Nummer schreiben. ${RESTORED}`],
     22: ["Frühere Zeilen dieses Schlosses fehlen.",
-      "Das Schloss ab seiner Zeile {} noch einmal auslesen, und diese Datei importieren. Ist die Zeile verloren oder "
-        + "abgewiesen, dem Schloss eine neue Nummer geben: „Ein Schloss ersetzen“ (Schlösser)."],
+      "Das Schloss ab seiner Zeile {} noch einmal auslesen, und diese Datei importieren. Ist die Zeile verloren, oder "
+        + `wird sie nicht übernommen: ${NEW_NUMBER}`],
     23: ["Das System hat keine Karte mit dieser Nummer ausgegeben.", RESTORED],
-    24: ["Die Karte hat andere Codes, als diese Zeile sagt.", RESTORED],
+    24: ["Die Karte hat andere Codes, als diese Zeile sagt.",
+      "Die Karte wurde falsch geschrieben. Weitere Zeilen des Schlosses übernimmt das System nicht. "
+        + `${NEW_NUMBER} ${RESTORED}`],
     25: ["Nach dem, was das System weiß, öffnet das Schloss dieser Karte nicht.",
       "Vielleicht wurde eine ausgesperrte Karte probiert: dann ist nichts zu tun. Öffnete es doch, zuerst die früheren "
         + "Zeilen des Schlosses importieren."],
     26: ["Nach dem, was das System weiß, ist diese Karte nicht drin.",
-      "Zuerst die früheren Zeilen des Schlosses importieren. Wurde das Schloss ersetzt, während jemand im Zimmer war, "
-        + "noch einmal „Ein Schloss ersetzen“ wählen (Schlösser)."],
+      "Zuerst die früheren Zeilen des Schlosses importieren. Sind sie importiert, oder wurde das Schloss ersetzt, "
+        + `während jemand im Zimmer war: ${NEW_NUMBER}`],
     27: ["Nach dem, was das System weiß, hatte das Schloss einen anderen Code.",
-      `Zuerst die früheren Zeilen des Schlosses importieren. ${RESTORED}`],
+      `Zuerst die früheren Zeilen des Schlosses importieren. Sind sie importiert: ${NEW_NUMBER} ${RESTORED}`],
     28: ["Das Schloss wurde auf einen Code eingestellt, auf den es nicht wartet.",
-      "Das Schloss auf den letzten der Codes des Zimmers einstellen (Zimmer). Weitere Zeilen nimmt das System nicht "
-        + "an: wenn der Gast abgereist ist, dem Schloss eine neue Nummer geben: „Ein Schloss ersetzen“ (Schlösser)."],
+      "Das Schloss auf den letzten der Codes des Zimmers einstellen (Zimmer). Weitere Zeilen von ihm übernimmt das "
+        + `System nicht. ${NEW_NUMBER}`],
     29: ["Der Computer des Systems hat keinen Speicher mehr.",
       `Ein wenig warten, und noch einmal versuchen. Misslingt das: ${CALL}`],
     30: ["Die Datenbank des Systems versagte.", `${CALL} Die Festplatte ist voll oder fällt aus.`],
@@ -432,20 +445,21 @@ export const words = {
     33: ["Das Zimmer hat sein letztes Schloss gehabt.", CALL],
   },
   unread: {
-    FieldCount: "Die Zeile hat zu viele oder zu wenige Felder.", BadRoom: "Das Zimmer ist keine Zahl von 1 bis 9999.",
+    FieldCount: "Die Zeile hat zu viele oder zu wenige Felder.",
+    BadRoom: "Das Zimmer (room) ist keine Zahl von 1 bis 9999.",
     BadFit: "Die Nummer des Schlosses (fit) ist nicht von 1 bis 99.",
-    BadCount: "Der Zähler ist nicht von 1 bis 9999999.",
-    BadKind: "Die Art ist nicht in, out oder recode.", BadCard: "Die Nummer der Karte ist falsch.",
-    BadOld: "Der alte Code ist kein Code.", BadNew: "Der neue Code ist kein Code.",
-    BadMoment: "Der Zeitpunkt ist falsch oder abgeschnitten.",
+    BadCount: "Der Zähler (count) ist nicht von 1 bis 9999999.",
+    BadKind: "Was geschah (kind), ist nicht in, out oder recode.", BadCard: "Die Nummer der Karte (card) ist falsch.",
+    BadOld: "Der alte Code (old) ist kein Code.", BadNew: "Der neue Code (new) ist kein Code.",
+    BadMoment: "Der Zeitpunkt (at) ist falsch oder abgeschnitten.",
   },
   unreadLine: "Die Zeile ist kein Eintrag eines Schlosses.",
   readAgain: "Das Schloss noch einmal auslesen. Die anderen Zeilen zählen.",
   plain: {
     "not allowed": ["Ihr Login darf das nicht.", "Fragen Sie jemanden, dessen Login es darf."],
     unread: ["Ein Wert fehlt oder hat eine falsche Form.", "Prüfen Sie, was Sie eingegeben haben."],
-    "no header": ["Die Datei ist leer.", "Die Datei wählen, die das Lesegerät geschrieben hat."],
-    "wrong header": ["Das ist keine Protokolldatei eines Lesegeräts.",
+    "no header": ["Die Datei ist leer.", "Die Datei wählen, die das Lesegerät des Schlosses geschrieben hat."],
+    "wrong header": ["Das ist keine Protokolldatei vom Lesegerät eines Schlosses.",
       "Die Datei wählen, die das Lesegerät geschrieben hat."],
     "too large": ["Die Datei ist zu groß.",
       "Die Datei jedes Schlosses einzeln senden, oder sie teilen; jeder Teil braucht die erste Zeile."],

@@ -1,14 +1,17 @@
 // The page's words in English. Each language has a module like this one, with the same names. A function gets what
 // changes in its text: counts, days and numbers, and elements, such as a guest's name, that it puts into a list.
 
-const many = (count, one, more = `${one}s`) => `${count} ${count === 1 ? one : more}`;
+const locale = "en-GB"; // of numbers and days
+const { format: number } = new Intl.NumberFormat(locale);
+const many = (count, one, more = `${one}s`) => `${number(count)} ${count === 1 ? one : more}`;
 const CALL = "Call whoever looks after the desk's computer.";
+const NEW_NUMBER = "When the guest has left, give the lock a new number: “Replace a lock” (Locks).";
 const RESTORED = "If the desk was restored from a backup, call whoever looks after the desk's computer: some steps are "
   + "missing.";
 
 export const words = {
   language: "en",
-  locale: "en-GB", // of days
+  locale,
 
   // the head and the foot of the page
   desk: "Hotel desk",
@@ -25,6 +28,7 @@ export const words = {
   logOut: "Log out",
   keys: key => ["Single keys: ", key("1"), " to ", key("6"), " open the views, ", key("/"), " the search, ", key("→"),
     " ", key("←"), " another day"],
+  sheet: "The reception's sheet",
   languages: "Language",
   calendar: day => `calendar: ${day}`,
   locksToSet: "Locks to set",
@@ -46,7 +50,7 @@ export const words = {
   copyWhat: what => `Copy ${what.toLowerCase()}`,
   pleaseWait: "Please wait",
   oneAfterTheOther: "The desk does one thing after the other. A large import takes half a minute.",
-  moreRows: count => `${count} more aren't shown.`,
+  moreRows: count => `${number(count)} more aren't shown.`,
   room: "Room",
   number: "No.",
   type: "Type",
@@ -63,8 +67,8 @@ export const words = {
 
   // Today, and another day
   sumOfToday: (arriving, leaving, inHouse, free, empty) => [many(arriving, "arrival"),
-    `${many(leaving, "departure")} due`, `${inHouse} in house`, `${many(free, "room")} free tonight`,
-    `${empty} empty now`],
+    `${many(leaving, "departure")} due`, `${number(inHouse)} in house`, `${many(free, "room")} free tonight`,
+    `${number(empty)} empty now`],
   sumOfDay: (ahead, arriving, leaving) => [`In ${many(ahead, "day")}`, many(arriving, "arrival"),
     many(leaving, "departure")],
   arrivals: "Arrivals",
@@ -109,9 +113,9 @@ export const words = {
   tooLong: nights => `A booking has at most ${nights} nights.`,
   dayIsOver: "This day is over. Look at the year too.",
   full: "full",
-  freeCount: count => `${count} free`,
-  emptyCount: count => `, ${count} empty now`,
-  freeOf: (kind, day, free, rooms) => `${kind}, ${day}: ${free} of ${rooms} free`,
+  freeCount: count => `${number(count)} free`,
+  emptyCount: count => `, ${number(count)} empty now`,
+  freeOf: (kind, day, free, rooms) => `${kind}, ${day}: ${number(free)} of ${number(rooms)} free`,
   freeByNight: "Free rooms of each type on each night",
 
   // Rooms
@@ -166,7 +170,7 @@ export const words = {
   isImported: file => `${file} is being imported.`,
   unreadable: ["The browser can't read this file.", "Choose it again."],
   importLost: ["The answer is lost. Some lines may have been taken.", "Send the same file again: it does no harm."],
-  importSum: (taken, seen, bad) => `${taken} taken, ${seen} seen before, ${bad} not taken`,
+  importSum: (taken, seen, bad) => `${number(taken)} taken, ${number(seen)} seen before, ${number(bad)} not taken`,
   linesNotTaken: "Lines that weren't taken",
   line: "Line",
   whatItSays: "What it says",
@@ -204,7 +208,7 @@ export const words = {
     + "later.",
   addSoMany: count => `Add ${many(count, "room")}`,
   adding: counter => ["Rooms are added: ", counter],
-  countOf: (count, all) => `${count} of ${all}`,
+  countOf: (count, all) => `${number(count)} of ${number(all)}`,
   roomNotAdded: (room, why) => `Room ${room} wasn't added, nor any after it. ${why}`,
   noRoomAdded: "No room was added",
   setTheseLocks: "Set these locks",
@@ -239,10 +243,12 @@ export const words = {
   maybeInside: "Somebody may still be in each free room.",
   insideMeans: "“Still inside”: a card of the last guest hasn't left. Make sure that the room is empty before you "
     + "choose it.",
-  waitsMeans: "“Lock waits”: the lock hasn't met an earlier card. Staff must set it before a new card opens it.",
+  waitsMeans: "“Lock waits”: the lock hasn't met an earlier card. Read it first, and import its file: else a new card "
+    + "may not open it.",
   noneFree: kind => [`No room of the type ${kind} is free.`,
     "Check out a guest who has left, or book another type."],
   somethingElse: "Something else?",
+  aMistake: "A mistake?",
   otherwiseInHouse: [
     ["To stay longer", "Book the further nights. On the first of them check the guest out, check the new booking in at "
       + "the same room, and write its card. Book early: the nights after a booked stay count as free."],
@@ -255,8 +261,9 @@ export const words = {
   write: "Write the number and both codes onto the card.",
   writeAndCollect: room => `Write the number and both codes onto the card. It is for room ${room}: collect the cards `
     + "for the other room.",
-  lockIsStuck: "The lock doesn't open to this card yet: it waits for an earlier one. Set the lock to the new code by "
-    + "hand, then import its file (Locks).",
+  lockIsStuck: "The lock doesn't open to this card yet: it waits for an earlier one.",
+  earlierFirst: "Go in and out with each card that you have for the room, the lowest number first. If the door stays "
+    + "shut to the last one, set the lock to its new code by hand, then import its file (Locks).",
   lockUnknown: "The desk is busy: it isn't known whether the lock waits for an earlier card. Look at Locks in a "
     + "minute.",
   roomUnknown: "It isn't known for which room this card is. Look at the guest before you hand it out: somebody else "
@@ -268,8 +275,8 @@ export const words = {
   writeNew: "Write the new card",
   enterAtOnce: "Have the guest enter with this card at once: until then the lost card opens the door. The guest's "
     + "other cards open no more after that: write a spare card for each.",
-  setAtOnce: "Set the lock at once: until then the lost card may open the door. The guest's other cards open no more "
-    + "after that: write a spare card for each.",
+  setAtOnce: "Set the lock to the new code at once, and import its file (Locks): until then the lost card may open the "
+    + "door. The guest's other cards open no more after that: write a spare card for each.",
 
   // a room's window, and its lock
   codes: "Codes",
@@ -395,20 +402,21 @@ export const words = {
     21: ["The lock has reported something else with this count before.",
       `If the lock was replaced, the reader must write its new number. ${RESTORED}`],
     22: ["Earlier lines of this lock are missing.",
-      "Read the lock again from its line {} on, and import that file. If that line is lost or refused, give the lock a "
-        + "new number: “Replace a lock” (Locks)."],
+      "Read the lock again from its line {} on, and import that file. If that line is lost or not taken: "
+        + NEW_NUMBER],
     23: ["The desk has issued no card with this number.", RESTORED],
-    24: ["The card has other codes than this line says.", RESTORED],
+    24: ["The card has other codes than this line says.",
+      `The card was written wrongly. The desk takes no more of the lock's lines. ${NEW_NUMBER} ${RESTORED}`],
     25: ["As far as the desk knows, the lock doesn't open to this card.",
       "A shut-out card may have been tried: then there is nothing to do. If it did open, import the lock's earlier "
         + "lines first."],
     26: ["As far as the desk knows, this card isn't inside.",
-      "Import the lock's earlier lines first. If the lock was replaced while somebody was in the room, choose "
-        + "“Replace a lock” once more (Locks)."],
-    27: ["As far as the desk knows, the lock held another code.", `Import the lock's earlier lines first. ${RESTORED}`],
+      `Import the lock's earlier lines first. If they are imported, or the lock was replaced while somebody was in the `
+        + `room: ${NEW_NUMBER}`],
+    27: ["As far as the desk knows, the lock held another code.",
+      `Import the lock's earlier lines first. If they are imported: ${NEW_NUMBER} ${RESTORED}`],
     28: ["The lock was set to a code that it doesn't wait for.",
-      "Set it to the last of the room's Codes (Rooms). The desk takes no more of its lines: when the guest has left, "
-        + "give the lock a new number: “Replace a lock” (Locks)."],
+      `Set it to the last of the room's Codes (Rooms). The desk takes no more of its lines. ${NEW_NUMBER}`],
     29: ["The desk's computer is out of memory.", `Wait a little, and try again. If that fails: ${CALL}`],
     30: ["The desk's database failed.", `${CALL} The disk is full or failing.`],
     31: ["This lock was replaced. The desk takes no more of its lines.",
@@ -419,11 +427,11 @@ export const words = {
     33: ["The room has had its last lock.", CALL],
   },
   unread: {
-    FieldCount: "The line has too many or too few fields.", BadRoom: "The room isn't a number from 1 to 9999.",
-    BadFit: "The lock's number (fit) isn't from 1 to 99.", BadCount: "The count isn't from 1 to 9999999.",
-    BadKind: "The kind isn't in, out or recode.", BadCard: "The card's number is wrong.",
-    BadOld: "The old code isn't a code.", BadNew: "The new code isn't a code.",
-    BadMoment: "The moment is wrong or cut off.",
+    FieldCount: "The line has too many or too few fields.", BadRoom: "The room (room) isn't a number from 1 to 9999.",
+    BadFit: "The lock's number (fit) isn't from 1 to 99.", BadCount: "The count (count) isn't from 1 to 9999999.",
+    BadKind: "What happened (kind) isn't in, out or recode.", BadCard: "The card's number (card) is wrong.",
+    BadOld: "The old code (old) isn't a code.", BadNew: "The new code (new) isn't a code.",
+    BadMoment: "The moment (at) is wrong or cut off.",
   },
   unreadLine: "The line isn't a lock's note.",
   readAgain: "Read the lock again. The other lines count.",

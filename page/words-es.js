@@ -1,14 +1,18 @@
 // The page's words in Spanish (see words-en.js).
 
-const many = (count, one, more = `${one}s`) => `${count} ${Number(count) === 1 ? one : more}`;
+const locale = "es-ES";
+const { format: number } = new Intl.NumberFormat(locale);
+const many = (count, one, more = `${one}s`) => `${number(count)} ${Number(count) === 1 ? one : more}`;
 const rooms = count => many(count, "habitación", "habitaciones");
 const nights = count => many(count, "noche");
 const CALL = "Llame a quien cuida el ordenador del sistema.";
+const NEW_NUMBER = "Cuando el huésped se haya ido, dé a la cerradura un número nuevo: «Sustituir una cerradura» "
+  + "(Cerraduras).";
 const RESTORED = "Si el sistema se restauró de una copia, llame a quien cuida su ordenador: faltan pasos.";
 
 export const words = {
   language: "es",
-  locale: "es-ES",
+  locale,
 
   // the head and the foot of the page
   desk: "Recepción",
@@ -25,6 +29,7 @@ export const words = {
   logOut: "Salir",
   keys: key => ["Teclas sueltas: ", key("1"), " a ", key("6"), " abren las vistas, ", key("/"), " la búsqueda, ",
     key("→"), " ", key("←"), " otro día"],
+  sheet: "La hoja de la recepción",
   languages: "Idioma",
   calendar: day => `calendario: ${day}`,
   locksToSet: "Cerraduras por ajustar",
@@ -46,7 +51,7 @@ export const words = {
   copyWhat: what => `Copiar: ${what}`,
   pleaseWait: "Espere, por favor",
   oneAfterTheOther: "El sistema hace una cosa tras otra. Una importación grande tarda medio minuto.",
-  moreRows: count => `${count} más no se muestran.`,
+  moreRows: count => `${number(count)} más no se muestran.`,
   room: "Habitación",
   number: "N.º",
   type: "Tipo",
@@ -92,7 +97,7 @@ export const words = {
   calendarStill: day => `Según el calendario de este ordenador aún es ${day}.`,
   leftToday: (arriving, leaving) => `${[
     arriving && many(arriving, "huésped no ha llegado", "huéspedes no han llegado"),
-    leaving && many(leaving, "salida está por registrar", "salidas están por registrar"),
+    leaving && many(leaving, "check-out está por hacer", "check-outs están por hacer"),
   ].filter(Boolean).join(", y ")}.`,
   beginDay: day => `Empezar ${day}`,
   itIs: day => `Es ${day}.`,
@@ -113,7 +118,7 @@ export const words = {
   full: "completo",
   freeCount: count => many(count, "libre"),
   emptyCount: count => `, ${many(count, "vacía ahora", "vacías ahora")}`,
-  freeOf: (kind, day, free, all) => `${kind}, ${day}: ${many(free, "libre")} de ${all}`,
+  freeOf: (kind, day, free, all) => `${kind}, ${day}: ${many(free, "libre")} de ${number(all)}`,
   freeByNight: "Habitaciones libres de cada tipo en cada noche",
 
   // Rooms
@@ -141,7 +146,7 @@ export const words = {
   pressEnter: "La tecla Intro muestra de quién es esta tarjeta.",
   noSuchCard: ["El sistema no ha emitido ninguna tarjeta con este número.", "Quizá sea del personal."],
   whoseCard: (card, guest) => [`Tarjeta ${card}: `, guest],
-  hasCheckedOut: "El huésped ya ha salido.",
+  hasCheckedOut: "El huésped ha hecho el check-out.",
   cardInside: room => `La tarjeta está dentro de la habitación ${room}.`,
   isNewest: "Tiene los códigos más nuevos del huésped.",
   isOlder: "El huésped tiene una tarjeta con códigos más nuevos.",
@@ -162,7 +167,7 @@ export const words = {
   importWhat: "Los archivos que el lector ha sacado de las cerraduras. Un archivo puede enviarse dos veces.",
   auditFiles: "Archivos del lector",
   replaceALock: "Sustituir una cerradura",
-  replaceWhere: "Para una habitación sin huésped: registre antes su salida, o cámbielo de habitación.",
+  replaceWhere: "Para una habitación sin huésped: haga antes el check-out del huésped, o cámbielo de habitación.",
   replaceWhich: "Sustituir…",
   allHaveGuests: "Cada habitación tiene un huésped.",
   isImported: file => `Se importa ${file}.`,
@@ -208,7 +213,7 @@ export const words = {
     + "ni quitar después.",
   addSoMany: count => `Añadir ${rooms(count)}`,
   adding: counter => ["Se añaden habitaciones: ", counter],
-  countOf: (count, all) => `${count} de ${all}`,
+  countOf: (count, all) => `${number(count)} de ${number(all)}`,
   roomNotAdded: (room, why) => `No se añadió la habitación ${room}, ni ninguna después. ${why}`,
   noRoomAdded: "No se añadió ninguna habitación",
   setTheseLocks: "Ajuste estas cerraduras",
@@ -218,8 +223,8 @@ export const words = {
   codesOfRooms: "Códigos de las habitaciones nuevas",
 
   // a guest's window, and what is done with a guest
-  checkIn: "Entrada",
-  checkOut: "Salida",
+  checkIn: "Check-in",
+  checkOut: "Check-out",
   cancel: "Anular",
   spareCard: "Otra tarjeta",
   lostCard: "Tarjeta perdida",
@@ -228,9 +233,9 @@ export const words = {
   roomUntil: (room, until) => `Habitación ${room}, hasta ${until}`,
   guestUntil: (guest, until) => [guest, `, hasta ${until}`],
   bookingOf: (party, kind, from, to) => `Reserva ${party}: ${kind}, ${from} a ${to}`,
-  checkInWhom: guest => ["Entrada: ", guest],
+  checkInWhom: guest => ["Check-in: ", guest],
   moveWhom: guest => ["Cambio: ", guest],
-  checkOutWhom: guest => ["Salida: ", guest],
+  checkOutWhom: guest => ["Check-out: ", guest],
   cancelWhose: guest => ["Anular: ", guest],
   stayUntil: (kind, count, until) => `${kind}, ${nights(count)} hasta ${until}`,
   moveFrom: (room, kind) => `De la ${room} a otra ${kind}.`,
@@ -238,21 +243,22 @@ export const words = {
   cancelAsked: (party, kind, count, from) => `Reserva ${party}: ${kind}, ${nights(count)} desde ${from}. No se puede `
     + "deshacer.",
   cancelBooking: "Anular la reserva",
-  isOut: guest => ["Salida registrada: ", guest, "."],
+  isOut: guest => ["Check-out hecho: ", guest, "."],
   isCancelled: guest => ["Anulada: ", guest, "."],
   maybeInside: "En cada habitación libre puede quedar alguien.",
   insideMeans: "«Aún dentro»: una tarjeta del último huésped no ha salido. Asegúrese de que la habitación está vacía "
     + "antes de elegirla.",
-  waitsMeans: "«Cerradura espera»: la cerradura no conoce una tarjeta anterior. El personal debe ajustarla antes de "
-    + "que una tarjeta nueva la abra.",
+  waitsMeans: "«Cerradura espera»: la cerradura no conoce una tarjeta anterior. Léala antes, e importe su archivo: si "
+    + "no, quizá una tarjeta nueva no la abra.",
   noneFree: kind => [`Ninguna habitación del tipo ${kind} está libre.`,
-    "Registre la salida de un huésped que se ha ido, o reserve otro tipo."],
+    "Haga el check-out de un huésped que se ha ido, o reserve otro tipo."],
   somethingElse: "¿Otra cosa?",
+  aMistake: "¿Un error?",
   otherwiseInHouse: [
-    ["Quedarse más", "Reserve las noches siguientes. En la primera registre la salida del huésped, después la "
-      + "entrada de la reserva nueva en la misma habitación, y escriba su tarjeta. Reserve pronto: las noches tras "
+    ["Quedarse más", "Reserve las noches siguientes. En la primera haga el check-out del huésped, después el "
+      + "check-in de la reserva nueva en la misma habitación, y escriba su tarjeta. Reserve pronto: las noches tras "
       + "una estancia reservada cuentan como libres."],
-    ["Otro tipo de habitación", "Resérvelo desde hoy, registre la salida del huésped, y después la entrada de la "
+    ["Otro tipo de habitación", "Resérvelo desde hoy, haga el check-out del huésped, y después el check-in de la "
       + "reserva nueva."]],
   otherwiseBooked: [["Otro nombre, día, duración o tipo", "Reserve de nuevo, y anule después esta reserva."],
     ["Venir antes", "Reserve también las noches desde hoy."]],
@@ -262,8 +268,10 @@ export const words = {
   write: "Escriba el número y los dos códigos en la tarjeta.",
   writeAndCollect: room => `Escriba el número y los dos códigos en la tarjeta. Es para la habitación ${room}: recoja `
     + "las tarjetas de la otra.",
-  lockIsStuck: "La cerradura aún no se abre a esta tarjeta: espera una anterior. Ajuste la cerradura a mano al código "
-    + "nuevo, e importe después su archivo (Cerraduras).",
+  lockIsStuck: "La cerradura aún no se abre a esta tarjeta: espera una anterior.",
+  earlierFirst: "Entre y salga con cada tarjeta que tenga para la habitación, el número más bajo primero. Si la puerta "
+    + "queda cerrada a la última, ajuste la cerradura a mano a su código nuevo, e importe después su archivo "
+    + "(Cerraduras).",
   lockUnknown: "El sistema está ocupado: no se sabe si la cerradura espera una tarjeta anterior. Mire las cerraduras "
     + "dentro de un minuto.",
   roomUnknown: "No se sabe para qué habitación es esta tarjeta. Mire al huésped antes de entregarla: quizá otra "
@@ -274,15 +282,17 @@ export const words = {
     ". La próxima tarjeta tiene un código nuevo. Cuando entre, la tarjeta perdida ya no abrirá."],
   writeNew: "Escribir la tarjeta nueva",
   enterAtOnce: "Haga entrar al huésped en seguida con esta tarjeta: hasta entonces la tarjeta perdida abre la "
-    + "puerta. Las demás tarjetas del huésped ya no abren después: escriba otra por cada una.",
-  setAtOnce: "Ajuste la cerradura en seguida: hasta entonces la tarjeta perdida puede abrir la puerta. Las demás "
-    + "tarjetas del huésped ya no abren después: escriba otra por cada una.",
+    + "puerta. Las demás tarjetas del huésped ya no abren después: escriba otra tarjeta por cada una.",
+  setAtOnce: "Ajuste la cerradura en seguida al código nuevo, e importe su archivo (Cerraduras): hasta entonces la "
+    + "tarjeta perdida puede abrir la puerta. Las demás tarjetas del huésped ya no abren después: escriba otra tarjeta "
+    + "por cada una.",
 
   // a room's window, and its lock
   codes: "Códigos",
   inTheLock: "En la cerradura",
   codeStates: { held: "ahora", awaited: "aún no", passed: "ya no" },
-  setLockTo: code => ["La cerradura espera una tarjeta anterior. Ajústela a ", code, ", e importe su archivo."],
+  setLockTo: code => ["La cerradura espera una tarjeta anterior. Ajustarla a ", code,
+    ", e importar después su archivo."],
   inside: "Dentro: ",
   replaceTheLock: "Sustituir la cerradura",
   reported: "Lo que informó la cerradura",
@@ -310,11 +320,11 @@ export const words = {
   toAddRooms: ["añadir habitaciones"],
   toBook: (kind, guest) => [`reservar ${kind} para `, guest],
   toCancel: guest => ["anular la reserva de ", guest],
-  toCheckIn: (guest, room) => ["registrar la entrada de ", guest, ` en la ${room}`],
+  toCheckIn: (guest, room) => ["hacer el check-in de ", guest, ` en la ${room}`],
   toSpare: guest => ["emitir otra tarjeta para ", guest],
   toReplaceCard: guest => ["sustituir la tarjeta perdida de ", guest],
   toMove: (guest, room) => ["cambiar a ", guest, ` a la ${room}`],
-  toCheckOut: guest => ["registrar la salida de ", guest],
+  toCheckOut: guest => ["hacer el check-out de ", guest],
   toReplaceLock: room => [`sustituir la cerradura de la ${room}`],
   toBeginAfter: day => [`empezar el día después de ${day}`],
   asked: what => ["Se pidió: ", ...what, "."],
@@ -337,12 +347,12 @@ export const words = {
   roomHasNewCode: "La habitación tiene un código nuevo.",
   othersMoved: now => `Otra persona ha cambiado al huésped de habitación. ${now} Escriba otra tarjeta: tiene los `
     + "códigos más nuevos del huésped.",
-  othersCheckedOut: now => `Otra persona ha registrado la salida del huésped. ${now} No hay nada que hacer.`,
+  othersCheckedOut: now => `Otra persona ha hecho el check-out del huésped. ${now} No hay nada que hacer.`,
   spareIs: (card, old, fresh) => `Es la tarjeta ${card}, con los códigos ${old} y ${fresh}.`,
   othersGaveCard: "Otra persona ha dado otra tarjeta al huésped.",
   noNewCard: "El huésped no tiene una tarjeta nueva.",
   noNewCode: "La habitación no tiene un código nuevo.",
-  othersCheckedIn: "Otra persona ha registrado allí a un huésped: mire la habitación antes de hacerlo otra vez.",
+  othersCheckedIn: "Otra persona ha hecho allí el check-in de un huésped: mire la habitación antes de repetirlo.",
   othersChangedRoom: "Otra persona ha cambiado esta habitación: mire sus códigos.",
   setLostLock: code => `Ajuste la cerradura nueva al código ${code}. Su número es uno más que el de la vieja.`,
   theType: "El tipo",
@@ -387,14 +397,14 @@ export const words = {
     7: ["Ninguna reserva tiene este número.", "Busque al huésped por el nombre."],
     8: ["Esta reserva ya no está abierta.",
       "El huésped está alojado, se ha ido, o la reserva se anuló: busque al huésped."],
-    9: ["El huésped no está alojado.", "Quizá otra persona acaba de registrar su salida: busque al huésped."],
+    9: ["El huésped no está alojado.", "Quizá otra persona acaba de hacer su check-out: busque al huésped."],
     10: ["La estancia empieza después de hoy.",
-      "Registre la entrada el día de la llegada, o reserve las noches desde hoy."],
+      "Haga el check-in del huésped el día de la llegada, o reserve las noches desde hoy."],
     11: ["Las noches reservadas han pasado.", "Anule la reserva, y reserve noches nuevas desde hoy."],
     12: ["La habitación no es del tipo reservado.",
       "Elija una habitación de ese tipo. Para otro tipo, reserve de nuevo."],
     13: ["El huésped ya tiene esta habitación.", "Elija otra habitación. Para una tarjeta más, elija «Otra tarjeta»."],
-    14: ["En esta habitación hay un huésped registrado.", "Elija otra habitación, o registre antes la salida de ese."],
+    14: ["En esta habitación hay un huésped registrado.", "Elija otra habitación, o haga antes su check-out."],
     15: ["La llegada es anterior al día hotelero.",
       "Elija hoy o un día posterior. Si el día de arriba no es correcto, mire «Cerrar el día»."],
     16: ["La estancia acabaría después del año 2099.", "Elija menos noches."],
@@ -405,21 +415,22 @@ export const words = {
     21: ["La cerradura ya informó de otra cosa con esta cuenta.",
       `Si se sustituyó la cerradura, el lector debe escribir su número nuevo. ${RESTORED}`],
     22: ["Faltan líneas anteriores de esta cerradura.",
-      "Lea la cerradura otra vez desde su línea {}, e importe ese archivo. Si la línea se perdió o se rechaza, dé a la "
-        + "cerradura un número nuevo: «Sustituir una cerradura» (Cerraduras)."],
+      "Lea la cerradura otra vez desde su línea {}, e importe ese archivo. Si la línea se perdió o no se toma: "
+        + NEW_NUMBER],
     23: ["El sistema no ha emitido ninguna tarjeta con este número.", RESTORED],
-    24: ["La tarjeta tiene otros códigos que esta línea.", RESTORED],
+    24: ["La tarjeta tiene otros códigos que esta línea.",
+      `La tarjeta se escribió mal. El sistema ya no toma las líneas de la cerradura. ${NEW_NUMBER} ${RESTORED}`],
     25: ["Por lo que el sistema sabe, la cerradura no se abre a esta tarjeta.",
       "Quizá se probó una tarjeta excluida: entonces no hay nada que hacer. Si se abrió, importe antes las líneas "
         + "anteriores de la cerradura."],
     26: ["Por lo que el sistema sabe, esta tarjeta no está dentro.",
-      "Importe antes las líneas anteriores de la cerradura. Si se sustituyó mientras había alguien en la habitación, "
-        + "elija otra vez «Sustituir una cerradura» (Cerraduras)."],
+      "Importe antes las líneas anteriores de la cerradura. Si están importadas, o si se sustituyó mientras había "
+        + `alguien en la habitación: ${NEW_NUMBER}`],
     27: ["Por lo que el sistema sabe, la cerradura tenía otro código.",
-      `Importe antes las líneas anteriores de la cerradura. ${RESTORED}`],
+      `Importe antes las líneas anteriores de la cerradura. Si están importadas: ${NEW_NUMBER} ${RESTORED}`],
     28: ["La cerradura se ajustó a un código que no espera.",
-      "Ajústela al último de los códigos de la habitación (Habitaciones). El sistema no acepta más líneas suyas: "
-        + "cuando el huésped se haya ido, dé a la cerradura un número nuevo: «Sustituir una cerradura» (Cerraduras)."],
+      "Ajústela al último de los códigos de la habitación (Habitaciones). El sistema ya no toma sus líneas. "
+        + NEW_NUMBER],
     29: ["El ordenador del sistema no tiene memoria.", `Espere un poco, e inténtelo otra vez. Si falla: ${CALL}`],
     30: ["La base de datos del sistema falló.", `${CALL} El disco está lleno o falla.`],
     31: ["Esta cerradura se sustituyó. El sistema ya no toma sus líneas.",
@@ -430,18 +441,20 @@ export const words = {
     33: ["La habitación ha tenido su última cerradura.", CALL],
   },
   unread: {
-    FieldCount: "La línea tiene demasiados campos, o faltan.", BadRoom: "La habitación no es un número de 1 a 9999.",
-    BadFit: "El número de la cerradura (fit) no es de 1 a 99.", BadCount: "La cuenta no es de 1 a 9999999.",
-    BadKind: "La clase no es in, out o recode.", BadCard: "El número de la tarjeta no es correcto.",
-    BadOld: "El código antiguo no es un código.", BadNew: "El código nuevo no es un código.",
-    BadMoment: "El momento no es correcto o está cortado.",
+    FieldCount: "La línea tiene demasiados campos, o faltan.",
+    BadRoom: "La habitación (room) no es un número de 1 a 9999.",
+    BadFit: "El número de la cerradura (fit) no es de 1 a 99.",
+    BadCount: "La cuenta (count) no es de 1 a 9999999.",
+    BadKind: "Lo que pasó (kind) no es in, out o recode.", BadCard: "El número de la tarjeta (card) no es correcto.",
+    BadOld: "El código antiguo (old) no es un código.", BadNew: "El código nuevo (new) no es un código.",
+    BadMoment: "El momento (at) no es correcto o está cortado.",
   },
   unreadLine: "La línea no es una nota de una cerradura.",
   readAgain: "Lea la cerradura otra vez. Las otras líneas cuentan.",
   plain: {
     "not allowed": ["Su cuenta no puede hacer esto.", "Pida a alguien cuya cuenta pueda."],
     unread: ["Falta un valor o tiene una forma incorrecta.", "Compruebe lo que escribió."],
-    "no header": ["El archivo está vacío.", "Elija el archivo que escribió el lector."],
+    "no header": ["El archivo está vacío.", "Elija el archivo que escribió el lector de la cerradura."],
     "wrong header": ["No es un archivo del lector de las cerraduras.", "Elija el archivo que escribió el lector."],
     "too large": ["El archivo es demasiado grande.",
       "Envíe por separado el archivo de cada cerradura, o pártalo en dos; cada parte necesita la primera línea."],

@@ -1,14 +1,18 @@
 // The page's words in French (see words-en.js).
 
-const many = (count, one, more = `${one}s`) => `${count} ${count < 2 ? one : more}`;
+const locale = "fr-FR";
+const { format: number } = new Intl.NumberFormat(locale);
+const many = (count, one, more = `${one}s`) => `${number(count)} ${count < 2 ? one : more}`;
 const nights = count => many(count, "nuit");
 const CALL = "Appelez la personne qui s'occupe de l'ordinateur du système.";
+const NEW_NUMBER = "Quand le client est parti, donnez à la serrure un nouveau numéro : « Remplacer une serrure » "
+  + "(Serrures).";
 const RESTORED = "Si le système a été rétabli à partir d'une sauvegarde, appelez la personne qui s'occupe de son "
   + "ordinateur : il manque des étapes.";
 
 export const words = {
   language: "fr",
-  locale: "fr-FR",
+  locale,
 
   // the head and the foot of the page
   desk: "Réception",
@@ -25,6 +29,7 @@ export const words = {
   logOut: "Se déconnecter",
   keys: key => ["Touches seules : ", key("1"), " à ", key("6"), " ouvrent les vues, ", key("/"), " la recherche, ",
     key("→"), " ", key("←"), " un autre jour"],
+  sheet: "La feuille de la réception",
   languages: "Langue",
   calendar: day => `calendrier : ${day}`,
   locksToSet: "Serrures à régler",
@@ -46,7 +51,7 @@ export const words = {
   copyWhat: what => `Copier : ${what}`,
   pleaseWait: "Veuillez patienter",
   oneAfterTheOther: "Le système fait une chose après l'autre. Une grande importation dure une demi-minute.",
-  moreRows: count => `${count} de plus ne sont pas affichés.`,
+  moreRows: count => `${number(count)} de plus ne sont pas affichés.`,
   room: "Chambre",
   number: "N°",
   type: "Type",
@@ -92,7 +97,7 @@ export const words = {
   calendarStill: day => `D'après le calendrier de cet ordinateur, nous sommes encore ${day}.`,
   leftToday: (arriving, leaving) => `${[
     arriving && many(arriving, "client n'est pas arrivé", "clients ne sont pas arrivés"),
-    leaving && many(leaving, "départ reste à enregistrer", "départs restent à enregistrer"),
+    leaving && many(leaving, "check-out reste à faire", "check-outs restent à faire"),
   ].filter(Boolean).join(", et ")}.`,
   beginDay: day => `Commencer ${day}`,
   itIs: day => `Nous sommes ${day}.`,
@@ -113,7 +118,7 @@ export const words = {
   full: "complet",
   freeCount: count => many(count, "libre"),
   emptyCount: count => `, ${many(count, "vide maintenant", "vides maintenant")}`,
-  freeOf: (kind, day, free, all) => `${kind}, ${day} : ${many(free, "libre")} sur ${all}`,
+  freeOf: (kind, day, free, all) => `${kind}, ${day} : ${many(free, "libre")} sur ${number(all)}`,
   freeByNight: "Chambres libres de chaque type pour chaque nuit",
 
   // Rooms
@@ -141,7 +146,7 @@ export const words = {
   pressEnter: "La touche Entrée montre à qui est cette carte.",
   noSuchCard: ["Le système n'a émis aucune carte de ce numéro.", "C'est peut-être une carte du personnel."],
   whoseCard: (card, guest) => [`Carte ${card} : `, guest],
-  hasCheckedOut: "Le client est parti.",
+  hasCheckedOut: "Le client a fait son check-out.",
   cardInside: room => `La carte est dans la chambre ${room}.`,
   isNewest: "Elle a les codes les plus récents du client.",
   isOlder: "Le client a une carte avec des codes plus récents.",
@@ -162,7 +167,7 @@ export const words = {
   importWhat: "Les fichiers que le lecteur a pris aux serrures. Un fichier peut être envoyé deux fois.",
   auditFiles: "Fichiers du lecteur",
   replaceALock: "Remplacer une serrure",
-  replaceWhere: "Pour une chambre sans client : enregistrez d'abord le départ du client, ou déplacez-le.",
+  replaceWhere: "Pour une chambre sans client : faites d'abord le check-out du client, ou déplacez-le.",
   replaceWhich: "Remplacer…",
   allHaveGuests: "Chaque chambre a un client.",
   isImported: file => `${file} est en cours d'importation.`,
@@ -208,7 +213,7 @@ export const words = {
     + "plus être changées ni ôtées ensuite.",
   addSoMany: count => `Ajouter ${many(count, "chambre")}`,
   adding: counter => ["Les chambres sont ajoutées : ", counter],
-  countOf: (count, all) => `${count} sur ${all}`,
+  countOf: (count, all) => `${number(count)} sur ${number(all)}`,
   roomNotAdded: (room, why) => `La chambre ${room} n'a pas été ajoutée, ni aucune après elle. ${why}`,
   noRoomAdded: "Aucune chambre n'a été ajoutée",
   setTheseLocks: "Réglez ces serrures",
@@ -243,16 +248,17 @@ export const words = {
   maybeInside: "Quelqu'un peut encore être dans chaque chambre libre.",
   insideMeans: "« Encore dedans » : une carte du dernier client n'est pas sortie. Assurez-vous que la chambre est vide "
     + "avant de la choisir.",
-  waitsMeans: "« Serrure attend » : la serrure ne connaît pas une carte antérieure. Le personnel doit la régler avant "
-    + "qu'une nouvelle carte ne l'ouvre.",
+  waitsMeans: "« Serrure attend » : la serrure ne connaît pas une carte antérieure. Lisez-la d'abord, et importez son "
+    + "fichier : sinon une nouvelle carte ne l'ouvre peut-être pas.",
   noneFree: kind => [`Aucune chambre du type ${kind} n'est libre.`,
-    "Enregistrez le départ d'un client qui est parti, ou réservez un autre type."],
+    "Faites le check-out d'un client qui est parti, ou réservez un autre type."],
   somethingElse: "Autre chose ?",
+  aMistake: "Une erreur ?",
   otherwiseInHouse: [
-    ["Rester plus longtemps", "Réservez les nuits suivantes. À la première, enregistrez le départ du client, puis "
-      + "l'arrivée de la nouvelle réservation dans la même chambre, et écrivez sa carte. Réservez tôt : les nuits "
-      + "après un séjour réservé comptent comme libres."],
-    ["Un autre type de chambre", "Réservez-le à partir d'aujourd'hui, enregistrez le départ du client, puis l'arrivée "
+    ["Rester plus longtemps", "Réservez les nuits suivantes. À la première, faites le check-out du client, puis le "
+      + "check-in de la nouvelle réservation dans la même chambre, et écrivez sa carte. Réservez tôt : les nuits après "
+      + "un séjour réservé comptent comme libres."],
+    ["Un autre type de chambre", "Réservez-le à partir d'aujourd'hui, faites le check-out du client, puis le check-in "
       + "de la nouvelle réservation."]],
   otherwiseBooked: [["Autre nom, jour, durée ou type", "Réservez de nouveau, puis annulez cette réservation."],
     ["Venir plus tôt", "Réservez aussi les nuits à partir d'aujourd'hui."]],
@@ -262,8 +268,10 @@ export const words = {
   write: "Écrivez le numéro et les deux codes sur la carte.",
   writeAndCollect: room => `Écrivez le numéro et les deux codes sur la carte. Elle est pour la chambre ${room} : `
     + "reprenez les cartes de l'autre chambre.",
-  lockIsStuck: "La serrure ne s'ouvre pas encore à cette carte : elle en attend une antérieure. Réglez la serrure à la "
-    + "main sur le nouveau code, puis importez son fichier (Serrures).",
+  lockIsStuck: "La serrure ne s'ouvre pas encore à cette carte : elle en attend une antérieure.",
+  earlierFirst: "Entrez et sortez avec chaque carte que vous avez pour la chambre, le plus petit numéro d'abord. Si la "
+    + "porte reste fermée à la dernière, réglez la serrure à la main sur son nouveau code, puis importez son fichier "
+    + "(Serrures).",
   lockUnknown: "Le système est occupé : on ne sait pas si la serrure attend une carte antérieure. Regardez les "
     + "serrures dans une minute.",
   roomUnknown: "On ne sait pas pour quelle chambre est cette carte. Regardez le client avant de la donner : quelqu'un "
@@ -274,15 +282,16 @@ export const words = {
     ". La prochaine carte a un nouveau code. Dès qu'elle entre, la carte perdue n'ouvre plus."],
   writeNew: "Écrire la nouvelle carte",
   enterAtOnce: "Faites entrer le client tout de suite avec cette carte : jusque-là, la carte perdue ouvre la porte. "
-    + "Les autres cartes du client n'ouvrent plus ensuite : écrivez-en une autre pour chacune.",
-  setAtOnce: "Réglez la serrure tout de suite : jusque-là, la carte perdue peut ouvrir la porte. Les autres cartes du "
-    + "client n'ouvrent plus ensuite : écrivez-en une autre pour chacune.",
+    + "Les autres cartes du client n'ouvrent plus ensuite : écrivez une autre carte pour chacune.",
+  setAtOnce: "Réglez la serrure tout de suite sur le nouveau code, et importez son fichier (Serrures) : jusque-là, la "
+    + "carte perdue peut ouvrir la porte. Les autres cartes du client n'ouvrent plus ensuite : écrivez une autre carte "
+    + "pour chacune.",
 
   // a room's window, and its lock
   codes: "Codes",
   inTheLock: "Dans la serrure",
   codeStates: { held: "maintenant", awaited: "pas encore", passed: "plus" },
-  setLockTo: code => ["La serrure attend une carte antérieure. Réglez-la sur ", code, ", et importez son fichier."],
+  setLockTo: code => ["La serrure attend une carte antérieure. La régler sur ", code, ", puis importer son fichier."],
   inside: "Dedans : ",
   replaceTheLock: "Remplacer la serrure",
   reported: "Ce que la serrure a signalé",
@@ -311,11 +320,11 @@ export const words = {
   toAddRooms: ["ajouter des chambres"],
   toBook: (kind, guest) => [`réserver ${kind} pour `, guest],
   toCancel: guest => ["annuler la réservation : ", guest],
-  toCheckIn: (guest, room) => ["enregistrer l'arrivée : ", guest, `, chambre ${room}`],
+  toCheckIn: (guest, room) => ["faire le check-in : ", guest, `, chambre ${room}`],
   toSpare: guest => ["émettre une autre carte pour ", guest],
   toReplaceCard: guest => ["remplacer la carte perdue : ", guest],
   toMove: (guest, room) => ["déplacer ", guest, ` à la ${room}`],
-  toCheckOut: guest => ["enregistrer le départ : ", guest],
+  toCheckOut: guest => ["faire le check-out : ", guest],
   toReplaceLock: room => [`remplacer la serrure de la ${room}`],
   toBeginAfter: day => [`commencer le jour après ${day}`],
   asked: what => ["Demande : ", ...what, "."],
@@ -338,12 +347,12 @@ export const words = {
   roomHasNewCode: "La chambre a un nouveau code.",
   othersMoved: now => `Quelqu'un d'autre a déplacé le client. ${now} Écrivez une autre carte : elle a les codes les `
     + "plus récents du client.",
-  othersCheckedOut: now => `Quelqu'un d'autre a enregistré le départ du client. ${now} Il n'y a rien à faire.`,
+  othersCheckedOut: now => `Quelqu'un d'autre a fait le check-out du client. ${now} Il n'y a rien à faire.`,
   spareIs: (card, old, fresh) => `C'est la carte ${card}, avec les codes ${old} et ${fresh}.`,
   othersGaveCard: "Quelqu'un d'autre a donné une autre carte au client.",
   noNewCard: "Le client n'a pas de nouvelle carte.",
   noNewCode: "La chambre n'a pas de nouveau code.",
-  othersCheckedIn: "Quelqu'un d'autre y a enregistré un client : regardez la chambre avant de le refaire.",
+  othersCheckedIn: "Quelqu'un d'autre y a fait le check-in d'un client : regardez la chambre avant de le refaire.",
   othersChangedRoom: "Quelqu'un d'autre a changé cette chambre : regardez ses codes.",
   setLostLock: code => `Réglez la nouvelle serrure sur le code ${code}. Son numéro est celui de l'ancienne plus un.`,
   theType: "Le type",
@@ -389,9 +398,9 @@ export const words = {
     8: ["Cette réservation n'est plus ouverte.",
       "Le client est présent ou parti, ou la réservation a été annulée : cherchez le client."],
     9: ["Le client n'est pas présent.",
-      "Quelqu'un d'autre vient peut-être d'enregistrer son départ : cherchez le client."],
+      "Quelqu'un d'autre vient peut-être de faire son check-out : cherchez le client."],
     10: ["Le séjour commence après aujourd'hui.",
-      "Enregistrez l'arrivée le jour même, ou réservez les nuits à partir d'aujourd'hui."],
+      "Faites le check-in du client le jour de l'arrivée, ou réservez les nuits à partir d'aujourd'hui."],
     11: ["Les nuits réservées sont passées.",
       "Annulez la réservation, et réservez de nouvelles nuits à partir d'aujourd'hui."],
     12: ["La chambre n'est pas du type réservé.",
@@ -399,7 +408,7 @@ export const words = {
     13: ["Le client a déjà cette chambre.",
       "Choisissez une autre chambre. Pour une carte de plus, choisissez « Autre carte »."],
     14: ["Un client est enregistré dans cette chambre.",
-      "Choisissez une autre chambre, ou enregistrez d'abord son départ."],
+      "Choisissez une autre chambre, ou faites d'abord son check-out."],
     15: ["L'arrivée est avant le jour d'exploitation.",
       "Choisissez aujourd'hui ou plus tard. Si le jour en haut est faux, voyez « Clôturer le jour »."],
     16: ["Le séjour finirait après l'an 2099.", "Choisissez moins de nuits."],
@@ -410,21 +419,22 @@ export const words = {
     21: ["La serrure a déjà signalé autre chose sous ce compte.",
       `Si la serrure a été remplacée, le lecteur doit écrire son nouveau numéro. ${RESTORED}`],
     22: ["Il manque des lignes antérieures de cette serrure.",
-      "Lisez la serrure de nouveau à partir de sa ligne {}, et importez ce fichier. Si cette ligne est perdue ou "
-        + "refusée, donnez à la serrure un nouveau numéro : « Remplacer une serrure » (Serrures)."],
+      "Lisez la serrure de nouveau à partir de sa ligne {}, et importez ce fichier. Si cette ligne est perdue ou n'est "
+        + `pas prise : ${NEW_NUMBER}`],
     23: ["Le système n'a émis aucune carte de ce numéro.", RESTORED],
-    24: ["La carte a d'autres codes que cette ligne.", RESTORED],
+    24: ["La carte a d'autres codes que cette ligne.",
+      `La carte a été mal écrite. Le système ne prend plus les lignes de la serrure. ${NEW_NUMBER} ${RESTORED}`],
     25: ["Pour autant que le système le sache, la serrure ne s'ouvre pas à cette carte.",
       "Une carte exclue a peut-être été essayée : alors il n'y a rien à faire. Si la serrure s'est ouverte, importez "
         + "d'abord ses lignes antérieures."],
     26: ["Pour autant que le système le sache, cette carte n'est pas dedans.",
-      "Importez d'abord les lignes antérieures de la serrure. Si la serrure a été remplacée quand quelqu'un était dans "
-        + "la chambre, choisissez encore une fois « Remplacer une serrure » (Serrures)."],
+      "Importez d'abord les lignes antérieures de la serrure. Si elles sont importées, ou si la serrure a été "
+        + `remplacée quand quelqu'un était dans la chambre : ${NEW_NUMBER}`],
     27: ["Pour autant que le système le sache, la serrure avait un autre code.",
-      `Importez d'abord les lignes antérieures de la serrure. ${RESTORED}`],
+      `Importez d'abord les lignes antérieures de la serrure. Si elles sont importées : ${NEW_NUMBER} ${RESTORED}`],
     28: ["La serrure a été réglée sur un code qu'elle n'attend pas.",
-      "Réglez-la sur le dernier des codes de la chambre (Chambres). Le système n'accepte plus ses lignes : quand le "
-        + "client est parti, donnez à la serrure un nouveau numéro : « Remplacer une serrure » (Serrures)."],
+      "Réglez-la sur le dernier des codes de la chambre (Chambres). Le système ne prend plus ses lignes. "
+        + NEW_NUMBER],
     29: ["L'ordinateur du système n'a plus de mémoire.", `Attendez un peu, et réessayez. Si cela échoue : ${CALL}`],
     30: ["La base de données du système a échoué.", `${CALL} Le disque est plein ou en panne.`],
     31: ["Cette serrure a été remplacée. Le système ne prend plus ses lignes.",
@@ -435,18 +445,21 @@ export const words = {
     33: ["La chambre a eu sa dernière serrure.", CALL],
   },
   unread: {
-    FieldCount: "La ligne a trop ou trop peu de champs.", BadRoom: "La chambre n'est pas un nombre de 1 à 9999.",
-    BadFit: "Le numéro de la serrure (fit) n'est pas de 1 à 99.", BadCount: "Le compte n'est pas de 1 à 9999999.",
-    BadKind: "Le genre n'est pas in, out ou recode.", BadCard: "Le numéro de la carte est faux.",
-    BadOld: "L'ancien code n'est pas un code.", BadNew: "Le nouveau code n'est pas un code.",
-    BadMoment: "Le moment est faux ou coupé.",
+    FieldCount: "La ligne a trop ou trop peu de champs.",
+    BadRoom: "La chambre (room) n'est pas un nombre de 1 à 9999.",
+    BadFit: "Le numéro de la serrure (fit) n'est pas de 1 à 99.",
+    BadCount: "Le compte (count) n'est pas de 1 à 9999999.",
+    BadKind: "Ce qui s'est passé (kind) n'est pas in, out ou recode.",
+    BadCard: "Le numéro de la carte (card) est faux.",
+    BadOld: "L'ancien code (old) n'est pas un code.", BadNew: "Le nouveau code (new) n'est pas un code.",
+    BadMoment: "Le moment (at) est faux ou coupé.",
   },
   unreadLine: "La ligne n'est pas une note d'une serrure.",
   readAgain: "Lisez la serrure de nouveau. Les autres lignes comptent.",
   plain: {
     "not allowed": ["Votre compte ne peut pas faire cela.", "Demandez à quelqu'un dont le compte le peut."],
     unread: ["Une valeur manque ou a une mauvaise forme.", "Vérifiez ce que vous avez tapé."],
-    "no header": ["Le fichier est vide.", "Choisissez le fichier que le lecteur a écrit."],
+    "no header": ["Le fichier est vide.", "Choisissez le fichier que le lecteur de la serrure a écrit."],
     "wrong header": ["Ce n'est pas un fichier du lecteur des serrures.",
       "Choisissez le fichier que le lecteur a écrit."],
     "too large": ["Le fichier est trop grand.",

@@ -6,6 +6,7 @@ export const LANGUAGES = { en: "English", de: "Deutsch", fr: "Français", es: "E
 const asked = [localStorage.getItem("language"), ...navigator.languages.map(name => name.split("-")[0])];
 const language = asked.find(name => Object.hasOwn(LANGUAGES, name)) ?? "en";
 export const { words } = await import(`./words-${language}.js`);
+export const { format: number } = new Intl.NumberFormat(words.locale);
 
 // Whether a code of a room is the one that its lock holds.
 export const stateWord = state => words.codeStates[state] ?? state;
