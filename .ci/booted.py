@@ -40,6 +40,8 @@ timeout -s KILL 600 unshare -mpnuiCf --kill-child bash -euc '
     for at in 0 1 2; do ln -s /proc/self/fd/$at $top/dev/$(cut -d " " -f $((at + 1)) <<<"stdin stdout stderr"); done
     mkdir -p $top/given
     mount --bind $0/given $top/given
+    mkdir -p $top/run/systemd/system/timer.d
+    echo "$NO_TIMERS" >$top/run/systemd/system/timer.d/none.conf
     rm -rf $top/etc/systemd/system/*.wants $top/etc/nginx/hotel $top/etc/hotel_desk $top/var/lib/hotel*
     install -m 755 /dev/stdin $top/usr/sbin/sendmail <<<"$SENDMAIL"
     echo hotel-pc >$top/etc/hostname
@@ -61,6 +63,8 @@ find $group -depth -type d -exec rmdir {} +
 SENDMAIL = """#!/bin/sh
 test ! -e /run/no-mailer && cat >>/root/mails && echo ---- >>/root/mails
 """
+# No timer fires while a test looks: what it would start is started by the test.
+NO_TIMERS = "[Timer]\nOnCalendar=\nOnCalendar=2099-01-01"
 AROUND = {"HOME": "/root", "PATH": "/usr/local/sbin:/usr/local/bin:/usr/sbin:/usr/bin:/sbin:/bin", "LC_ALL": "C.UTF-8",
           "DEBIAN_FRONTEND": "noninteractive"}
 
@@ -100,13 +104,13 @@ class Computer:
             (folder / "given" / package.name).write_bytes(package.read_bytes())
         self.folder, self.given = folder, folder / "given"
         self.boot = subprocess.Popen(["unshare", "-m", "bash", "-c", BOOT, "bash", folder, root or os.environ.get(
-            "ROOT", "/")], env=dict(os.environ, SENDMAIL=SENDMAIL), stderr=subprocess.DEVNULL)
+            "ROOT", "/")], env=dict(os.environ, SENDMAIL=SENDMAIL, NO_TIMERS=NO_TIMERS), stderr=subprocess.DEVNULL)
         self.first = self.first_process()
         self.sh("until systemctl is-system-running | grep -qE 'running|degraded'; do sleep 0.1; done")
 
     def first_process(self):
         """The systemd, as this machine numbers it."""
-        for _ in range(600):
+        for _ in range(2400):
             time.sleep(0.05)
             if (self.folder / "pid").exists():
                 timeout = (self.folder / "pid").read_text().strip()

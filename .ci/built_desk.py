@@ -20,6 +20,12 @@ DESK = HERE.parent / "crates" / "hotel_desk" / "out" / "hotel_desk"
 sys.dont_write_bytecode = True
 
 
+def door_of(program):
+    """The hotel_door beside this hotel_desk, or else the built one."""
+    beside = program.parent / "hotel_door"
+    return beside if beside.exists() else HERE.parent / "crates" / "hotel_door" / "out" / "hotel_door"
+
+
 def block(counter):
     """One block of ChaCha20's keystream for a key of zeros and a nonce of zeros (RFC 8439, 2.3)."""
     def rotated(x, n):

@@ -8,9 +8,21 @@ from clerk_screens import FEW, WINDOWS, looked_at, opened
 from clerks import PAGE, Clerk, hotel
 
 LANGUAGES = ["en", "de", "fr", "es"]
+# Guests with long names: one to come, one in house.
+LONG = """reserve DBL 2031-12-30 9 Zo\u00eb M\u00fcller-L\u00fcdenscheidt von und zu Oberwinter
+reserve DBL 2031-05-01 2 Wolfgang Amadeus Donaudampfschifffahrtsgesellschaft
+check-in 6 103
+"""
+# The widths of a phone and of a tablet, and whether they are touched.
+SIZES = [(360, False), (768, True)]
 # The first of May in each.
 FIRST = {"en": "Thursday, 1 May 2031", "de": "Donnerstag, 1. Mai 2031", "fr": "jeudi 1 mai 2031",
          "es": "jueves, 1 de mayo de 2031"}
+# A number, and the moment of this note, in each.
+NUMBERS = {"en": "15,560", "de": "15.560", "fr": "15\u202f560", "es": "15.560"}
+MOMENTS = {"en": "1 May 2031, 15:00:00", "de": "01.05.2031, 15:00:00", "fr": "1 mai 2031, 15:00:00",
+           "es": "1 may 2031, 15:00:00"}
+NOTE = "room,fit,count,kind,card,old,new,at\n101,1,1,in,1,{},{},2031-05-01T15:00:00\n"
 # The words of a language: each by its path, with the number of arguments of a function, and else the text.
 WORDS = """
 const all = {}, done = arguments[1];
@@ -18,6 +30,21 @@ function collect(path, told) {
     if (typeof told === 'function') all[path] = told.length;
     else if (typeof told === 'string' || told instanceof RegExp) all[path] = String(told);
     else for (const [name, one] of Object.entries(told)) collect(path ? `${path}.${name}` : name, one);
+}
+import(`/words-${arguments[0]}.js`).then(({words}) => { collect('', words); done(all); });"""
+# The texts of a language by their paths: a function with the same for each gap.
+TEXTS = """
+const all = {}, done = arguments[1];
+function filled(told) {
+    const gaps = gap => told(...Array(told.length).fill(gap));
+    try { return gaps('7'); } catch { return gaps(text => text); }
+}
+function collect(path, told) {
+    if (typeof told === 'function') told = filled(told);
+    if (Array.isArray(told)) all[path] = told.flat(9).join(' ');
+    else if (typeof told === 'object' && !(told instanceof RegExp)) {
+        for (const [name, one] of Object.entries(told)) collect(path ? `${path}.${name}` : name, one);
+    } else all[path] = String(told);
 }
 import(`/words-${arguments[0]}.js`).then(({words}) => { collect('', words); done(all); });"""
 # A module in a language's place: English, with each text in brackets.
@@ -51,6 +78,10 @@ DATA = set("""Ann Lee Bo Cy Dora Eve DBL SGL TRP desk hotel example csv wrong
     Mon Tue Wed Thu Fri Sat Sun Monday Tuesday Wednesday Thursday Friday Saturday Sunday May June""".split())
 
 
+def texts_of(clerk, language):
+    return clerk.browser.execute_async_script(TEXTS, language)
+
+
 class Speaker(Clerk):
     """A clerk at the page in a language. What is to be pressed is named in English."""
 
@@ -79,6 +110,11 @@ class Speaker(Clerk):
         super().press(self.own[paths[0]] if paths else text, near, top)
 
 
+def columns(told):
+    """The names of columns in a text, such as `(count)`."""
+    return re.findall(r"\(([a-z]+)\)", told) if isinstance(told, str) else []
+
+
 def the_same_words(desk):
     """Each language has each word, with as many arguments, and in words of its own; and the page uses each."""
     used = "".join(file.read_text() for file in PAGE.glob("*") if file.suffix in (".js", ".html") and not
@@ -96,6 +132,9 @@ def the_same_words(desk):
             alike = [path for path in english if isinstance(english[path], str) and english[path] == own.get(path)
                      and len(english[path].split()) > 1]
             yield (language, "alike"), [], alike
+            # A technician finds the column of an audit file by its name.
+            yield (language, "columns"), {path: columns(told) for path, told in english.items()}, {
+                path: columns(told) for path, told in own.items()}
             yield (language, "gaps"), [], [path for path in english if isinstance(english[path], str)
                                            and ("{}" in english[path]) != ("{}" in str(own.get(path)))]
 
@@ -163,13 +202,13 @@ def words_of_messages(clerk, between, site):
     between.begin()
 
 
-def narrow_windows(language):
-    """The test that at 360 pixels nothing is cut off in this language."""
+def narrow_windows(language, width, is_touched):
+    """The test that in a window of this width nothing is cut off in this language."""
     def test(desk):
-        long = "reserve DBL 2031-12-30 9 Zo\u00eb M\u00fcller-L\u00fcdenscheidt von und zu Oberwinter\n"
-        with hotel(desk, FEW + long.encode()) as (_, site), Speaker(site, language) as clerk:
-            clerk.command("Emulation.setDeviceMetricsOverride", width=360, height=740, mobile=False,
+        with hotel(desk, FEW + LONG.encode()) as (_, site), Speaker(site, language) as clerk:
+            clerk.command("Emulation.setDeviceMetricsOverride", width=width, height=1000, mobile=is_touched,
                           deviceScaleFactor=1)
+            clerk.command("Emulation.setTouchEmulationEnabled", enabled=is_touched)
             clerk.go("Today")
             yield "the day", FIRST[language], clerk.until(lambda: clerk.raw("h1"))
             yield "the view", clerk.own["today"], clerk.text("header nav [aria-current]")
@@ -177,19 +216,42 @@ def narrow_windows(language):
                 clerk.go(view)
                 time.sleep(0.3)
                 yield from looked_at(clerk, view)
-                clerk.shot(f"narrow-{language}-{view.lower()}")
+                clerk.shot(f"{width}-{language}-{view.lower()}")
             for view, presses, title in WINDOWS:
                 opened(clerk, view, presses)
                 clerk.until(lambda: clerk.js("return document.getElementById('dialog').open"))
                 time.sleep(0.2)
                 yield from looked_at(clerk, title)
-                clerk.shot(f"narrow-{language}-{view}-{title.strip()}".replace(" ", "-").lower())
+                clerk.shot(f"{width}-{language}-{view}-{title.strip()}".replace(" ", "-").lower())
                 clerk.type(clerk.keys.ESCAPE)
                 clerk.closed()
             yield "the console", [], clerk.faults()
 
-    test.__name__ = f"narrow_windows_{language}"
+    test.__name__ = f"windows_{language}_{width}"
     return test
+
+
+def written(desk):
+    """Numbers, days, moments and what is printed are in the page's language, and so is the name of a saved print."""
+    with hotel(desk, FEW) as (_, site), Speaker(site, "en") as clerk:
+        codes = [line.split(",")[1] for line in site.ask("GET /desk/rooms/101/chain")[2].decode().splitlines()[1:]]
+        site.ask("POST /desk/audit", NOTE.format(*codes).encode())
+        for language in LANGUAGES:
+            clerk.speak(language)
+            clerk.go("Today")
+            own = clerk.own
+            yield (language, "a number"), NUMBERS[language], re.search(r"15\D?560", clerk.browser.execute_async_script(
+                "import('/words.js').then(({words}) => arguments[0](words.moreRows(15560)))"))[0]
+            yield (language, "the name of a print"), True, clerk.browser.title.startswith(FIRST[language])
+            paper = clerk.paper().lower()
+            yield (language, "on paper"), [], [text for text in (
+                FIRST[language], own["arrivals"], own["departuresDue"], own["inHouse"], own["until"], own["entered"])
+                if text.lower() not in paper]
+            clerk.go("Rooms")
+            clerk.js("document.querySelector(`[data-key='room 101']`).click()")
+            yield (language, "a moment"), True, clerk.shows(MOMENTS[language])
+            clerk.type(clerk.keys.ESCAPE)
+        yield "the console", [], clerk.faults()
 
 
 def chosen_languages(desk):
@@ -209,4 +271,5 @@ def chosen_languages(desk):
         yield "the console", [], clerk.faults()
 
 
-SPOKEN = [*map(narrow_windows, LANGUAGES), no_word_outside, the_same_words, chosen_languages]
+SPOKEN = [*(narrow_windows(language, *size) for language in LANGUAGES for size in SIZES), no_word_outside,
+          the_same_words, written, chosen_languages]

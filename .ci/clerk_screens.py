@@ -28,7 +28,8 @@ check-out 3
 NAMELESS = """
 const name = one => one.getAttribute('aria-label') || one.innerText?.trim() || one.labels?.[0]?.innerText.trim();
 return [...document.querySelectorAll('button, input, select, a, table, dialog[open]')]
-    .filter(one => one.checkVisibility() && !(one.matches('table') ? one.caption && one.querySelector('th[scope]')
+    .filter(one => one.checkVisibility() && !(one.matches('table')
+        ? (one.caption || one.hasAttribute('aria-labelledby')) && one.querySelector('th[scope]')
         : one.matches('dialog') ? document.getElementById(one.getAttribute('aria-labelledby'))?.innerText.trim()
         : name(one))).map(one => one.outerHTML.slice(0, 100))"""
 # Texts whose contrast with what is behind them is under 4.5 (WCAG 2.2, 1.4.3).
@@ -56,6 +57,32 @@ return [...top.querySelectorAll('button, input:not([type=radio], [type=checkbox]
         return box.width < 24 || box.height < 24 || box.left < 0
             || (box.right > innerWidth && !one.closest('.scroll'));
     }).map(one => one.outerHTML.slice(0, 100))"""
+# Texts that are cut off by what is around them, or run over its edge. What can be scrolled isn't an edge.
+CUT = """
+const top = document.querySelector('dialog[open]') ?? document.body;
+const isIn = (box, edge) => box.left >= edge.left - 1 && box.right <= edge.right + 1
+    && box.top >= edge.top - 1 && box.bottom <= edge.bottom + 1;
+const edges = 'button, label, td, th, .card, .tag, .slip, .tile, dialog, header, footer, main';
+const textsOf = one => [...one.childNodes].filter(node => node.nodeType === 3 && node.data.trim());
+function boxesOf(text) {
+    const range = document.createRange();
+    range.selectNode(text);
+    return [...range.getClientRects()].filter(box => box.width && box.height);
+}
+function isCut(one) {
+    const boxes = textsOf(one).flatMap(boxesOf);
+    for (let around = one; around && around !== top.parentElement; around = around.parentElement) {
+        const { overflowX, overflowY, display } = getComputedStyle(around);
+        if (/auto|scroll/.test(overflowX + overflowY)) return false;
+        if (display === 'inline' || !(around.matches(edges) || /hidden|clip/.test(overflowX + overflowY))) continue;
+        if (!boxes.every(box => isIn(box, around.getBoundingClientRect()))) return true;
+    }
+    return false;
+}
+const passed = '.away, .skip, .mark, thead, option'; // what isn't seen, and marks over an edge
+return [...top.querySelectorAll('*')]
+    .filter(one => one.checkVisibility() && !one.closest(passed) && isCut(one))
+    .map(one => one.outerHTML.slice(0, 100))"""
 # Each window: how it is opened from its view, and a part of its title.
 WINDOWS = [
     ("Today", [("Bo",)], "Bo"), ("Today", [("Ann Lee",)], "Ann Lee"), ("Today", [("Check in", "Bo")], "Check in"),
@@ -72,6 +99,7 @@ def looked_at(clerk, given):
     yield (given, "without a name"), [], clerk.js(NAMELESS)
     yield (given, "hard to read"), [], clerk.js(FAINT)
     yield (given, "hard to press"), [], clerk.js(SMALL)
+    yield (given, "cut off"), [], clerk.js(CUT)
     yield (given, "headings"), 1, clerk.js("return document.querySelectorAll('h1').length")
     yield (given, "too wide"), False, clerk.js("""
         const top = document.querySelector('dialog[open]') ?? document.documentElement;
@@ -329,7 +357,7 @@ def many_rooms(desk):
         yield "drawn in a second of its own", True, slowest < 1 or slowest
         clerk.go("Guests")
         yield "more in house", True, clerk.shows("160 more aren't shown", "main")
-        yield "more bookings", True, clerk.shows("1556 more aren't shown", "main")
+        yield "more bookings", True, clerk.shows("1,556 more aren't shown", "main")
         clerk.js("""const find = document.getElementById('find');
             find.value = 'booked 1699';
             find.dispatchEvent(new Event('input', {bubbles: true}))""")

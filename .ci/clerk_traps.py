@@ -51,6 +51,31 @@ def names_that_were_sent(desk):
         yield "the console", [], clerk.faults()
 
 
+def typed_meanwhile(desk):
+    """A second booking is done though the page still asks for its lists after the first. While the desk is busy, a
+    message says so, and letters that are typed stay in the field."""
+    with hotel(desk, ROOMS + b"add-room 103 DBL\nadd-room 104 DBL\n") as (between, site), Clerk(site) as clerk:
+        clerk.book("Ann Lee", "DBL", "2031-06-01", 1)
+        clerk.shows("Booking 1", "#said")
+        between.slow = {"GET": 0.2}
+        enter = clerk.keys.ENTER
+        clerk.browser.switch_to.active_element.send_keys("Bo", enter)
+        yield "the desk has it", True, clerk.until(lambda: len(site.log()) == 2)
+        yield "the page asks for lists", True, clerk.js("return document.body.classList.contains('busy')")
+        clerk.browser.switch_to.active_element.send_keys("Cy", enter)
+        yield "the second", True, clerk.shows("Booking 3: Cy", "#said")
+        between.slow = {}
+        with between.held("POST"):
+            clerk.browser.switch_to.active_element.send_keys("Dora", enter)
+            yield "it waits", True, clerk.shows("Please wait. The desk was asked to book DBL for Dora.", "#said")
+            yield "no window", False, clerk.js("return document.querySelector('dialog').open")
+            clerk.browser.switch_to.active_element.send_keys("Eve")
+        yield "booked", True, clerk.shows("Booking 4: Dora", "#said")
+        yield "what was typed", ("Eve", "guest"), (clerk.js("return document.querySelector('[name=guest]').value"),
+                                                   clerk.focused())
+        yield "the console", [], clerk.faults()
+
+
 # The guests that a view shows.
 SHOWN = "return [...document.querySelectorAll('main .guest')].map(one => one.textContent)"
 NAMES = ["Zoë Müller-Lüdenscheidt", "Ann Lee", "Seán O'Neil", "Søren Weiß", "Lee, Ed"]
@@ -202,15 +227,21 @@ def arrivals_by_name(desk):
                 [...row.cells].slice(0, 2).map(one => one.textContent))"""))
 
 
-def lost_card_of_a_lock_that_waits(desk):
-    """The window of a card that doesn't open its lock yet has one order, and not that the guest should enter."""
+def lock_that_waits(desk):
+    """The window of a card that doesn't open its lock yet names the earlier cards before the setting by hand. That of a
+    lost card has one order, and not that the guest should enter."""
     with hotel(desk, FEW) as (_, site), Clerk(site) as clerk:
         clerk.go("Guests")
+        clerk.press("Spare card", "Ann Lee")
+        yield "the earlier cards", True, clerk.shows("it waits for an earlier one")
+        told = clerk.text("dialog")
+        yield "first", True, 0 < told.find("Go in and out with each card") < told.find("set the lock to its new code")
+        clerk.done()
         clerk.press("Lost card", "Ann Lee")
         clerk.choose("Write the new card")
         yield "the lock", True, clerk.shows("The lock doesn't open to this card yet")
-        yield "at once", (True, False), ("Set the lock at once" in clerk.text("dialog"),
-                                         "Have the guest enter" in clerk.text("dialog"))
+        yield "at once", [True, False, False], [text in clerk.text("dialog") for text in (
+            "Set the lock to the new code at once", "Have the guest enter", "Go in and out")]
 
 
 # The colours and lines by which two things differ.
@@ -243,6 +274,6 @@ def high_contrast(desk):
         clerk.shot("high-contrast")
 
 
-TRAPS = [a_day_begun_meanwhile, names_that_were_sent, names_as_they_are_typed, rooms_that_are_not_empty, a_day_behind,
-         logged_out, rooms_added_again, under_the_head, out_of_fields, arrivals_by_name,
-         lost_card_of_a_lock_that_waits, high_contrast]
+TRAPS = [a_day_begun_meanwhile, names_that_were_sent, typed_meanwhile, names_as_they_are_typed,
+         rooms_that_are_not_empty, a_day_behind, logged_out, rooms_added_again, under_the_head, out_of_fields,
+         arrivals_by_name, lock_that_waits, high_contrast]

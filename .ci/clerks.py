@@ -385,9 +385,10 @@ def slow_clients_of(site, count=60):
 
 
 class Browser:
-    """A browser with a profile in this folder. `words` are more words for it."""
+    """A browser with a profile in this folder. `words` are more words for it. With the values `around` it, it has a
+    window on their screen, and waits for no page."""
 
-    def __init__(self, folder, words=()):
+    def __init__(self, folder, words=(), around=None):
         sys.path.append(SELENIUM)
         from selenium import webdriver
         from selenium.common.exceptions import WebDriverException
@@ -396,14 +397,15 @@ class Browser:
         from selenium.webdriver.common.keys import Keys
         self.css, self.path, self.keys, self.gone = By.CSS_SELECTOR, By.XPATH, Keys, WebDriverException
         options = webdriver.ChromeOptions()
-        for word in ("headless=new", "disable-gpu", "disable-dev-shm-usage", "no-sandbox", "window-size=1280,800",
-                     f"user-data-dir={folder}/profile-{time.monotonic_ns()}",
+        for word in (*([] if around else ["headless=new"]), "disable-gpu", "disable-dev-shm-usage", "no-sandbox",
+                     "window-size=1280,800", f"user-data-dir={folder}/profile-{time.monotonic_ns()}",
                      "host-resolver-rules=MAP *.example 127.0.0.1", *words):
             options.add_argument(f"--{word}")
         options.add_experimental_option("prefs", {"intl.accept_languages": "en-US,en"})
         options.set_capability("goog:loggingPrefs", {"browser": "ALL"})
         options.binary_location = shutil.which("chromium")
-        self.browser = webdriver.Chrome(options=options, service=Service(shutil.which("chromedriver")))
+        options.page_load_strategy = "none" if around else "normal"
+        self.browser = webdriver.Chrome(options=options, service=Service(shutil.which("chromedriver"), env=around))
         self.browser.set_script_timeout(60)
 
     def __enter__(self):
@@ -439,9 +441,9 @@ class Browser:
         return self.browser.execute_cdp_cmd(name, values)
 
     def type(self, *keys):
-        """Types these, where the keyboard is."""
+        """Types these, where the keyboard is. The page may draw that anew meanwhile."""
         for key in keys:
-            self.browser.switch_to.active_element.send_keys(key)
+            assert self.until(lambda key=key: self.browser.switch_to.active_element.send_keys(key) or True), key
             time.sleep(0.1)
 
 
@@ -518,7 +520,7 @@ class Clerk(Browser):
 
     def go(self, view):
         link = "#" + view.lower().replace("-", "")
-        self.browser.find_element(self.css, f"nav a[href='{link}']").click()
+        assert self.until(lambda: self.find(f"nav a[href='{link}']").click() or True), link
         self.until(lambda: self.js("return document.querySelector('nav a[aria-current]').hash") == link)
 
     def book(self, guest, kind, arrive, nights):

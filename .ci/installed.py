@@ -15,7 +15,8 @@ PATH = f"{os.environ.get('PATH', os.defpath)}:/usr/sbin:/sbin"
 SELENIUM = "/usr/lib/python3/dist-packages"
 # What a part needs: each program's package.
 PROXY = {"nginx": "nginx", "openssl": "openssl", "logrotate": "logrotate", "nft": "nftables", "ip": "iproute2"}
-PAGE = PROXY | {"chromium": "chromium", "chromedriver": "chromium-driver", "pdftotext": "poppler-utils"}
+PAGE = PROXY | {"chromium": "chromium", "chromedriver": "chromium-driver", "pdftotext": "poppler-utils",
+                "Xvfb": "xvfb", "xdotool": "xdotool"}
 PACKAGE = PROXY | {"sqlite3": "sqlite3", "curl": "curl", "restic": "restic", "dpkg-repack": "dpkg-repack",
                    "lintian": "lintian", "sendmail": "msmtp-mta", "sshd": "openssh-server"}
 

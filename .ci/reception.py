@@ -11,6 +11,8 @@ from simulated.things import Card, Lock, day_text, ordinal
 from simulated.ways import LISTS, PATHS
 
 FIRST_DAY = "2031-05-01"
+# What the desk says of a lock's lines when it has lost track of the lock.
+LOST_TRACK = {22, 24, 26, 27, 28}
 ROOMS = {101: "DBL", 102: "DBL", 103: "DBL", 201: "SGL"}
 # The buttons of the page, each with the desk's command.
 BUTTONS = {"Book": "reserve", "Check in": "check-in", "Spare card": "spare", "Lost card": "reissue", "Move": "transfer",
@@ -26,15 +28,17 @@ class Refused(Exception):
 
 
 class Reception:
-    """`held` says who has each card: a guest, or nobody if the desk has it. `answers` are those to the logs' lines."""
+    """`held` says who has each card: a guest, or nobody if the desk has it. `answers` are those to the logs' lines.
+    `lock` makes a lock of its room, its number, its code, and a 0."""
     logs_exits = True
 
-    def __init__(self, port, rooms):
+    def __init__(self, port, rooms, lock=Lock):
+        self.lock = lock
         self.port, self.second, self.parties, self.cards, self.held, self.answers = port, 0, {}, {}, {}, []
         self.asks("POST", "/begin", f"day={FIRST_DAY}".encode())
         for kind in sorted(set(rooms.values())):
             self.asks("POST", "/kinds", f"kind={kind}".encode())
-        self.locks = {room: Lock(room, 1, self.code(room, kind), 0) for room, kind in rooms.items()}
+        self.locks = {room: lock(room, 1, self.code(room, kind), 0) for room, kind in rooms.items()}
 
     def asks(self, method, path, body=b""):
         said = exchange(self.port, request(f"{method} {path}", body), 1 << 20)
@@ -116,11 +120,11 @@ class Reception:
 
     def forgets(self, room):
         """A lock loses its code and its log, as one may whose battery was dead."""
-        self.locks[int(room)] = Lock(int(room), self.locks[int(room)].fit, "0", 0)
+        self.locks[int(room)] = self.lock(int(room), self.locks[int(room)].fit, "0" * 12, 0)
 
     def fits(self, room):
         """Sets up the lock that `Replace a lock` gave the room: its code, and a count from 1."""
-        self.locks[int(room)] = Lock(int(room), self.fit, self.fresh, 0)
+        self.locks[int(room)] = self.lock(int(room), self.fit, self.fresh, 0)
 
     def hands(self, card, guest):
         self.held[int(card)] = guest
@@ -168,11 +172,11 @@ class Reception:
 
 
 @contextlib.contextmanager
-def reception(program, folder, rooms=ROOMS, *words):
+def reception(program, folder, rooms=ROOMS, *words, lock=Lock):
     """A reception of a new desk, which is in memory if no words name a database."""
     server, port = serve(program, 1_000_000, "--seed-file", folder / "zeros", *words)
     try:
-        yield Reception(port, rooms)
+        yield Reception(port, rooms, lock)
     finally:
         server.kill()
         server.communicate()

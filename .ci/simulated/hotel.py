@@ -20,7 +20,9 @@ EVENTS = [(14, "books_room", None), (18, "arrives", "expected"), (2, "arrives", 
 
 
 class Hotel(Guests, Staff):
-    """A building and the people in it. `desk` is what they ask."""
+    """A building and the people in it. `desk` is what they ask. Each day has so many events for each room."""
+
+    events, events_a_room = EVENTS, 30
 
     def __init__(self, desk, chance, rooms, restores, lock=Lock):
         self.desk, self.chance, self.rooms, self.restore_chance, self.lock = desk, chance, rooms, restores, lock
@@ -86,8 +88,9 @@ class Hotel(Guests, Staff):
             self.desk.do("add-kind", kind=kind)
         for room in self.chance.sample(range(1, 10_000), self.rooms):
             self.builds(room)
+        often = [often for often, *_ in self.events]
         for _ in range(days):
-            for _, name, what in self.chance.choices(EVENTS, [often for often, *_ in EVENTS], k=30 * self.rooms):
+            for _, name, what in self.chance.choices(self.events, often, k=self.events_a_room * self.rooms):
                 if time.monotonic() > until:
                     return
                 self.desk.counts["events"] += 1
@@ -99,20 +102,30 @@ class Hotel(Guests, Staff):
             if self.desk.do("next-day") is None:
                 return
 
-    def ends_day(self):
-        self.second, chance = 0, self.chance
+    def forgets_bookings(self):
+        """Nobody comes any more whose booking ends today. It is cancelled, or isn't."""
+        self.second = 0
         self.desk.counts["days"] += 1
         for guest in [guest for guest in self.those("booked") if guest.departs <= self.desk.books.day + 1]:
             self.guests.remove(guest)
-            if chance.random() < 0.5:
+            if self.chance.random() < 0.5:
                 self.desk.do("cancel", party=guest.party)
+
+    def reads_all(self):
+        """The logs of all locks are imported, one by one or several in a file."""
+        locks, size = self.those("lock"), self.chance.choice([1, 8])
+        for at in range(0, len(locks), size):
+            self.imports(locks[at:at + size])
+
+    def ends_day(self):
+        chance = self.chance
+        self.forgets_bookings()
         if chance.random() < 2 * self.restore_chance:
             self.desk.take()
         if self.desk.backups and chance.random() < self.restore_chance:
             self.restores()
-        locks, size = self.those("lock"), chance.choice([1, 8])
-        for at in range(0, len(locks) if chance.random() < 0.7 else 0, size):
-            self.imports(locks[at:at + size])
+        if chance.random() < 0.7:
+            self.reads_all()
         lists = self.desk.compare_all()
         self.tries_all({int(row.split(",")[0]) for row in lists["in-house"] if row.endswith(",yes")})
         self.counts_codes(lists)

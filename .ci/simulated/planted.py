@@ -120,3 +120,17 @@ BUGS = {
         lock, card._replace(old=lock.code) if card.number % 7 == 0 else card, at)),
     "a lock now and then keeps its code, though a newer card enters": with_lock(enters=keeps),
 }
+
+# What a desk does wrongly in a building that is looked at after every step; and the promise that finds it.
+AT_DOORS = {
+    "the last note of a file that a card left is answered and lost": (1, note_lost),
+    "the first card inside isn't listed": (2, alters("lists room-status", r"(room,card,party\n)\d.*\n", r"\1")),
+    "a room is listed as secured that isn't": (3, alters("lists room-status", r"^(\d+,\w+,\d+,)no,", r"\1yes,")),
+    "a room that awaits one code is listed with none":
+        (4, alters("lists room-status", r"^(.*,(yes|no),)1$", r"\g<1>0")),
+    "a room that awaits two codes is listed with one":
+        (5, alters("lists room-status", r"^(.*,(yes|no),)2$", r"\g<1>1")),
+    "the last of a party's cards isn't listed": (7, alters("lists cards", r"(card,old,new\n)(.*\n)*.+\n", r"\1\2")),
+    "the second awaited code of a chain is listed as held":
+        (8, alters("lists room-status", r"(awaited\n.*),awaited", r"\1,held")),
+}

@@ -7,9 +7,11 @@ import tempfile
 import time
 
 from built_desk import ROOM
+from simulated.building import WatchedDesk
 from simulated.desk import KILL, Desk
 from simulated.doors import doors_in
 from simulated.hotel import Hotel
+from simulated.house import House
 from simulated.planted import Planted
 from simulated.things import Lock, Note
 from simulated.wanted import VERBS
@@ -29,9 +31,11 @@ def text_of(counts):
     return ", ".join(f"{count} {name}" for name, count in sorted(counts.items()))
 
 
-def run(program, way, seed, rooms, days, kills, restores, until=math.inf, bug=None, seconds=60, door=None):
+def run(program, way, seed, rooms, days, kills, restores, until=math.inf, bug=None, seconds=60, door=None,
+        only=None):
     """Runs a hotel. `kills` and `restores` are how probable one is at a question and on a day; `bug` is one of
-    planted.py. So many seconds are spent on the shortest script. `door` is a hotel_door, which is each second lock."""
+    planted.py. So many seconds are spent on the shortest script. With a `door`, the words of a hotel_door, each second
+    lock is one, and the building is looked at after every step: each promise, or `only` one."""
     chance = random.Random(seed)
 
     def way_in(folder):
@@ -39,13 +43,15 @@ def run(program, way, seed, rooms, days, kills, restores, until=math.inf, bug=No
         return Planted(asked, bug) if bug else asked
 
     with tempfile.TemporaryDirectory(dir=ROOM) as made:
-        desk = Desk(way_in(made), chance, kills)
+        desk = (WatchedDesk if door else Desk)(way_in(made), chance, kills)
+        desk.only = only
         try:
             lock = doors_in(made, door, 2) if door else getattr(bug, "lock", Lock)
-            Hotel(desk, chance, rooms, restores, lock).runs(days, until)
+            (House if door else Hotel)(desk, chance, rooms, restores, lock).runs(days, until)
             fails = []
         except Wrong as fault:
-            last = desk.now and shortest(way_in, [*desk.steps, (*desk.now, None)], time.monotonic() + seconds)
+            last = seconds and desk.now and shortest(
+                way_in, [*desk.steps, (*desk.now, None)], time.monotonic() + seconds)
             fails = [last[1], script_of(last[0])] if last else [str(fault), None]
         finally:
             desk.way.stop()

@@ -13,8 +13,8 @@ class Staff:
         lock, chance = self.locks[room], self.chance
         self.imports([lock])
         awaited = self.desk.books.rooms[room].awaited
-        if awaited and not lock.is_lost:
-            lock.set_to(code if code in awaited and chance.random() < 0.9 else self.some(awaited), self.at())
+        if awaited and not lock.is_lost and lock.set_to(
+                code if code in awaited and chance.random() < 0.9 else self.some(awaited), self.at()):
             note, is_by_hand = lock.log[-1], chance.random() < 0.6
             if is_by_hand and chance.random() < 0.3:
                 # By another watch than the lock's: what the reader brings later is a conflict.
@@ -54,7 +54,7 @@ class Staff:
         """A reader brings these locks' notes in one file, from where they were read last or earlier, perhaps twice.
         What a lock has written is taken or seen, and then seen; if it is the room's present lock, the desk can't have
         lost track of it, and nobody typed the note with another time."""
-        parts = [lock.log[0 if is_whole else max(0, lock.read - self.chance.choice([0, 0, 2, 9])):] for lock in locks]
+        parts = [lock.brings(0 if is_whole else max(0, lock.read - self.chance.choice([0, 0, 2, 9]))) for lock in locks]
         self.chance.shuffle(parts)
         notes = [note for part in parts for note in part]
         if self.chance.random() < 0.3:

@@ -41,5 +41,11 @@ class Lock:
         self.writes("out", card.number, card.old, card.new, at)
 
     def set_to(self, code, at):
+        """Whether it makes a note: this lock always does."""
         self.writes("recode", "", self.code, code, at)
         self.code = code
+        return True
+
+    def brings(self, after):
+        """What a reader brings of its notes, without the first ones."""
+        return self.log[after:]
