@@ -1,13 +1,14 @@
 #!/usr/bin/env python3
 """Runs the built program beside simulated buildings (.ci/simulated) for a time, or with planted bugs.
 
-usage: building.py [PROGRAM] [--minutes M] [--seed S] [--planted]
+usage: building.py [PROGRAM] [--minutes M] [--seed S] [--doors | --planted]
        (default: the built hotel_desk, 60 minutes, seed 1)
 
 Hotels of 2 to 40 rooms are run, most by HTTP, each with the next seed. A seed decides all that is done, but where the
-program is killed also how far it came. What differs ends the run, with the shortest script that shows it. --planted
-plants each bug of .ci/simulated/planted.py, and prints a table of how it was found. The status is 1 if something
-differs, or if a bug isn't found.
+program is killed also how far it came. What differs ends the run, with the shortest script that shows it. With --doors
+every second lock is a hotel_door, what is promised of the building is looked at after every step, and no backups are
+restored. --planted plants each bug in BUGS of .ci/simulated/planted.py, and prints a table of how it was found. The
+status is 1 if something differs, or if a bug isn't found.
 """
 import argparse
 import collections
@@ -18,7 +19,7 @@ import sys
 import time
 
 sys.path.insert(0, str(pathlib.Path(__file__).resolve().parent.parent / ".ci"))
-from built_desk import DESK  # noqa: E402
+from built_desk import DESK, door_of  # noqa: E402
 from simulated.planted import BUGS  # noqa: E402
 from simulated.runs import run, text_of  # noqa: E402
 
@@ -26,14 +27,15 @@ from simulated.runs import run, text_of  # noqa: E402
 SIZES = {"http": 300, "script": 90, "words": 30}
 
 
-def hotels(program, seed, minutes):
+def hotels(program, seed, minutes, door):
     """Hotels until the time is over. Whether something differs."""
     until, counts, found, first = time.monotonic() + 60 * minutes, collections.Counter(), None, seed
     while time.monotonic() < until and not found:
         chance = random.Random(seed)
-        way, rooms = chance.choice([*["http"] * 8, "script", "words"]), chance.choice([2, 3, 5, 12, 40])
-        kills, restores = chance.choice([0, 0.01, 0.05]), chance.choice([0.1, 0.3])
-        result = run(program, way, seed, rooms, SIZES[way] // rooms + 1, kills, restores, until, seconds=300)
+        way = "http" if door else chance.choice([*["http"] * 8, "script", "words"])
+        rooms, kills = chance.choice([2, 3, 5, 12, 40]), chance.choice([0, 0.01, 0.05])
+        restores = 0 if door else chance.choice([0.1, 0.3])
+        result = run(program, way, seed, rooms, SIZES[way] // rooms + 1, kills, restores, until, seconds=300, door=door)
         found = result.found
         print(f"seed {seed}: {rooms} rooms, by {way}, kills {kills}, restores {restores}: {result.counts['events']} "
               f"events", flush=True)
@@ -62,8 +64,10 @@ if __name__ == "__main__":
     parser.add_argument("program", nargs="?", type=pathlib.Path, default=DESK)
     parser.add_argument("--minutes", type=float, default=60)
     parser.add_argument("--seed", type=int, default=1)
+    parser.add_argument("--doors", action="store_true")
     parser.add_argument("--planted", action="store_true")
     given = parser.parse_args()
     signal.signal(signal.SIGTERM, signal.default_int_handler)
     program = given.program.resolve()
-    sys.exit(planted(program, given.seed) if given.planted else hotels(program, given.seed, given.minutes))
+    door = [str(door_of(program))] if given.doors else None
+    sys.exit(planted(program, given.seed) if given.planted else hotels(program, given.seed, given.minutes, door))

@@ -9,7 +9,7 @@ what an opening and a first call cost isn't in it.
 
 - Each of the thirteen lists over a desk of so many past stays, beside the same over a desk of none. Both are those of
   tables_speed.py, and have the same rows to show. Over none `locks` is asked of a desk that had one stay in each room,
-  since it looks up each lock's last note.
+  since it reads each lock's last note.
 - `room-status` of 300 rooms, and `availability` of 14 nights of four kinds, beside `in-house` of 300 guests, over one
   desk.
 

@@ -11,7 +11,7 @@ Python's sqlite3, with the texts of hotel_statements' texts.rt, and a past stay 
   counts: now and then a command copies the log into the file, for all that wrote to it.
 - Lists: each of the thirteen, many times, over a desk of so many past stays, beside the same over a desk of none. Both
   have the same rows to show, in rooms that had none of the past stays. `room-status` and `locks` show the other rooms
-  too: over past stays `locks` looks up the last note of each of them, over none there is no note to look up.
+  too: over past stays `locks` reads the last note of each of them, over none there is no note to read.
 - Beside C SQLite: a check-in, a booking and a look-up, beside their statements run by sqlite_statements.c over the same
   file, with the same journal (WAL) and `synchronous` (FULL) and with foreign keys. Each commit of both syncs the log.
 - `open`: a script without a line, beside the same file with one table more. There the connection is opened, which is
