@@ -3,7 +3,7 @@ use Rattle.std.proofs.Common.{◌≡◌, [], refl, ap, sym, ◌∙◌, subst}
 use Rattle.keycard_rules.specs.{declared.kept.Kept.Ghosts as KeptOf, Calls.Told}
 use Rattle.hotel_books.specs.declared.books.Books.{Ghosts as BooksOf}
 use Rattle.hotel_model.specs.{History.History, Rows.Rows, RowsOf.rows_of, Run.Reached}
-use Rattle.hotel_model.proofs.{Invariants.Assurance.assured, Starts.StartRows.rows_of_start}
+use Rattle.hotel_model.proofs.Starts.StartRows.{rows_of_start}
 use Rattle.hotel_core.specs.Books.Happens.{Happens, HappensBy}
 use Rattle.hotel_building.specs.Building.{Building, Step, Accepted, Told as IsTold, Forged, ◌▸◌, desk}
 use Rattle.hotel_building.specs.Calls.{Houses, IsOfDesk, LedOn, NoMoreBad, RunsStay, but_for_faults}
@@ -32,7 +32,7 @@ LeadsOut houses may went = (b : Building) (later : History) → houses.can_be b 
 pub stays_by : (houses : Houses) → Known houses → {S : Type 0} (K : KeptOf S) (rows : S → Rows)
     (may : Building → Type 0) (went : History → History → Type 0) (old new : S) → LeadsOut houses may went
     → Happens K rows old went new → StaysIn houses K rows old may went new
-stays_by houses facts K rows may went old new out happened b ok may_be stands honest =
+stays_by houses facts K rows may went old new out happened b ok stands honest may_be =
     let led = happened honest (desk b) (facts.reached b ok) stands in
     let to = out b led.0 ok may_be led.1 led.3 in (
       to.0,
@@ -55,11 +55,6 @@ by_calls K own went other old new too by honest h reached stands =
 pub stay_out : (houses : Houses) (b : Building) (later : History) → houses.can_be b → later ≡ desk b
     → (b' : Building) × houses.can_be b' × LedOn b b' × NoMoreBad b b' × (desk b' ≡ later)
 stay_out houses b later ok e = (b, ok, ([], refl), λ r good. good, sym e)
-
-pub idle : {S : Type 0} (K : KeptOf S) (rows : S → Rows) (went : History → History → Type 0) (old new : S)
-    → ((h : History) → went h h) → new ≡ old → Happens K rows old went new
-idle K rows went old new none e = subst (λ s. Happens K rows old went s) (sym e)
-    (λ honest h reached stands. (h, reached, stands, none h, assured h reached))
 
 -- ---- openings and doors
 

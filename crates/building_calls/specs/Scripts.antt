@@ -11,27 +11,33 @@ use Rattle.hotel_program.specs.Script.{Asks.ask_in, Lines.answered_lines, Script
 use Rattle.hotel_program.specs.Script.WholeScript.{IsInput, ScriptAnswered, ScriptCut, ScriptRan}
 use Rattle.hotel_building.specs.Building.{Building}
 use Rattle.hotel_building.specs.Calls.{Houses, MayRun}
-use Rattle.building_calls.specs.Stands.{StaysIn}
+use Rattle.building_calls.specs.Stands.{EndsIn, InBuildings}
 
 -- Each command of a script's lines may be asked in its turn.
-abbrev pub MayScript : Houses → Option (List ℕ) → Building → Stream → Type 0
-MayScript houses known b source = (script : List ℕ) → IsInput known script
-    → MayRun houses b source (commands_asked (map ask_in (answered_lines script)))
+abbrev pub MayScript : Houses → Building → Stream → List (List ℕ) → Type 0
+MayScript houses b source lines = MayRun houses b source (commands_asked (map ask_in lines))
 
--- A script went so from a desk to a later one: its lines were answered, or those up to one whose answer was cut short;
--- or it wasn't read whole, and nothing happened. The books are kept as it ends, or not.
-abbrev pub ScriptWent : Option (List ℕ) → Stream → Stream → Option (List ℕ) → Option (List ℕ) → Type 0
-    → Result ScriptEnd ScriptFault → History → History → Type 0
-ScriptWent known s s' old new kept (Ok end) h h' = (script : List ℕ) × IsInput known script
-    × (told : Told) × ScriptAnswered (answered_lines script) s s' old new kept told h h'
-ScriptWent known s s' old new kept (Err (Write done)) h h' = (script : List ℕ) × IsInput known script
-    × (told : Told) × ScriptCut (take done (answered_lines script)) s s' old new kept told h h'
-ScriptWent known s s' old new kept (Err why) h h' = h' ≡ h
+-- Lines went in a building: if they may be asked, the books stay in buildings, and the lines were answered so.
+abbrev pub LinesIn : {S R W : Type 0} → Houses → KeptOf S → BooksOf S → (R → Stream) → S × R × W → List (List ℕ)
+    → (Told → History → History → Type 0) → S × R × W → Building → Type 0
+LinesIn houses K own words old lines went new b = MayScript houses b (words old.1) lines
+    → EndsIn houses K own.rows b (λ h h'. (told : Told) × went told h h') new.0
+
+-- A script ran in a building. It was some script with the bytes that are known. Its lines were answered, or those up to
+-- one whose answer was cut short; or it wasn't read whole, and nothing happened. The books are kept as it ends, or not.
+abbrev pub RanIn : {S R W : Type 0} → Houses → KeptOf S → BooksOf S → (R → Stream) → (W → Option (List ℕ))
+    → Option (List ℕ) → S × R × W → Result ScriptEnd ScriptFault → S × R × W → Building → Type 0
+RanIn houses K own words contents known old (Ok end) new b = (script : List ℕ) × IsInput known script
+    × LinesIn houses K own words old (answered_lines script) (ScriptAnswered (answered_lines script) (words old.1)
+    (words new.1) (contents old.2) (contents new.2) (K.is_clean new.0)) new b
+RanIn houses K own words contents known old (Err (Write done)) new b = (script : List ℕ) × IsInput known script
+    × LinesIn houses K own words old (take done (answered_lines script)) (ScriptCut (take done (answered_lines script))
+    (words old.1) (words new.1) (contents old.2) (contents new.2) (K.is_clean new.0)) new b
+RanIn houses K own words contents known old (Err why) new b = new ≡ old
 
 -- What a script promises.
 abbrev pub ScriptsStay : {S R W : Type 0} → Houses → KeptOf S → BooksOf S → (R → Stream) → (W → Option (List ℕ))
     → Type 0
 ScriptsStay {S = S} {R = R} {W = W} houses K own words contents = (known : Option (List ℕ)) (old new : S × R × W)
     (end : Result ScriptEnd ScriptFault) → ScriptRan K own words contents known old end new
-    → StaysIn houses K own.rows old.0 (λ b. MayScript houses known b (words old.1))
-    (ScriptWent known (words old.1) (words new.1) (contents old.2) (contents new.2) (K.is_clean new.0) end) new.0
+    → InBuildings houses K own.rows old.0 (RanIn houses K own words contents known old end new) new.0

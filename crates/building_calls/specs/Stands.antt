@@ -9,15 +9,22 @@ use Rattle.hotel_building.specs.Calls.{Houses, IsOfDesk, LedOn, NoMoreBad}
 abbrev pub StandIn : {S : Type 0} → KeptOf S → (S → Rows) → S → Building → Type 0
 StandIn K rows books b = K.is_clean books → rows books ≡ rows_of (desk b)
 
--- A call over books, from the state old to new, stays in buildings. It was made where this may be asked, and the books
--- stood in a building that can be. Then, where they are honest as it ends, they stand in one that can be again: in the
--- same building, after steps at its desk alone, in which no other room is bad. And this happened, from the desk before
--- to that after.
+-- After a call in a building the books stand in one that can be again: in the same building, after steps at its desk
+-- alone, in which no other room is bad. And this happened, from the desk before to that after.
+abbrev pub EndsIn : Houses → {S : Type 0} → KeptOf S → (S → Rows) → Building → (History → History → Type 0) → S → Type 0
+EndsIn houses K rows b went new = (b' : Building) × houses.can_be b' × StandIn K rows new b' × LedOn b b'
+    × NoMoreBad b b' × went (desk b) (desk b')
+
+-- This holds of each building that can be, in which the books stood before a call and are honest as it ends.
+abbrev pub InBuildings : Houses → {S : Type 0} → KeptOf S → (S → Rows) → S → (Building → Type 0) → S → Type 0
+InBuildings houses K rows old holds new = (b : Building) → houses.can_be b → StandIn K rows old b → K.is_honest new
+    → holds b
+
+-- A call over books, from the state old to new, stays in buildings where it may be asked.
 abbrev pub StaysIn : Houses → {S : Type 0} → KeptOf S → (S → Rows) → S → (Building → Type 0)
     → (History → History → Type 0) → S → Type 0
-StaysIn houses K rows old may went new = (b : Building) → houses.can_be b → may b → StandIn K rows old b
-    → K.is_honest new → (b' : Building) × houses.can_be b' × StandIn K rows new b' × LedOn b b' × NoMoreBad b b'
-    × went (desk b) (desk b')
+StaysIn houses K rows old may went new =
+    InBuildings houses K rows old (λ b. may b → EndsIn houses K rows b went new) new
 
 -- Books with sound rows stand in the building that opens with them, whose locks stand as the rows say.
 abbrev pub OpensSo : {S : Type 0} → Houses → KeptOf S → (S → Rows) → Type 0
