@@ -22,6 +22,9 @@ FIRST = {"en": "Thursday, 1 May 2031", "de": "Donnerstag, 1. Mai 2031", "fr": "j
 NUMBERS = {"en": "15,560", "de": "15.560", "fr": "15\u202f560", "es": "15.560"}
 MOMENTS = {"en": "1 May 2031, 15:00:00", "de": "01.05.2031, 15:00:00", "fr": "1 mai 2031, 15:00:00",
            "es": "1 may 2031, 15:00:00"}
+# How the sheet calls setting a lock, and the button of a window that Enter presses.
+BY_HAND = {"en": "by hand", "de": "von hand", "fr": "à la main", "es": "a mano"}
+COLOURED = {"en": "coloured button", "de": "farbigen Knopf", "fr": "bouton de couleur", "es": "botón de color"}
 NOTE = "room,fit,count,kind,card,old,new,at\n101,1,1,in,1,{},{},2031-05-01T15:00:00\n"
 # The words of a language: each by its path, with the number of arguments of a function, and else the text.
 WORDS = """
@@ -160,50 +163,67 @@ def no_word_outside(desk):
                 yield (view, title), [], words_left(clerk)
                 clerk.type(clerk.keys.ESCAPE)
                 clerk.closed()
-            yield from words_of_messages(clerk, between, site)
+            for given, typed in messages(clerk, between, site):
+                yield given, [], [word for word in words_left(clerk) if word not in typed]
 
 
-def words_of_messages(clerk, between, site):
-    """What comes of commands, searches, imports, and lost answers."""
+def messages(clerk, between, site):
+    """What comes of commands, searches, imports, and lost answers: a name of each while it is shown, and what was typed
+    into the search."""
     clerk.js("location.hash = '2031-05-02'")
     clerk.until(lambda: clerk.text("#night table"))
-    yield "another day", [], words_left(clerk)
+    yield "another day", ""
     for sought in "card 1", "card 77", "nobody":
         search(clerk, sought, clerk.keys.ENTER)
         time.sleep(0.5)
-        yield sought, [], [word for word in words_left(clerk) if word not in sought]
+        yield sought, sought
         clerk.type(clerk.keys.ESCAPE)
     for lose in None, "silent answer", "silent request", "store":
         between.lose = lose
         clerk.go("Book")
         clerk.fill(kind="DBL", arrive="2031-05-09", nights="1", guest="Eve")
         clerk.js("document.querySelector('[data-key=book]').click()")
-        clerk.until(lambda: clerk.text("#said") if lose is None else "Please" not in clerk.text("dialog p + .so"))
+        clerk.until(lambda: "Eve" in clerk.text("#said") if lose is None
+                    else "Please" not in clerk.text("dialog p + .so"))
         time.sleep(4 if lose else 0.5)
-        yield ("book", lose), [], words_left(clerk)
+        yield f"book, {lose}", ""
         clerk.type(clerk.keys.ESCAPE)
     (site.folder / "wrong.csv").write_text("room,fit,count,kind,card,old,new,at\n101,1,1,in\n999,1,1,recode,,a0,a1,"
                                            "2031-05-01T15:00:00\n")
     clerk.go("Locks")
     clerk.until(lambda: clerk.find("[type=file]").send_keys(f"{site.folder}/wrong.csv") or True)
     clerk.until(lambda: clerk.text("#imported table"))
-    yield "an import", [], words_left(clerk)
+    yield "an import", ""
     clerk.go("Set-up")
     clerk.fill(rooms="301-302", of="DBL")
     clerk.press("Add")
     clerk.js("document.querySelector('dialog .main').click()")
     clerk.until(lambda: clerk.text("dialog .slip"))
-    yield "added rooms", [], words_left(clerk)
+    yield "added rooms", ""
     clerk.type(clerk.keys.ESCAPE)
     between.end()
     clerk.seen()
     clerk.until(lambda: clerk.text("#alone"))
-    yield "no answer", [], words_left(clerk)
+    yield "no answer", ""
     between.begin()
 
 
+def narrow_messages(language):
+    """The test that in a window of 360 pixels nothing is cut off of what comes of commands, in this language."""
+    def test(desk):
+        with hotel(desk, FEW + LONG.encode()) as (between, site), Speaker(site, language) as clerk:
+            clerk.command("Emulation.setDeviceMetricsOverride", width=360, height=1000, mobile=False,
+                          deviceScaleFactor=1)
+            for given, _ in messages(clerk, between, site):
+                yield from looked_at(clerk, given)
+                clerk.shot(f"360-{language}-{given}".replace(" ", "-"))
+
+    test.__name__ = f"messages_{language}"
+    return test
+
+
 def narrow_windows(language, width, is_touched):
-    """The test that in a window of this width nothing is cut off in this language."""
+    """The test that in a window of this width nothing is cut off in this language, also of what windows fold."""
     def test(desk):
         with hotel(desk, FEW + LONG.encode()) as (_, site), Speaker(site, language) as clerk:
             clerk.command("Emulation.setDeviceMetricsOverride", width=width, height=1000, mobile=is_touched,
@@ -220,6 +240,7 @@ def narrow_windows(language, width, is_touched):
             for view, presses, title in WINDOWS:
                 opened(clerk, view, presses)
                 clerk.until(lambda: clerk.js("return document.getElementById('dialog').open"))
+                clerk.js("for (const one of document.querySelectorAll('dialog details')) one.open = true")
                 time.sleep(0.2)
                 yield from looked_at(clerk, title)
                 clerk.shot(f"{width}-{language}-{view}-{title.strip()}".replace(" ", "-").lower())
@@ -271,5 +292,6 @@ def chosen_languages(desk):
         yield "the console", [], clerk.faults()
 
 
-SPOKEN = [*(narrow_windows(language, *size) for language in LANGUAGES for size in SIZES), no_word_outside,
+SPOKEN = [*(narrow_windows(language, *size) for language in LANGUAGES for size in SIZES),
+          *map(narrow_messages, LANGUAGES), no_word_outside,
           the_same_words, written, chosen_languages]

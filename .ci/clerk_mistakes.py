@@ -1,5 +1,5 @@
 """Mistakes of a reception and their cures (.ci/mistaken.py) at the clerk's page: what is pressed there, and what each
-door and list says then. bench/mistakes_on_page.py plays the whole table."""
+door and list says then. .ci/clerk_new.py plays the whole table in German."""
 import time
 
 from clerks import Clerk, hotel

@@ -3,7 +3,7 @@ The windows of guests and rooms show its rows of mistakes."""
 import html
 import re
 
-from clerk_languages import LANGUAGES, Speaker, texts_of
+from clerk_languages import BY_HAND, LANGUAGES, Speaker, texts_of
 from clerk_screens import FEW, looked_at
 from clerks import PAGE, TOP, Clerk, hotel
 from reception import LOST_TRACK
@@ -11,8 +11,6 @@ from reception import LOST_TRACK
 GUIDE = TOP / "docs" / "CLERK.md"
 # The rows of mistakes, as the cells of the HTML have them: what happened, and what to do.
 MISTAKES = r'(?m)^<tr data-at="([\w ]+)"><td>(.*)</td><td>(.*)</td></tr>$'
-# Setting a lock, in each language.
-BY_HAND = {"en": "by hand", "de": "von hand", "fr": "à la main", "es": "a mano"}
 # The windows that show rows: the words in `data-at`, and what is pressed to open each.
 SHOWN = [({"house"}, "Ann Lee"), ({"booked"}, "Bo"), ({"house", "room"}, "room 101"), ({"free"}, "room 102")]
 
@@ -94,10 +92,11 @@ def leads_as_the_sheet(desk):
             own = texts_of(clerk, language)
             for number in sorted(LOST_TRACK):
                 yield (language, number), True, own["replaceALock"] in own[f"refusals.{number}"]
-            yield (language, "set it to"), True, own["setItTo"] in own["setLockTo"]
-            for name, first in ("howToSet", "import"), ("earlierFirst", own["card"].lower()):
+            for name, first, then in (("setLockTo", "import", own["setItTo"].lower()),
+                                      ("howToSet", "import", BY_HAND[language]),
+                                      ("earlierFirst", own["card"].lower(), BY_HAND[language])):
                 told = own[name].lower()
-                yield (language, name), True, -1 < told.find(first) < told.find(BY_HAND[language])
+                yield (language, name), True, -1 < told.find(first) < told.find(then)
 
 
 def names_of(word, words):

@@ -47,6 +47,9 @@ def names_that_were_sent(desk):
         yield "typed meanwhile", "Fay", name()
         clerk.type(clerk.keys.ENTER)
         yield "and booked", True, clerk.shows("Booking 3: Fay", "#said")
+        yield "the field isn't marked as wrong", 1, len(set(clerk.js("""
+            const fields = ['[name=guest]', '[name=nights]'].map(css => document.querySelector(css));
+            return fields.map(one => getComputedStyle(one).borderColor)""")))
         yield "the bookings", 3, site.ask("GET /desk/bookings")[2].count(b"DBL")
         yield "the console", [], clerk.faults()
 

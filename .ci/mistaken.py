@@ -71,10 +71,10 @@ MISTAKES = [
 OTHERS = [
     Mistake("more nights", ANN_IN, "leaves 101 1; Next day; Next day", "",
             "Book Ann' DBL 3 1; Check out Ann; Check in Ann' 101; enters 101 2", "101 Ann"),
-    Mistake("another booking", BO, "", "", "Book Bo' DBL 3 1; Cancel Bo", "", "Bo"),
-    Mistake("another booking: the type is full", f"{ANN}; Book Cy DBL 1 2; {BO}", "", "",
+    Mistake("a changed booking", BO, "", "", "Book Bo' DBL 3 1; Cancel Bo", "", "Bo"),
+    Mistake("a changed booking: the type is full", f"{ANN}; Book Cy DBL 1 2; {BO}", "", "",
             "Cancel Bo; Book Bo' DBL 1 1", "", "AnnCyBo"),
-    Mistake("another booking: the missing nights", f"{ANN}; Book Cy DBL 1 2; {BO}", "", "",
+    Mistake("a changed booking: the missing nights", f"{ANN}; Book Cy DBL 1 2; {BO}", "", "",
             "Book Bo' DBL 3 1", "", "AnnCyBoBo"),
     Mistake("a broken room", f"{ANN_IN}; leaves 101 1", "", "",
             "Move Ann 102; enters 102 2; Book Closed DBL 1 2; Check in Closed 101; turns 101 3",

@@ -29,7 +29,8 @@ export function book() {
   };
   return [head(words.book), el("div", { class: "beside" },
     form({ class: "card", id: "booking", oninput: changed }, reserve,
-      field(words.guest, input("guest", { autocomplete: "off", spellcheck: "false", "aria-describedby": "length" })),
+      field(words.guest, input("guest", { autocomplete: "off", spellcheck: "false", "aria-describedby": "length",
+        placeholder: " " })), // an empty field isn't outlined as wrong (desk.css)
       el("p", { id: "length", class: "hint" }),
       el("div", { class: "row" },
         field(words.arrival, input("arrive", { type: "date", min: hotel.today, max: "2099-12-30" })),

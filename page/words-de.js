@@ -259,7 +259,8 @@ export const words = {
       + "dasselbe Zimmer einchecken und ihre Karte schreiben. Früh buchen: die Nächte nach einem gebuchten Aufenthalt "
       + "gelten als frei."],
     ["Eine andere Zimmerkategorie", "Sie ab heute buchen, den Gast auschecken und die neue Buchung einchecken."]],
-  otherwiseBooked: [["Anderer Name, Tag, andere Kategorie oder Dauer", "Neu buchen, dann diese Buchung stornieren."],
+  otherwiseBooked: [["Anderer Name, Tag, andere Kategorie oder Dauer", "Neu buchen, dann diese Buchung stornieren. Ist "
+    + "die Kategorie ausgebucht: nur die fehlenden Nächte buchen; oder stornieren, und sofort buchen."],
     ["Früher kommen", "Auch die Nächte ab heute buchen."]],
 
   // cards
@@ -290,8 +291,8 @@ export const words = {
   codes: "Codes",
   inTheLock: "Im Schloss",
   codeStates: { held: "jetzt", awaited: "noch nicht", passed: "nicht mehr" },
-  setLockTo: code => ["Das Schloss wartet auf eine frühere Karte. Einstellen auf ", code,
-    ", dann seine Datei importieren."],
+  setLockTo: code => ["Das Schloss wartet auf eine frühere Karte. Es auslesen, und seine Datei importieren "
+    + "(Schlösser). Ist das noch so: Einstellen auf ", code, ", dann seine Datei noch einmal importieren."],
   inside: "Drin: ",
   replaceTheLock: "Das Schloss ersetzen",
   reported: "Was das Schloss meldete",

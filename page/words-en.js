@@ -253,7 +253,8 @@ export const words = {
     ["To stay longer", "Book the further nights. On the first of them check the guest out, check the new booking in at "
       + "the same room, and write its card. Book early: the nights after a booked stay count as free."],
     ["Another type of room", "Book it from today, check the guest out, and check the new booking in."]],
-  otherwiseBooked: [["Another name, day, length or type", "Book anew, then cancel this booking."],
+  otherwiseBooked: [["Another name, day, length or type", "Book anew, then cancel this booking. If the type is full: "
+    + "book the missing nights alone; or cancel, and book at once."],
     ["To come early", "Book the nights from today too."]],
 
   // cards
@@ -282,7 +283,8 @@ export const words = {
   codes: "Codes",
   inTheLock: "In the lock",
   codeStates: { held: "now", awaited: "not yet", passed: "no longer" },
-  setLockTo: code => ["The lock waits for an earlier card. Set it to ", code, ", and import its file."],
+  setLockTo: code => ["The lock waits for an earlier card. Read it, and import its file (Locks). If this is still so: "
+    + "Set it to ", code, ", and import its file again."],
   inside: "Inside: ",
   replaceTheLock: "Replace the lock",
   reported: "What the lock reported",

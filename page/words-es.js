@@ -260,7 +260,8 @@ export const words = {
       + "una estancia reservada cuentan como libres."],
     ["Otro tipo de habitación", "Resérvelo desde hoy, haga el check-out del huésped, y después el check-in de la "
       + "reserva nueva."]],
-  otherwiseBooked: [["Otro nombre, día, duración o tipo", "Reserve de nuevo, y anule después esta reserva."],
+  otherwiseBooked: [["Otro nombre, día, duración o tipo", "Reserve de nuevo, y anule después esta reserva. Si el tipo "
+    + "está completo: reserve solo las noches que faltan; o anule, y reserve en seguida."],
     ["Venir antes", "Reserve también las noches desde hoy."]],
 
   // cards
@@ -291,8 +292,8 @@ export const words = {
   codes: "Códigos",
   inTheLock: "En la cerradura",
   codeStates: { held: "ahora", awaited: "aún no", passed: "ya no" },
-  setLockTo: code => ["La cerradura espera una tarjeta anterior. Ajustarla a ", code,
-    ", e importar después su archivo."],
+  setLockTo: code => ["La cerradura espera una tarjeta anterior. Léala, e importe su archivo (Cerraduras). Si sigue "
+    + "así: Ajustarla a ", code, ", e importar otra vez su archivo."],
   inside: "Dentro: ",
   replaceTheLock: "Sustituir la cerradura",
   reported: "Lo que informó la cerradura",

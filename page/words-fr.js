@@ -260,7 +260,8 @@ export const words = {
       + "un séjour réservé comptent comme libres."],
     ["Un autre type de chambre", "Réservez-le à partir d'aujourd'hui, faites le check-out du client, puis le check-in "
       + "de la nouvelle réservation."]],
-  otherwiseBooked: [["Autre nom, jour, durée ou type", "Réservez de nouveau, puis annulez cette réservation."],
+  otherwiseBooked: [["Autre nom, jour, durée ou type", "Réservez de nouveau, puis annulez cette réservation. Si le "
+    + "type est complet : réservez les seules nuits qui manquent ; ou annulez, et réservez aussitôt."],
     ["Venir plus tôt", "Réservez aussi les nuits à partir d'aujourd'hui."]],
 
   // cards
@@ -291,7 +292,8 @@ export const words = {
   codes: "Codes",
   inTheLock: "Dans la serrure",
   codeStates: { held: "maintenant", awaited: "pas encore", passed: "plus" },
-  setLockTo: code => ["La serrure attend une carte antérieure. La régler sur ", code, ", puis importer son fichier."],
+  setLockTo: code => ["La serrure attend une carte antérieure. Lisez-la, et importez son fichier (Serrures). Si cela "
+    + "dure : La régler sur ", code, ", puis importer de nouveau son fichier."],
   inside: "Dedans : ",
   replaceTheLock: "Remplacer la serrure",
   reported: "Ce que la serrure a signalé",
