@@ -15,6 +15,9 @@ import sys
 import tempfile
 import traceback
 
+from surface import (BEGUN, FIRST_NOTES_HEADER, KIND_ADDED, NOTES_HEADER, SEEN, TAKEN, answer, exchange_of,  # noqa: F401
+                     issued, numbered, request, reserved, room_added, text_of)
+
 HERE = pathlib.Path(__file__).resolve().parent
 DESK = HERE.parent / "crates" / "hotel_desk" / "out" / "hotel_desk"
 sys.dont_write_bytecode = True
@@ -64,15 +67,15 @@ PROCESSORS = len(os.sched_getaffinity(0))
 
 CODES = first_codes(640)
 FIRST, SECOND = CODES[:2]
-CARD = f"card 1 party 1 old {FIRST} new {SECOND}\n".encode()
 # The header of audit files, and that of the first version, under which each note is of its room's first lock.
-HEADER = b"room,fit,count,kind,card,old,new,at\n"
-FIRST_HEADER = b"room,count,kind,card,old,new,at\n"
-OPENING = b"begin 2031-05-01\nadd-kind DBL\nadd-room 101 DBL\nreserve DBL 2031-05-01 2 Ann Lee\n"
-OPENED = f"begun\nkind added\nroom code {FIRST}\nparty 1\n".encode()
-CHECKED_IN = OPENING + b"check-in 1 101\n"
+HEADER, FIRST_HEADER = text_of([NOTES_HEADER]), text_of([FIRST_NOTES_HEADER])
+# The lines of an opening and their answers; and then a check-in.
+OPENING_LINES = [("begin 2031-05-01", BEGUN), ("add-kind DBL", KIND_ADDED), ("add-room 101 DBL", room_added(FIRST)),
+                 ("reserve DBL 2031-05-01 2 Ann Lee", reserved(1))]
+OPENING, OPENED = map(text_of, zip(*OPENING_LINES))
+CHECK_IN_LINE, ISSUED = "check-in 1 101", issued(1, 1, FIRST, SECOND)
+CHECKED_IN, CARD = OPENING + text_of([CHECK_IN_LINE]), text_of([ISSUED])
 MOMENT = "2031-05-01T15:00:00"
-LISTS = b"in-house\nchain 101\naudit-of 101\n"
 # Desks of the first version of the tables, which an earlier program made: NAME.db, and what its lists answered over it,
 # NAME.lists.txt, in which `$` and the words of a call stand before each text.
 FIRST_DESKS = sorted((HERE / "version-1").glob("*.db"))
@@ -89,7 +92,7 @@ UPDATE meta SET version = 2;
 """
 # By what another program finds a file whole, and what it finds then.
 ARE_WHOLE, WHOLE = ["PRAGMA integrity_check", "PRAGMA foreign_key_check"], [[("ok",)], []]
-# The same two notes under each header.
+# The same two notes under each header, and what they are answered.
 NOTES = HEADER + f"""\
 101,1,1,in,1,{FIRST},{SECOND},2031-05-01T15:00:00
 101,1,2,out,1,{FIRST},{SECOND},2031-05-01T16:00:00
@@ -98,45 +101,11 @@ FIRST_NOTES = FIRST_HEADER + f"""\
 101,1,in,1,{FIRST},{SECOND},2031-05-01T15:00:00
 101,2,out,1,{FIRST},{SECOND},2031-05-01T16:00:00
 """.encode()
+NOTES_TAKEN, NOTES_SEEN = numbered(TAKEN, TAKEN), numbered(SEEN, SEEN)
 
-
-def answer(status, body, media="plain", allow=""):
-    """The bytes of an answer."""
-    allowed = f"Allow: {allow}\r\n" if allow else ""
-    head = (f"HTTP/1.1 {status}\r\nContent-Type: text/{media}; charset=utf-8\r\nContent-Length: {len(body)}\r\n"
-            f"{allowed}Connection: close\r\n\r\n")
-    return head.encode() + body
-
-
-def request(line, body=b""):
-    """The bytes of a request."""
-    return f"{line} HTTP/1.1\r\nHost: localhost\r\nContent-Length: {len(body)}\r\n\r\n".encode() + body
-
-
-def text_of(lines):
-    return "".join(f"{line}\n" for line in lines if line).encode()
-
-
-# Rooms and a guest whose bookings are a list of some 12 KB: its header is one write, and its rows are two. The guest as
-# a field of its rows.
-ROOMS = range(1, 121)
-GUEST = 'Lee, Ann "Annie" of the house, at the end of the long "road"'
-FIELD = '"' + GUEST.replace('"', '""') + '"'
-LONG_SCRIPT = text_of(["begin 2031-05-01", "add-kind DBL", *(f"add-room {room} DBL" for room in ROOMS),
-                       *[f"reserve DBL 2031-05-01 2 {GUEST}"] * len(ROOMS)])
-LONG_LIST = text_of(["party,guest,kind,arrive,depart",
-                     *(f"{party},{FIELD},DBL,2031-05-01,2031-05-03" for party in ROOMS)])
-DONE = answer("200 OK", CARD)
-CHECK_IN = b"POST /reservations/1/check-in HTTP/1.1\r\nHost: localhost\r\nContent-Length: 8\r\n\r\nroom=101"
 
 # Each exchange by itself: a request and its answer.
-BOOKED = [
-    (request("POST /begin", b"day=2031-05-01"), answer("200 OK", b"begun\n")),
-    (request("POST /kinds", b"kind=DBL"), answer("200 OK", b"kind added\n")),
-    (request("POST /rooms", b"room=101&kind=DBL"), answer("200 OK", f"room code {FIRST}\n".encode())),
-    (request("POST /reservations", b"kind=DBL&arrive=2031-05-01&nights=2&guest=Ann+Lee"),
-     answer("200 OK", b"party 1\n")),
-]
+BOOKED, (CHECK_IN, DONE) = [exchange_of(*pair) for pair in OPENING_LINES], exchange_of(CHECK_IN_LINE, ISSUED)
 
 
 @functools.cache

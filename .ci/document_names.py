@@ -243,12 +243,12 @@ def looked_for():
     return looked, missing
 
 
-def main():
-    looked, missing = looked_for()
-    print("".join(missing), end="")
-    print(f"{looked} names looked for, {len(missing)} missing")
-    return 1 if missing else 0
+def ends(looked, wrong, what, how):
+    """Prints what is wrong, and how many were looked at; the status."""
+    print("".join(wrong), end="")
+    print(f"{looked} {what}, {len(wrong)} {how}")
+    return 1 if wrong else 0
 
 
 if __name__ == "__main__":
-    sys.exit(main())
+    sys.exit(ends(*looked_for(), "names looked for", "missing"))

@@ -12,14 +12,12 @@ usage: document_numbers.py      (nothing is built or run)
 Prints what differs, and at last how many values were compared; status 1 where one differs.
 """
 import datetime
-import pathlib
 import re
 import sys
 
-TOP = pathlib.Path(__file__).resolve().parent.parent
+from document_names import DOCUMENTS, TOP, ends
+
 DOCS = TOP / "docs"
-DOCUMENTS = [TOP / "README.md", *sorted(DOCS.glob("*.md")), TOP / "bench" / "README.md",
-             *sorted(TOP.glob("crates/*/must-fail/passes.md"))]
 TESTS = ("hotel_client", "hotel_tests", "hotel_scenarios")
 # Constants of parts of the code, which no document states as a limit.
 PARTS = {"INDEXES", "MOST_VALUES"}
@@ -79,7 +77,7 @@ STATED = {
                  (OPENAPI, lambda value: last_day(value).removeprefix("from "))],
     "CODES": [(VALUES, code_digits), (TABLES, lambda value: f"CHECK (code BETWEEN 0 AND {value - 1})"),
               (TABLES, lambda value: f"below {power(value)}")],
-    "MOST_WORDS": [(SEED, plain("the first of at most {} words"))],
+    "MOST_WORDS": [(SEED, plain("and tries {} at most"))],
     "SEED_BYTES": [(SEED, plain("the first {} bytes of FILE"))],
     "AUDIT_BYTES": [("FORMATS.md#the-file", plain("A file has at most {:,} bytes")),
                     ("FORMATS.md#files-that-are-late-cut-off-or-sent-twice", plain("of more than {:,} bytes")),
@@ -94,9 +92,9 @@ STATED = {
     "HEAD_FIELDS": [(ANSWERS, plain("bytes or {} fields")), (OPENAPI, plain("or more than {} fields"))],
     "FIRST_PATIENCE": [(REQUESTS, seconds("Send the first byte within {} after"))],
     "PATIENCE": [(REQUESTS, seconds("Then you have {} in all")), (REQUESTS, seconds("and {} in all to take")),
-                 (REQUESTS, seconds("has used up its {}"))],
-    "SILENCE": [(REQUESTS, seconds("pauses for {},"))],
-    "REST_BYTES": [(REQUESTS, plain("has sent {:,} bytes"))],
+                 (REQUESTS, seconds("within the {},"))],
+    "SILENCE": [(REQUESTS, seconds("until a pause of {}."))],
+    "REST_BYTES": [(REQUESTS, plain("at most {:,} bytes, within"))],
     "PAUSE": [("SCRIPTS.md#faults", lambda value: f"`closed`, {({10 ** 8: 'ten'}).get(value, value)} times a second")],
     "MOST_PORT": [(SERVER, plain("PORT is 1 to {}"))],
     "MOST_CONNECTIONS": [(SERVER, plain("COUNT 1 to {}")),
@@ -193,12 +191,5 @@ def compared():
     return looked, differ
 
 
-def main():
-    looked, differ = compared()
-    print("".join(differ), end="")
-    print(f"{looked} values compared, {len(differ)} differ")
-    return 1 if differ else 0
-
-
 if __name__ == "__main__":
-    sys.exit(main())
+    sys.exit(ends(*compared(), "values compared", "differ"))

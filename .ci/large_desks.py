@@ -9,7 +9,7 @@ import itertools
 import random
 import sqlite3
 
-from built_desk import HEADER, INDEXES
+from built_desk import INDEXES
 
 TABLES = """\
 CREATE TABLE meta (id INTEGER PRIMARY KEY CHECK (id = 1), version INTEGER NOT NULL, \
@@ -206,46 +206,39 @@ class LargeDesk:
 
     def bookings(self, day=None):
         """The booked stays, of each day or of one."""
-        yield "party,guest,kind,arrive,depart"
         for party, stay in self.stays.items():
             if stay["state"] == BOOKED and (day is None or stay["arrive"] <= day < stay["depart"]):
                 days = f"{day_of(stay['arrive'])},{day_of(stay['depart'])}"
                 yield f"{party},{field(stay['guest'])},{stay['kind']},{days}"
 
     def in_house(self):
-        yield "room,party,guest,kind,depart,secured"
         for it in self.rooms:
             if it.party:
                 stay, secured = self.stays[it.party], "yes" if it.secured else "no"
                 yield f"{it.room},{it.party},{field(stay['guest'])},{it.kind},{day_of(stay['depart'])},{secured}"
 
     def left_behind(self):
-        yield "room,held,current,awaited"
         for it in self.rooms:
             awaited = len(it.codes) - 1 - it.place
             if awaited >= 2:
                 yield f"{it.room},{it.codes[it.place]:012x},{it.codes[-1]:012x},{awaited}"
 
     def room_status(self):
-        yield "room,kind,party,secured,awaited"
         for it in self.rooms:
             secured, awaited = "yes" if it.secured else "no", len(it.codes) - 1 - it.place
             yield f"{it.room},{it.kind},{it.party or ''},{secured},{awaited}"
 
     def cards_inside(self):
-        yield "room,card,party"
         party_of = {number: party for number, party, *_ in self.cards}
         for it in self.rooms:
             for card in sorted(it.inside):
                 yield f"{it.room},{card},{party_of[card]}"
 
     def card(self, number):
-        yield "card,party,guest,old,new"
         for card, party, old, new in self.cards[number - 1:number]:
             yield f"{card},{party},{field(self.stays[party]['guest'])},{old:012x},{new:012x}"
 
     def cards_of(self, party):
-        yield "card,old,new"
         for card, its, old, new in self.cards:
             if its == party:
                 yield f"{card},{old:012x},{new:012x}"
@@ -253,7 +246,6 @@ class LargeDesk:
     def locks(self):
         """The newest lock of each room: its number, how many notes are behind those of the locks before, and when it
         wrote the last of them."""
-        yield "room,fit,count,at"
         for it in self.rooms:
             fit, count = len(it.fits), len(it.notes) - it.fits[-1][1]
             yield f"{it.room},{fit},{count},{moment(*it.notes[-1][4:]) if count else ''}"
@@ -261,7 +253,6 @@ class LargeDesk:
     def availability(self, day, nights):
         """Of each kind its rooms, and how many of them no stay that is booked or in house takes on any of these nights.
         """
-        yield "kind,rooms,free"
         rooms = collections.Counter(it.kind for it in self.rooms)
         taken = collections.Counter(
             (stay["kind"], night) for stay in self.stays.values() if stay["state"] in (BOOKED, IN_HOUSE)
@@ -272,8 +263,8 @@ class LargeDesk:
             yield f"{kind},{rooms[kind]},{max(0, rooms[kind] - most) if is_ahead else 0}"
 
     def lists(self):
-        """The lines of each list, and its text."""
-        yield "business-day", ["day", day_of(TODAY)]
+        """The line of each list, and its rows."""
+        yield "business-day", [day_of(TODAY)]
         yield "in-house", self.in_house()
         yield "left-behind", self.left_behind()
         yield "room-status", self.room_status()
@@ -295,13 +286,11 @@ class LargeDesk:
 
 
 def chain(room):
-    yield "place,code,state"
     for place, code in enumerate(room.codes):
         yield f"{place},{code:012x},{'passed' if place < room.place else 'held' if place == room.place else 'awaited'}"
 
 
 def audit(room):
-    yield HEADER.decode().strip()
     for fit, count, act, card, first, second, *at in room.numbered():
         yield (f"{room.room},{fit},{count},{('in', 'out', 'recode')[act]},{card or ''},{first:012x},{second:012x},"
                f"{moment(*at)}")

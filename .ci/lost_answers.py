@@ -1,6 +1,7 @@
 """Two clerks and lost answers: what the page says of a command, by what another clerk did meanwhile, and by whether
 the desk has done the command (docs/HTTP.md, "Was it done?")."""
 from clerks import Clerk, hotel, post
+from surface import path_of
 
 FIRST_DAY = b"""begin 2031-05-01
 add-kind DBL
@@ -19,23 +20,23 @@ YES, NO, MAYBE = "It was done", "It wasn't done", "It may have been done"
 
 
 def check_in(party, room):
-    return post(f"/reservations/{party}/check-in", room=room)
+    return post(path_of("check-in", party), room=room)
 
 
 def move(party, room):
-    return post(f"/reservations/{party}/transfer", room=room)
+    return post(path_of("transfer", party), room=room)
 
 
 def out(party):
-    return post(f"/reservations/{party}/check-out")
+    return post(path_of("check-out", party))
 
 
 def book(guest, nights=1):
-    return post("/reservations", kind="DBL", arrive="2031-05-01", nights=nights, guest=guest)
+    return post(path_of("reserve"), kind="DBL", arrive="2031-05-01", nights=nights, guest=guest)
 
 
-NEXT, CANCEL, ADD = post("/next-day"), post("/reservations/2/cancel"), post("/rooms", room=105, kind="SGL")
-LATER = post("/begin", day="2031-05-03")
+NEXT, CANCEL = post(path_of("next-day")), post(path_of("cancel", 2))
+ADD, LATER = post(path_of("add-room"), room=105, kind="SGL"), post(path_of("begin"), day="2031-05-03")
 
 
 def begun(view, *presses):
@@ -170,9 +171,14 @@ def flat(clerk):
     return clerk.raw("dialog[open]")
 
 
+def chain_of(site, room):
+    """The list of the room's codes."""
+    return site.ask(f"GET /desk{path_of('chain', room)}")[2].decode()
+
+
 def code_of(site, room):
     """The code of the room's lock."""
-    held = [line for line in site.ask(f"GET /desk/rooms/{room}/chain")[2].decode().splitlines() if "held" in line]
+    held = [line for line in chain_of(site, room).splitlines() if "held" in line]
     return held[0].split(",")[1] if held else "none"
 
 
@@ -234,7 +240,7 @@ def stale_rows(desk):
             GIVEN[name](clerk)
             yield (name, "moved before"), True, clerk.shows("Card 3 for room 103")
             yield (name, "it says so"), True, clerk.shows("Somebody else has moved the guest from 101 to 103")
-            chain = site.ask("GET /desk/rooms/103/chain")[2].decode()
+            chain = chain_of(site, 103)
             yield (name, "its codes"), True, all(code in chain for code in clerk.card()[1:])
             between.again(start)
             clerk.reload()

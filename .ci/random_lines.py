@@ -4,7 +4,7 @@ import random
 
 from built_desk import codes
 from simulated.things import Note, day_text, ordinal
-from simulated.wanted import CODE, COMMANDS, VERBS, Books
+from simulated.wanted import CODE, VERB_OF, Books, names_of
 from simulated.ways import line_of
 
 OPENING = ["begin", "add-kind", "add-kind", "add-kind", *["add-room"] * 9]
@@ -25,9 +25,9 @@ class RandomScript:
             self.adds(OPENING[number] if number < len(OPENING) else self.chance.choices(list(OFTEN), OFTEN.values())[0])
 
     def adds(self, verb):
-        v = {"note": self.note(verb)} if verb in VERBS else {
-            name: getattr(self, name)(verb) for name in COMMANDS[verb][0].split()}
-        verb = VERBS.get(verb, verb)
+        v = {"note": self.note(verb)} if verb in VERB_OF else {
+            name: getattr(self, name)(verb) for name in names_of(verb)}
+        verb = VERB_OF.get(verb, verb)
         said = self.books.refusal(verb, v)
         if said is None:
             new = [next(self.codes)] if CODE in self.books.answer(verb, v) else []

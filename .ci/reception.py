@@ -4,15 +4,15 @@ import collections
 import contextlib
 import csv
 import datetime
-import urllib.parse
 
-from built_desk import HEADER, exchange, request, serve, text_of
+from built_desk import HEADER, exchange, serve
 from simulated.things import Card, Lock, day_text, ordinal
-from simulated.ways import LISTS, PATHS
+from surface import VERBS, import_of, refused, request_for, text_of
 
 FIRST_DAY = "2031-05-01"
 # What the desk says of a lock's lines when it has lost track of the lock.
-LOST_TRACK = {22, 24, 26, 27, 28}
+LOST_TRACK = {int(said.split()[1]) for said in (
+    refused.Gap, refused.CardDiffers, refused.NotInside, refused.HeldDiffers, refused.NotAwaited)}
 ROOMS = {101: "DBL", 102: "DBL", 103: "DBL", 201: "SGL"}
 # The buttons of the page, each with the desk's command.
 BUTTONS = {"Book": "reserve", "Check in": "check-in", "Spare card": "spare", "Lost card": "reissue", "Move": "transfer",
@@ -35,21 +35,23 @@ class Reception:
     def __init__(self, port, rooms, lock=Lock):
         self.lock = lock
         self.port, self.second, self.parties, self.cards, self.held, self.answers = port, 0, {}, {}, {}, []
-        self.asks("POST", "/begin", f"day={FIRST_DAY}".encode())
+        self.asks(f"begin {FIRST_DAY}")
         for kind in sorted(set(rooms.values())):
-            self.asks("POST", "/kinds", f"kind={kind}".encode())
+            self.asks(f"add-kind {kind}")
         self.locks = {room: lock(room, 1, self.code(room, kind), 0) for room, kind in rooms.items()}
 
-    def asks(self, method, path, body=b""):
-        said = exchange(self.port, request(f"{method} {path}", body), 1 << 20)
-        return said.partition(b"\r\n\r\n")[2].decode().strip()
+    def asks(self, line):
+        return self.sends(request_for(line))
+
+    def sends(self, asked):
+        return exchange(self.port, asked, 1 << 20).partition(b"\r\n\r\n")[2].decode().strip()
 
     def code(self, room, kind):
         """The code of a new room."""
-        return self.asks("POST", "/rooms", f"room={room}&kind={kind}".encode()).split()[-1]
+        return self.asks(f"add-room {room} {kind}").split()[-1]
 
-    def rows(self, name, *values):
-        return list(csv.reader(self.asks("GET", LISTS[name].format(*values)).splitlines()[1:]))
+    def rows(self, *words):
+        return list(csv.reader(self.asks(" ".join(map(str, words))).splitlines()[1:]))
 
     def at(self):
         self.second += 1
@@ -61,10 +63,12 @@ class Reception:
         """Presses a button of the page. A new card is the guest's."""
         given = dict(zip(FORMS.get(button, "guest").split(), values))
         name = given.pop("guest", None)
-        path = PATHS[BUTTONS[button]].format(**given, party=self.parties.get(name))
+        given["party"] = self.parties.get(name)
         if button == "Book":
             given |= {"guest": name.rstrip("'"), "arrive": day_text(ordinal(FIRST_DAY) - 1 + int(given["arrive"]))}
-        word, *said = self.asks("POST", path, urllib.parse.urlencode(given).encode()).split()
+        verb = BUTTONS[button]
+        words = [verb, *(str(given[value.lower()]) for value in VERBS[verb].values.split())]
+        word, *said = self.asks(" ".join(words)).split()
         if word == "refused":
             raise Refused(f"{button} {values}: {said}")
         if word == "party":
@@ -145,7 +149,7 @@ class Reception:
 
     def imports(self, notes):
         text = HEADER + text_of(",".join(map(str, note)) for note in notes)
-        self.answers += [line.partition(" ")[2] for line in self.asks("POST", "/audit", text).splitlines()]
+        self.answers += [line.partition(" ")[2] for line in self.sends(import_of(text)).splitlines()]
 
     def misreads(self, room, named):
         """Imports a lock's log with the number of another room."""

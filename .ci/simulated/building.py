@@ -4,8 +4,9 @@ import collections
 
 from simulated.desk import Desk
 from simulated.things import Card, Note
-from simulated.wanted import HEADERS, VERBS, Books, row
+from simulated.wanted import VERB_OF, Books, row
 from simulated.ways import same
+from surface import HEADERS, TAKEN
 
 Says = collections.namedtuple("Says", "party secured waits notes held awaited inside")
 NAMES = {HEADERS[name]: name for name in ("room-status", "locks", "inside", "chain")}
@@ -64,7 +65,7 @@ class Building:
         for note in lock.log[door.heard:]:
             said = self.at_once.told(note)
             if lock.room not in self.bad:
-                self.holds(1, lock.room, f"`{row(note)}` at once", "taken", said)
+                self.holds(1, lock.room, f"`{row(note)}` at once", TAKEN, said)
         door.heard = len(lock.log)
         self.looks()
 
@@ -121,7 +122,7 @@ class Building:
         opening, unread = self.cards[code], door.lock.log[says.notes:]
         self.desk.counts["doors with unread notes"] += bool(unread)
         if unread:
-            refused = self.desk.books.refusal(VERBS[unread[0].kind], {"note": unread[0]})
+            refused = self.desk.books.refusal(VERB_OF[unread[0].kind], {"note": unread[0]})
             self.holds(1, room, f"the next note `{row(unread[0])}`", None, refused)
         self.holds(2, room, "the code of the lock, by all notes", code, once.held)
         self.holds(2, room, "cards inside or slipped out, by all notes",

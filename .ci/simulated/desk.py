@@ -8,6 +8,7 @@ import tempfile
 from simulated.things import Card, day_text
 from simulated.wanted import CODE, Books
 from simulated.ways import file_of, line_of, same
+from surface import SEEN
 
 KILL = "kill", None, None
 
@@ -45,7 +46,7 @@ class Desk:
             return None if wanted else self.find_out(verb, v)
         if wanted is None:
             return self.done(verb, v, said)
-        self.counts["refusals"] += wanted != "seen"
+        self.counts["refusals"] += wanted != SEEN
         same(line_of(verb, v), wanted, said)
         return self.said(said)
 
@@ -67,7 +68,7 @@ class Desk:
         books, stay = self.books, self.books.stays.get(v.get("party"))
         if verb == "spare" and self.chance.random() < 0.5:
             said = self.way.command(verb, v)
-            if said.startswith(f"card {len(books.cards) + 2} "):
+            if said.split()[1] == f"{len(books.cards) + 2}":
                 books.carry_out(verb, v)
             return self.done(verb, v, said)
         room = v["note"].room if "note" in v else v.get("room") or stay and stay.room

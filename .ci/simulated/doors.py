@@ -60,8 +60,8 @@ class Door(Lock):
 
 
 class Strict(Lock):
-    """A lock that does what docs/OPERATING.md wants (What a lock must do): it notes an exit only of a card that it noted
-    inside, and no setting that changes nothing."""
+    """A lock that does what docs/OPERATING.md wants (What a lock must do): it notes an exit only of a card that it
+    noted inside, and no setting that changes nothing."""
 
     def leaves(self, card, at):
         kinds = [note.kind for note in self.log if note[4:7] == (card.number, card.old, card.new)]

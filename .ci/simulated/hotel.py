@@ -9,6 +9,7 @@ from simulated.staff import Staff
 from simulated.things import Lock, day_text, ordinal
 from simulated.wanted import FIRST_DAY, LAST_DAY
 from simulated.ways import same
+from surface import SEEN
 
 # How often each comes, beside the others, and to one of whom.
 EVENTS = [(14, "books_room", None), (18, "arrives", "expected"), (2, "arrives", "booked"), (2, "cancels", "booked"),
@@ -160,7 +161,7 @@ class Hotel(Guests, Staff):
         rooms = sorted(self.desk.books.rooms)
         for room in self.chance.sample(rooms, min(3, len(rooms))):
             notes = [note for kept in self.desk.books.rooms[room].fits for note in kept][:2500]
-            same(f"the answers to `audit-of {room}` as a file", set(), set(self.desk.send(notes)) - {"seen"})
+            same(f"the answers to `audit-of {room}` as a file", set(), set(self.desk.send(notes)) - {SEEN})
 
     def counts_nights(self, here):
         """On no night has a kind more stays than rooms, by the lists."""

@@ -3,7 +3,7 @@ replace locks on the wrong day, and at some doors something fails."""
 from simulated.building import Building, watched
 from simulated.hotel import EVENTS, Hotel
 from simulated.things import Card, Note, day_text
-from simulated.wanted import LAST_DAY, VERBS
+from simulated.wanted import LAST_DAY, VERB_OF
 
 # What comes beside the events of other hotels; and what breaks a premise at a door, in the hotels with faults.
 MISTAKES = [(2, "sets_again", "lock"), (3, "sets_by_paper", "lock"), (1, "replaces", "lock"), (4, "reads_badly", None),
@@ -130,9 +130,9 @@ class House(Hotel):
         known, card = self.desk.books.rooms[lock.room], self.some(self.desk.issued[-9:])
         note = card and Note(lock.room, len(known.fits), len(known.fits[-1]) + 1, "in", card.number, card.old, card.new,
                              self.at())
-        if note and not self.desk.books.refusal(VERBS[note.kind], {"note": note}):
+        if note and not self.desk.books.refusal(VERB_OF[note.kind], {"note": note}):
             self.fails(lock)
-            self.desk.do(VERBS[note.kind], note=note)
+            self.desk.do(VERB_OF[note.kind], note=note)
 
     def sets_any(self, lock):
         """Staff set a lock to a code that it passed, or to none of the desk's."""

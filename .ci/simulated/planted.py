@@ -4,6 +4,7 @@ import shutil
 
 from simulated.things import Lock
 from simulated.ways import line_of
+from surface import CANCELLED, CHECKED_OUT, HEADERS, SEEN, TAKEN, UNREAD, refused, reserved
 
 
 class Planted:
@@ -41,7 +42,7 @@ def note_lost(_, text, ask):
     if len(rows) < 6 or ",out," not in rows[-2]:
         return ask()
     said = ask("\n".join([*rows[:-2], ""]).encode())
-    return said and f"{said}{len(rows) - 2} taken\n"
+    return said and f"{said}{len(rows) - 2} {TAKEN}\n"
 
 
 def day_lost(way, text, ask):
@@ -85,19 +86,19 @@ BUGS = {
     "a moved party's card has another room's code": alters("transfer", r"old \w+", "old 903df1a0ade0"),
     "a refit gives a code that was given before": alters("refit", r"code \w+", "code 903df1a0ade0"),
     "each refit is that of the second lock": alters("refit", r"lock \d+", "lock 2"),
-    "a full night is booked": alters("reserve", r"refused 17 .*", "party 7"),
+    "a full night is booked": alters("reserve", f"{refused.KindFull} .*", reserved(7)),
     "a full night's day has its digits swapped": alters("reserve", r"(KindFull .*)(.)(.)$", r"\1\3\2"),
-    "a wrong kind is named before a wrong day": alters("check-in", "refused 10 TooEarly", "refused 12 WrongKind"),
-    "a check-out is answered and not done": skips(r"check-out \d\d", "checked out"),
-    "a cancellation is answered and not done": skips(r"cancel \d\d", "cancelled"),
+    "a wrong kind is named before a wrong day": alters("check-in", refused.TooEarly, refused.WrongKind),
+    "a check-out is answered and not done": skips(r"check-out \d\d", CHECKED_OUT),
+    "a cancellation is answered and not done": skips(r"cancel \d\d", CANCELLED),
     "the last note of a file is answered and lost, if a card left": note_lost,
-    "a typed note that staff set the lock is answered and lost": skips("recoded", "taken"),
-    "a new note, second in a file, is seen": alters(FILE, "^2 taken", "2 seen"),
-    "a note that was taken is taken again": alters(FILE, "seen", "taken"),
-    "a late note of a lock that was replaced is taken": alters(FILE, "refused 31 OldFit", "taken"),
-    "a note after missing ones is taken": alters(FILE, r"refused 22 Gap \d+", "taken"),
-    "a card of another room or an earlier one is said to enter": alters(".*", "refused 25 LockShut", "taken"),
-    "a line that was cut is skipped": alters(FILE, r"\d+ unread \w+\n", ""),
+    "a typed note that staff set the lock is answered and lost": skips("recoded", TAKEN),
+    "a new note, second in a file, is seen": alters(FILE, f"^2 {TAKEN}", f"2 {SEEN}"),
+    "a note that was taken is taken again": alters(FILE, SEEN, TAKEN),
+    "a late note of a lock that was replaced is taken": alters(FILE, refused.OldFit, TAKEN),
+    "a note after missing ones is taken": alters(FILE, rf"{refused.Gap} \d+", TAKEN),
+    "a card of another room or an earlier one is said to enter": alters(".*", refused.LockShut, TAKEN),
+    "a line that was cut is skipped": alters(FILE, rf"\d+ {UNREAD} \w+\n", ""),
     "a room is secured that isn't": alters("lists", r"^(\d+,\d+,.*),no$", r"\1,yes"),
     "a room isn't secured that is": alters("lists", r"^(\d+,\d+,.*),yes$", r"\1,no"),
     "the second booking of a night isn't listed": alters("lists", r"(kind,arrive,depart\n\d.*\n)\d.*\n", r"\1"),
@@ -109,7 +110,8 @@ BUGS = {
     "the code that a lock holds is counted as awaited": alters("lists", r"^(\d+,\w+,\d*,(?:yes|no),)1$", r"\g<1>2"),
     "of a kind without free rooms one is free": alters("lists", r"^(\w+,\d+),0$", r"\1,1"),
     "the second card inside isn't listed": alters("lists", r"(card,party\n\d.*\n)\d.*\n", r"\1"),
-    "the first of a party's cards isn't listed": alters("lists", r"(card,old,new\n)\d.*\n(?=\d+,\w+,\w+\n)", r"\1"),
+    "the first of a party's cards isn't listed": alters(
+        "lists", rf"({HEADERS['cards']}\n)\d.*\n(?=\d+,\w+,\w+\n)", r"\1"),
     "the party of a card has the card's number": alters("lists", r"(old,new\n(\d+),)\d+,", r"\1\2,"),
     "a lock that took no note has taken one": alters("lists", r"^(\d+,\d+,)0,$", r"\g<1>1,"),
     "the business day is that after it": alters("lists", r"^(day\n\d{4}-\d\d-\d)1$", r"\g<1>2"),
@@ -124,13 +126,14 @@ BUGS = {
 # What a desk does wrongly in a building that is looked at after every step; and the promise that finds it.
 AT_DOORS = {
     "the last note of a file that a card left is answered and lost": (1, note_lost),
-    "the first card inside isn't listed": (2, alters("lists room-status", r"(room,card,party\n)\d.*\n", r"\1")),
+    "the first card inside isn't listed": (2, alters("lists room-status", rf"({HEADERS['inside']}\n)\d.*\n", r"\1")),
     "a room is listed as secured that isn't": (3, alters("lists room-status", r"^(\d+,\w+,\d+,)no,", r"\1yes,")),
     "a room that awaits one code is listed with none":
         (4, alters("lists room-status", r"^(.*,(yes|no),)1$", r"\g<1>0")),
     "a room that awaits two codes is listed with one":
         (5, alters("lists room-status", r"^(.*,(yes|no),)2$", r"\g<1>1")),
-    "the last of a party's cards isn't listed": (7, alters("lists cards", r"(card,old,new\n)(.*\n)*.+\n", r"\1\2")),
+    "the last of a party's cards isn't listed": (
+        7, alters("lists cards", rf"({HEADERS['cards']}\n)(.*\n)*.+\n", r"\1\2")),
     "the second awaited code of a chain is listed as held":
         (8, alters("lists room-status", r"(awaited\n.*),awaited", r"\1,held")),
 }

@@ -14,7 +14,7 @@ from simulated.hotel import Hotel
 from simulated.house import House
 from simulated.planted import Planted
 from simulated.things import Lock, Note
-from simulated.wanted import VERBS
+from simulated.wanted import VERB_OF
 from simulated.ways import WAYS, Wrong, line_of
 
 
@@ -73,7 +73,7 @@ def script_of(steps):
         if what == "lists":
             lines += v
         elif what == "note":
-            lines.append(line_of(VERBS[v.kind], {"note": v}))
+            lines.append(line_of(VERB_OF[v.kind], {"note": v}))
         else:
             lines.append(line_of(what, v) if isinstance(v, dict) else f"# {what}")
     return lines

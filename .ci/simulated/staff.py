@@ -1,7 +1,8 @@
 """What staff do: they set and replace locks, bring their logs late, cut and twice, err, and restore the desk."""
 from simulated.things import Note
-from simulated.wanted import COMMANDS, FIRST_DAY, LAST_DAY, MOST_FITS, VERBS, row
+from simulated.wanted import COMMANDS, FIRST_DAY, LAST_DAY, MOST_FITS, VERB_OF, names_of, row
 from simulated.ways import same
+from surface import SEEN, TAKEN
 
 
 class Staff:
@@ -21,7 +22,7 @@ class Staff:
                 note = note._replace(at=self.at())
                 self.mistimed.add(note[:3])
             if is_by_hand:
-                self.desk.do(VERBS[note.kind], note=note)
+                self.desk.do(VERB_OF[note.kind], note=note)
 
     def sees_left_behind(self):
         rows = self.desk.compare(["left-behind"])["left-behind"]
@@ -61,11 +62,11 @@ class Staff:
             notes = [self.chance.choice([part for part in parts if part]).pop(0) for _ in notes]
         for lock in locks:
             lock.read = len(lock.log)
-        for wanted in ["taken", "seen"][:1 + (self.chance.random() < 0.15)] if notes else []:
+        for wanted in [TAKEN, SEEN][:1 + (self.chance.random() < 0.15)] if notes else []:
             answers = [answer for at in range(0, len(notes), 2500) for answer in self.desk.send(notes[at:at + 2500])]
             for note, answer in zip(notes, answers):
                 lock = self.locks[note.room]
-                if note.fit == lock.fit and note[:3] not in self.mistimed and answer not in (wanted, "seen"):
+                if note.fit == lock.fit and note[:3] not in self.mistimed and answer not in (wanted, SEEN):
                     if not lock.may_be_lost:
                         same(f"what the lock has written: {row(note)}", wanted, answer)
                     lock.is_lost = True
@@ -85,7 +86,7 @@ class Staff:
     def errs(self):
         """Somebody asks for something at random that is refused, or types a note that no lock has written."""
         books, chance = self.desk.books, self.chance
-        verb = chance.choice([*COMMANDS, *VERBS.values(), *VERBS.values()])
+        verb = chance.choice([*COMMANDS, *VERB_OF.values(), *VERB_OF.values()])
         room, party = chance.choice([*sorted(books.rooms), 9999]), len(books.stays) + 2 - chance.randint(0, 9)
         known = books.rooms.get(room, min(books.rooms.items())[1])
         number, party_of, old, new, _ = self.some(self.desk.issued[-9:]) or (1, 1, "00000000000a", "00000000000b", 0)
@@ -97,7 +98,7 @@ class Staff:
         v = {"day": books.day, "kind": chance.choice([*self.kinds, "NO"]), "room": room, "guest": "Gus", "note": note,
              "party": max(1, chance.choice([party, party, party_of, 9_999_999])), "nights": chance.randint(1, 90),
              "arrive": max(FIRST_DAY, min(books.day + chance.choice([-1, 0, 40_000]), LAST_DAY))}
-        v = {name: v[name] for name in COMMANDS[verb][0].split()}
+        v = {name: v[name] for name in names_of(verb)}
         if note.fit <= MOST_FITS and books.refusal(verb, v):
             self.desk.do(verb, **v)
 

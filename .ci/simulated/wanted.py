@@ -3,66 +3,61 @@ import collections
 import types
 
 from simulated.things import Card, day_text, ordinal
+from surface import (BEGUN, CANCELLED, CHECKED_OUT, HEADERS, KIND_ADDED, NOTE_KINDS, SEEN, TAKEN, VERBS, day_is,
+                     issued, numbered, refitted, refusal_of, refused, reserved, room_added, text_of, unread)
 
 FIRST_DAY, LAST_DAY = ordinal("2000-01-01"), ordinal("2099-12-31")
 MOST_FITS = 99
 CODE = "([0-9a-f]{12})"
-CARD = "card {card} party {party} old {old} new {new}"
-# docs/SCRIPTS.md, Commands: the values of each command, its answer, and its refusals in the order of the checks. A note
-# is answered `seen` where that stands.
+CARD = issued("{card}", "{party}", "{old}", "{new}")
+# docs/SCRIPTS.md, Commands: the answer to each command, and its refusals in the order of the checks. A note is answered
+# `seen` where that stands.
 COMMANDS = {
-    "begin": ("day", "begun", "2"), "next-day": ("", "day {day}", "1 20"),
-    "add-kind": ("kind", "kind added", "1 3"), "add-room": ("room kind", "room code {new}", "1 4 5"),
-    "reserve": ("kind arrive nights guest", "party {party}", "1 4 15 16 17"),
-    "cancel": ("party", "cancelled", "1 7 8"), "check-out": ("party", "checked out", "1 7 9"),
-    "check-in": ("party room", CARD, "1 6 7 8 10 11 12 14"), "transfer": ("party room", CARD, "1 6 7 9 12 13 14"),
-    "spare": ("party", CARD, "1 7 9"), "reissue": ("party", CARD, "1 7 9"),
-    "entered": ("note", "taken", "1 6 32 21 seen 31 22 23 24 25"),
-    "left": ("note", "taken", "1 6 32 21 seen 31 22 23 24 26"),
-    "recoded": ("note", "taken", "1 6 32 21 seen 31 22 27 28"),
-    "refit": ("room", "lock {fit} code {new}", "1 6 14 33"),
+    "begin": (BEGUN, "2"), "next-day": (day_is("{day}"), "1 20"), "add-kind": (KIND_ADDED, "1 3"),
+    "add-room": (room_added("{new}"), "1 4 5"), "reserve": (reserved("{party}"), "1 4 15 16 17"),
+    "cancel": (CANCELLED, "1 7 8"), "check-out": (CHECKED_OUT, "1 7 9"),
+    "check-in": (CARD, "1 6 7 8 10 11 12 14"), "transfer": (CARD, "1 6 7 9 12 13 14"),
+    "spare": (CARD, "1 7 9"), "reissue": (CARD, "1 7 9"),
+    "entered": (TAKEN, "1 6 32 21 seen 31 22 23 24 25"), "left": (TAKEN, "1 6 32 21 seen 31 22 23 24 26"),
+    "recoded": (TAKEN, "1 6 32 21 seen 31 22 27 28"), "refit": (refitted("{fit}", "{new}"), "1 6 14 33"),
 }
 # docs/FORMATS.md, What is answered: a note of this kind has the refusals of that command.
-VERBS = {"in": "entered", "out": "left", "recode": "recoded"}
-# docs/SCRIPTS.md, Refusals: the name and the cause of each. A cause that is a text is printed after the name. `kept` is
-# the notes taken of a note's lock, and `taken` the one of its count.
-REFUSALS = {
-    "1": ("NotBegun", lambda a: a.books.day is None), "2": ("AlreadyBegun", lambda a: a.books.day is not None),
-    "3": ("KindExists", lambda a: a.v["kind"] in a.books.kinds),
-    "4": ("NoKind", lambda a: a.v["kind"] not in a.books.kinds),
-    "5": ("RoomExists", lambda a: a.room is not None), "6": ("NoRoom", lambda a: a.room is None),
-    "7": ("NoParty", lambda a: a.stay is None), "8": ("NotBooked", lambda a: a.stay.state != "booked"),
-    "9": ("NotInHouse", lambda a: a.stay.state != "in house"),
-    "10": ("TooEarly", lambda a: a.books.day < a.stay.arrive),
-    "11": ("StayOver", lambda a: a.books.day >= a.stay.depart),
-    "12": ("WrongKind", lambda a: a.room.kind != a.stay.kind),
-    "13": ("SameRoom", lambda a: a.room.party == a.stay.party), "14": ("RoomTaken", lambda a: a.room.party is not None),
-    "15": ("PastArrival", lambda a: a.v["arrive"] < a.books.day),
-    "16": ("PastEnd", lambda a: a.v["arrive"] + a.v["nights"] > LAST_DAY),
-    "17": ("KindFull", lambda a: a.books.full_night(a.v["kind"], a.v["arrive"], a.v["nights"])),
-    "20": ("LastDay", lambda a: a.books.day == LAST_DAY),
-    "21": ("Conflict", lambda a: a.taken not in (None, a.note)), "seen": ("seen", lambda a: a.taken),
-    "22": ("Gap", lambda a: a.note.count > len(a.kept) + 1 and f" {len(a.kept) + 1}"),
-    "23": ("NoCard", lambda a: a.note.card not in a.books.cards),
-    "24": ("CardDiffers", lambda a: a.books.cards[a.note.card][2:4] != (a.note.old, a.note.new)),
-    "25": ("LockShut", lambda a: a.room.held not in (a.note.old, a.note.new)),
-    "26": ("NotInside", lambda a: a.note.card not in a.room.inside),
-    "27": ("HeldDiffers", lambda a: a.room.held != a.note.old),
-    "28": ("NotAwaited", lambda a: a.note.new not in a.room.awaited),
-    "31": ("OldFit", lambda a: a.note.fit < len(a.room.fits)), "32": ("NoFit", lambda a: a.note.fit > len(a.room.fits)),
-    "33": ("FitsUsedUp", lambda a: len(a.room.fits) == MOST_FITS),
+VERB_OF = {kind: verb for verb, kind in NOTE_KINDS.items()}
+# docs/SCRIPTS.md, Refusals: the cause of each. A cause that is a text is printed after the name. `kept` is the notes
+# taken of a note's lock, and `taken` the one of its count.
+REFUSED_WHEN = {
+    "1": lambda a: a.books.day is None, "2": lambda a: a.books.day is not None,
+    "3": lambda a: a.v["kind"] in a.books.kinds, "4": lambda a: a.v["kind"] not in a.books.kinds,
+    "5": lambda a: a.room is not None, "6": lambda a: a.room is None,
+    "7": lambda a: a.stay is None, "8": lambda a: a.stay.state != "booked",
+    "9": lambda a: a.stay.state != "in house",
+    "10": lambda a: a.books.day < a.stay.arrive, "11": lambda a: a.books.day >= a.stay.depart,
+    "12": lambda a: a.room.kind != a.stay.kind,
+    "13": lambda a: a.room.party == a.stay.party, "14": lambda a: a.room.party is not None,
+    "15": lambda a: a.v["arrive"] < a.books.day,
+    "16": lambda a: a.v["arrive"] + a.v["nights"] > LAST_DAY,
+    "17": lambda a: a.books.full_night(a.v["kind"], a.v["arrive"], a.v["nights"]),
+    "20": lambda a: a.books.day == LAST_DAY,
+    "21": lambda a: a.taken not in (None, a.note), SEEN: lambda a: a.taken,
+    "22": lambda a: a.note.count > len(a.kept) + 1 and f" {len(a.kept) + 1}",
+    "23": lambda a: a.note.card not in a.books.cards,
+    "24": lambda a: a.books.cards[a.note.card][2:4] != (a.note.old, a.note.new),
+    "25": lambda a: a.room.held not in (a.note.old, a.note.new),
+    "26": lambda a: a.note.card not in a.room.inside,
+    "27": lambda a: a.room.held != a.note.old,
+    "28": lambda a: a.note.new not in a.room.awaited,
+    "31": lambda a: a.note.fit < len(a.room.fits), "32": lambda a: a.note.fit > len(a.room.fits),
+    "33": lambda a: len(a.room.fits) == MOST_FITS,
 }
-# docs/SCRIPTS.md, Lists.
-HEADERS = {"arrivals": "party,guest,kind,arrive,depart", "in-house": "room,party,guest,kind,depart,secured",
-           "chain": "place,code,state", "left-behind": "room,held,current,awaited",
-           "audit-of": "room,fit,count,kind,card,old,new,at", "business-day": "day",
-           "room-status": "room,kind,party,secured,awaited", "inside": "room,card,party",
-           "bookings": "party,guest,kind,arrive,depart", "availability": "kind,rooms,free",
-           "cards": "card,old,new", "card": "card,party,guest,old,new", "locks": "room,fit,count,at"}
 
 
 def row(note):
     return ",".join(map(str, note))
+
+
+def names_of(verb):
+    """The names of a command's values; those of a note are one."""
+    return ["note"] if verb in NOTE_KINDS else VERBS[verb].values.lower().split()
 
 
 def field(guest):
@@ -96,7 +91,7 @@ class Room:
 
 
 class Books:
-    """The rows of a desk. Days are ordinals; the values of a command have their names in COMMANDS."""
+    """The rows of a desk. Days are ordinals; the values of a command have the names in names_of."""
 
     def __init__(self):
         self.day, self.kinds, self.rooms, self.stays, self.cards = None, set(), {}, {}, {}
@@ -113,10 +108,10 @@ class Books:
         kept = room.fits[note.fit - 1] if note and room and note.fit <= len(room.fits) else []
         taken = kept[note.count - 1] if note and note.count <= len(kept) else None
         asked = types.SimpleNamespace(books=self, v=v, note=note, stay=stay, room=room, kept=kept, taken=taken)
-        for number in COMMANDS[verb][2].split():
-            name, cause = REFUSALS[number]
-            if found := cause(asked):
-                return name if number == "seen" else f"refused {number} {name}{found if isinstance(found, str) else ''}"
+        for number in COMMANDS[verb][1].split():
+            if found := REFUSED_WHEN[number](asked):
+                more = found if isinstance(found, str) else ""
+                return SEEN if number == SEEN else refusal_of(int(number)) + more
         return None
 
     def room_of(self, v):
@@ -127,7 +122,7 @@ class Books:
         """The answer to a command that is carried out, with this fresh code in it; else a pattern."""
         room, day = self.room_of(v), self.day and day_text(self.day + 1)
         old, new = (room.link if verb == "spare" else (room.codes[-1], code)) if room else (None, code)
-        return COMMANDS[verb][1].format(card=len(self.cards) + 1, party=v.get("party", len(self.stays) + 1), old=old,
+        return COMMANDS[verb][0].format(card=len(self.cards) + 1, party=v.get("party", len(self.stays) + 1), old=old,
                                         new=new, fit=room and len(room.fits) + 1, day=day)
 
     def carry_out(self, verb, v, code=None):
@@ -162,22 +157,22 @@ class Books:
 
     def told(self, note):
         """The answer to a note, which is carried out if it isn't refused or seen."""
-        asked = VERBS[note.kind], {"note": note}
-        return self.refusal(*asked) or self.carry_out(*asked) and "taken"
+        asked = VERB_OF[note.kind], {"note": note}
+        return self.refusal(*asked) or self.carry_out(*asked) and TAKEN
 
     def file_answer(self, notes, cut=0):
         """What an audit file of these notes is answered, of which so many last bytes are cut (docs/FORMATS.md, What is
         answered). The notes are carried out."""
         rest = row(notes[-1])[:-cut] if cut else ""
         answers = [self.told(note) for note in notes[:len(notes) - bool(cut)]]
-        answers += ["unread FieldCount" if rest.count(",") < 7 else "unread BadMoment"] if rest else []
-        return "".join(f"{number} {said}\n" for number, said in enumerate(answers, 1))
+        answers += [unread.FieldCount if rest.count(",") < 7 else unread.BadMoment] if rest else []
+        return text_of([numbered(*answers)]).decode()
 
     def list_of(self, line):
         """What this list is answered."""
         name, *value = line.split(" ")
         if name in ("chain", "audit-of") and int(value[0]) not in self.rooms:
-            return "refused 6 NoRoom\n"
+            return f"{refused.NoRoom}\n"
         rows = self.cards_of if name == "cards" else getattr(self, name.replace("-", "_"))
         return "\n".join([HEADERS[name], *rows(*value), ""])
 

@@ -9,20 +9,12 @@ import subprocess
 import time
 import urllib.parse
 
-from built_desk import HERE, answer, free_port
+from built_desk import HERE, free_port
 from simulated.things import day_text
-from simulated.wanted import COMMANDS, HEADERS, row
+from simulated.wanted import names_of, row
+from surface import CONFLICT, FORBIDDEN, NOTES_HEADER, OK, SEEN, TAKEN, VERBS, answer, path_of, text_of, words_of
 
 BACKUP = HERE.parent / "deploy" / "hotel_backup"
-# docs/HTTP.md, Routes.
-PATHS = {"begin": "/begin", "add-kind": "/kinds", "add-room": "/rooms", "reserve": "/reservations",
-         "refit": "/rooms/{room}/refit", "next-day": "/next-day",
-         **{verb: f"/reservations/{{party}}/{verb}" for verb in
-            ("cancel", "check-in", "spare", "reissue", "transfer", "check-out")}}
-LISTS = {"arrivals": "/arrivals/{}", "in-house": "/in-house", "chain": "/rooms/{}/chain",
-         "left-behind": "/left-behind", "audit-of": "/rooms/{}/audit", "business-day": "/business-day",
-         "room-status": "/room-status", "inside": "/inside", "bookings": "/bookings",
-         "availability": "/availability/{}/{}", "cards": "/parties/{}/cards", "card": "/cards/{}", "locks": "/locks"}
 
 
 class Wrong(Exception):
@@ -35,8 +27,7 @@ def same(what, wanted, got):
 
 
 def texts(verb, v):
-    names = COMMANDS[verb][0].split()
-    return {name: day_text(v[name]) if name in ("day", "arrive") else str(v[name]) for name in names}
+    return {name: day_text(v[name]) if name in ("day", "arrive") else str(v[name]) for name in names_of(verb)}
 
 
 def line_of(verb, v):
@@ -50,7 +41,7 @@ def line_of(verb, v):
 def file_of(notes, cut):
     """An audit file of these notes: plain and without so many last bytes, or in one of the ways that docs/FORMATS.md
     allows (The file)."""
-    text = "\n".join([HEADERS["audit-of"], *map(row, notes), ""])
+    text = "\n".join([NOTES_HEADER, *map(row, notes), ""])
     chance = random.Random(sum(note.count for note in notes))
     if cut:
         return text[:-cut - 1].encode()
@@ -123,7 +114,7 @@ class ByScript(Way):
         (self.folder / "audit.csv").write_bytes(text)
         ended = self.run(b"", kill, "audit", self.folder / "audit.csv")
         if ended:
-            status = 0 if re.fullmatch(r"(\d+ (taken|seen)\n)*", ended[1]) else 3
+            status = 0 if re.fullmatch(rf"(\d+ ({TAKEN}|{SEEN})\n)*", ended[1]) else 3
             same(f"how a file ends that is answered {ended[1]}", (status, ""), ended[::2])
         return ended and ended[1]
 
@@ -135,7 +126,7 @@ class ByWords(ByScript):
     def told(self, lines, kill):
         said = ""
         for line in lines:
-            verb, *words = line.split(" ", 4 if line.startswith("reserve ") else -1)
+            verb, *words = words_of(line)
             ended = self.run(b"", kill, verb, *(["--"] if line.startswith("reserve ") else []), *words)
             if not ended:
                 return None
@@ -197,31 +188,31 @@ class ByHttp(Way):
         if self.chance.random() < 0.05:
             foreign = head.replace(host, "page.example") if self.chance.random() < 0.5 else (
                 head.replace("Host:", "Origin: https://page.example\r\nHost:"))
-            same("the answer to a page", answer("403 Forbidden", b"foreign\n"), self.exchange(foreign.encode() + body))
+            same("the answer to a page", answer(FORBIDDEN), self.exchange(foreign.encode() + body))
         said = self.exchange(head.encode() + body, kill)
         if said is None:
             return None
         body = said.partition(b"\r\n\r\n")[2]
-        status = "409 Conflict" if body.startswith(b"refused ") else "200 OK"
-        media = "csv" if (method, status) == ("GET", "200 OK") else "plain"
+        status = CONFLICT if body.startswith(b"refused ") else OK
+        media = "csv" if (method, status) == ("GET", OK) else "plain"
         same(f"the answer to {method} {path}", answer(status, body, media), said)
         return body.decode()
 
     def command(self, verb, v, kill=None):
         if "note" in v:
-            said = self.audit(f"{HEADERS['audit-of']}\n{row(v['note'])}\n".encode(), kill)
+            said = self.audit(text_of([NOTES_HEADER, row(v["note"])]), kill)
             return said and said.removeprefix("1 ").removesuffix("\n")
         quoted = self.chance.choice([urllib.parse.quote, urllib.parse.quote_plus])
         form = urllib.parse.urlencode(texts(verb, v), quote_via=quoted)
-        said = self.request("POST", PATHS[verb].format(**v), form.encode(), kill)
+        said = self.request("POST", VERBS[verb].path.format(**v), form.encode(), kill)
         return said and said[:-1]
 
     def lists(self, lines):
         asked = [line.split(" ") for line in lines]
-        return "".join(self.request("GET", LISTS[name].format(*value)) for name, *value in asked)
+        return "".join(self.request("GET", path_of(name, *value)) for name, *value in asked)
 
     def audit(self, text, kill=None):
-        return self.request("POST", "/audit", text, kill)
+        return self.request("POST", path_of("audit"), text, kill)
 
 
 WAYS = {"http": ByHttp, "script": ByScript, "words": ByWords}
