@@ -1,5 +1,5 @@
 //! The words, files, databases, ports and the clock of the system. No clause can say what they give, so the functions
-//! here do no more than ask; of an opening they say that it is the opener's of the named file.
+//! here do no more than ask; of an opening they say that it is one of some database's file.
 
 ghost use Rattle.std.specs.Prelude.{◌≡◌, IfErr};
 ghost use Rattle.hotel_program.specs.declared.faults.Fault.TheVariants as fault;
@@ -8,11 +8,11 @@ use hotel_program::{
     ClockedListener, Databases, Fault, FileName, SEED_BYTES, Surroundings, audit_file_in, seed_in,
 };
 use hotel_streams::IoCalls;
-use hotel_tables::{FileFault, Opener, TableBooks, close_file, open_file};
+use hotel_tables::{FileFault, PathDisk, TableBooks, close_file, open_file};
 use sqlite::FileStore;
-use sqlite_disk::Disk;
 use std::alloc::Global;
 use std::fs::{self, File};
+use std::marker::PhantomData;
 use std::net::{Ipv4Addr, TcpListener};
 use std::{env, io};
 
@@ -26,17 +26,20 @@ pub fn words(rt: &HostRuntime) -> io::Result<Vec<String>> {
     Ok(words.collect(rt.alloc())?)
 }
 
-/// The system that the program runs on, and what opens its databases.
+/// The system that the program runs on, and the disks `D` that its databases are on.
 #[derive(Drop)]
-pub struct Host<O> {
+pub struct Host<D: PathDisk> {
     rt: HostRuntime,
-    opener: O,
+    disk: PhantomData<D>,
 }
 
-impl<O> Host<O> {
-    /// The system of this runtime, and this opener.
-    pub fn new(rt: &HostRuntime, opener: O) -> Host<O> {
-        Host { rt: *rt, opener }
+impl<D: PathDisk> Host<D> {
+    /// The system of this runtime.
+    pub fn new(rt: &HostRuntime) -> Host<D> {
+        Host {
+            rt: *rt,
+            disk: PhantomData,
+        }
     }
 
     /// Opens a file to read it.
@@ -50,7 +53,7 @@ impl<O> Host<O> {
     }
 }
 
-impl<O> Surroundings for Host<O> {
+impl<D: PathDisk> Surroundings for Host<D> {
     type Port = ClockedListener<HostRuntime>;
 
     ghost seed_read = { λ _ _ _ _. Unit {0} };
@@ -87,21 +90,21 @@ impl<O> Surroundings for Host<O> {
     }
 }
 
-impl<D: Disk + Drop, O: Opener<D> + Copy> Databases<TableBooks<FileStore<D>>> for Host<O> {
+impl<D: PathDisk> Databases<TableBooks<FileStore<D>>> for Host<D> {
     ghost use Rattle.std.specs.Prelude.{IfOk, IfErr};
     ghost use Rattle.hotel_tables.specs.Files.{AreOfOpening, IsOfOpening};
 
-    ghost books_opened = { λ _ name opened _. IfOk opened (λ b. AreOfOpening (O.Opener.is_part name) b.conn)
-        × IfErr opened (IsOfOpening D.Disk (O.Opener.is_part name)) };
+    ghost books_opened = { λ _ _ opened _. IfOk opened (λ b. AreOfOpening D.PathDisk.is_part b.conn)
+        × IfErr opened (IsOfOpening D.Disk D.PathDisk.is_part) };
 
     ghost books_closed = { λ _ _ _. Unit {0} };
 
     fn open_books(
         &mut self,
-        alloc: Global,
+        _alloc: Global,
         name: &FileName,
     ) -> Result<TableBooks<FileStore<D>>, FileFault> {
-        open_file(self.opener, alloc, name.as_str())
+        open_file(&self.rt, name.as_str())
     }
 
     fn close_books(&mut self, books: TableBooks<FileStore<D>>) {

@@ -5,9 +5,8 @@ mod host;
 
 use host::{Host, words};
 use hotel_program::{Databases, run_program};
-use hotel_tables::{Opener, SystemDisk, SystemOpener, TableBooks};
+use hotel_tables::{PathDisk, SystemDisk, TableBooks};
 use sqlite::{Alter, FileStore};
-use sqlite_disk::Disk;
 use std::process::ExitCode;
 
 /// The program over the system's streams, with books over these stores. It answers the exit status.
@@ -32,12 +31,12 @@ fn run_with_stores<S: Alter + Drop, E: Databases<TableBooks<S>>>(
     )
 }
 
-/// The program with databases in files on these disks, by this opener.
-fn run_on_disks<D: Disk + Drop, O: Opener<D> + Copy>(rt: &HostRuntime, opener: O) -> u8 {
-    let mut around = Host::new(rt, opener);
-    run_with_stores::<FileStore<D>, Host<O>>(rt, &mut around)
+/// The program with databases in files on these disks.
+fn run_on_disks<D: PathDisk>(rt: &HostRuntime) -> u8 {
+    let mut around: Host<D> = Host::new(rt);
+    run_with_stores::<FileStore<D>, Host<D>>(rt, &mut around)
 }
 
 fn main(rt: HostRuntime) -> ExitCode {
-    ExitCode::from(run_on_disks::<SystemDisk, _>(&rt, SystemOpener::new(&rt)))
+    ExitCode::from(run_on_disks::<SystemDisk>(&rt))
 }

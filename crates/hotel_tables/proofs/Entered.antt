@@ -212,8 +212,8 @@ module _ (layout : Layout) {found : Found} {old mid : State} (lacks : Lacks layo
 
 -- ---- a fault of sound tables is one of a call
 
-pub of_call : (failed : Version → Type 0) (s : State) (why : OpenFault) → FaultFitsIn failed s.now why
-    → (desk : IsSoundDesk s) → IsOfCall (failed (version_of desk.0)) why
+pub of_call : (failed : Version → Type 0) (s : State) (why : OpenFault) → FaultFitsIn failed s.now why → IsSoundDesk s
+    → IsOfCall why
 of_call failed s why fits (layout, desk, sound) =
     of_a_call (failed (version_of layout)) (version_of layout) s.now.trees why desk.tables sound
     (fits layout desk.schema)
@@ -262,8 +262,7 @@ module _ {S : Type 0} (g : Ghosts S) where
         subst (FaultFits (CallFails g c c look.Store (version_of layout)) (version_of layout) (state g c).now.trees)
         (sym (memory (layout, is))) tt;
     memory = inl refl;
-    kept = λ _ desk.
-        subst (IsOfCall (CallFails g c c look.Store (version_of desk.0))) (sym (memory (sound_of (state g c) desk))) tt;
+    kept = λ _ desk. subst IsOfCall (sym (memory (sound_of (state g c) desk))) tt;
   }
 
   -- its tables gave no books

@@ -23,7 +23,7 @@ use Rattle.sqlite.specs.Tree.{Trees, IsAscending}
 use Rattle.sqlite.specs.State.{State}
 use Rattle.sqlite.proofs.Callers.{one_permutation}
 use Rattle.sqlite_keyed.proofs.SortLemmas.{sorted_is-sort_by}
-use Rattle.sqlite_keyed.proofs.ListLemmas.{all_unmap, ascending_weaker, ascending-map, ascending_from_map}
+use Rattle.sqlite_keyed.proofs.ListLemmas.{all_unmap, ascending_weaker, ascending-map}
 use Rattle.keycard_rules.specs.declared.issued.LookFault.{LookFault}
 use Rattle.keycard_rules.specs.declared.issued.LookFault.TheVariants as look
 use Rattle.hotel_nights.specs.Block.{one_if}
@@ -179,18 +179,6 @@ first_ids : (plain_rows : List NumberedInside)
 first_ids [] = refl
 first_ids (l ∷ plain_rows) = ap (λ vs. Int l.id ∷ vs) (first_ids plain_rows)
 
--- the numbers of the rows are those of the plain rows
-pub same_ids : (plain_rows : List NumberedInside) (rows : List Row)
-    → ArePlainRows numbered_columns numbered_shown plain_rows rows
-    → IsPermutation (map rowid rows) (map (λ (n : ℤ). Int n) (map id_inside plain_rows))
-same_ids plain_rows rows same =
-    let moved : IsPermutation (map (λ (v : Row). column v 0) (map numbered_columns rows))
-    (map (λ (v : Row). column v 0) (map numbered_shown plain_rows)) =
-    IsPermutation-map (λ (v : Row). column v 0) _ _ same in
-    subst (λ xs. IsPermutation xs (map (λ (n : ℤ). Int n) (map id_inside plain_rows)))
-    (fused (λ (v : Row). column v 0) numbered_columns rows)
-    (subst (IsPermutation (map (λ (v : Row). column v 0) (map numbered_columns rows))) (first_ids plain_rows) moved)
-
 pub ids_apart : (plain_rows : List NumberedInside) (db : Trees)
     → ArePlainRows numbered_columns numbered_shown plain_rows (db inside_tree)
     → IsAscending (λ a b. is_eq (int_cmp a b) ≡ false) (map id_inside plain_rows) → AreApartInside db
@@ -203,22 +191,25 @@ ids_apart plain_rows db same apart =
     let values : AreApart value_cmp (map (λ (n : ℤ). Int n) (map id_inside plain_rows)) =
     ascending-map (λ a b. is_eq (value_cmp a b) ≡ false) (λ (n : ℤ). Int n) (map id_inside plain_rows)
     (ascending_weaker _ _ (λ a b other. ap is_eq (value_cmp-Int a b) ∙ other) (map id_inside plain_rows) apart) in
+    let moved : IsPermutation (map (λ (v : Row). column v 0) (map numbered_columns rows))
+    (map (λ (v : Row). column v 0) (map numbered_shown plain_rows)) =
+    IsPermutation-map (λ (v : Row). column v 0) _ _ same in
+    let here : IsPermutation (map rowid rows) (map (λ (n : ℤ). Int n) (map id_inside plain_rows)) =
+    subst (λ xs. IsPermutation xs (map (λ (n : ℤ). Int n) (map id_inside plain_rows)))
+    (fused (λ (v : Row). column v 0) numbered_columns rows)
+    (subst (IsPermutation (map (λ (v : Row). column v 0) (map numbered_columns rows))) (first_ids plain_rows) moved) in
     let all : AreApart value_cmp (map rowid rows) =
-    apart_permuted value_cmp value_cmp_total _ _ (IsPermutation-sym _ _ (same_ids plain_rows rows same)) values in
-    (ids, ascending_from_map (λ a b. is_eq (value_cmp a b) ≡ false) rowid rows all)
+    apart_permuted value_cmp value_cmp_total _ _ (IsPermutation-sym _ _ here) values in
+    (ids, ascending_unmapped rows all)
+  where
+    above : (a : Row) (rows : List Row) → AllByRecursion (λ v. is_eq (value_cmp (rowid a) v) ≡ false) (map rowid rows)
+        → AllByRecursion (λ b. is_eq (value_cmp (rowid a) (rowid b)) ≡ false) rows
+    above a [] h = tt
+    above a (r ∷ rows) h = (h.0, above a rows h.1)
 
--- and back
-pub apart_read : (plain_rows : List NumberedInside) (rows : List Row)
-    → ArePlainRows numbered_columns numbered_shown plain_rows rows → AreApartIds rows
-    → AreApart int_cmp (map id_inside plain_rows)
-apart_read plain_rows rows same apart =
-    let ids = map id_inside plain_rows in
-    let all : AreApart value_cmp (map rowid rows) =
-    ascending-map (λ a b. is_eq (value_cmp a b) ≡ false) rowid rows apart in
-    let values : AreApart value_cmp (map (λ (n : ℤ). Int n) ids) =
-    apart_permuted value_cmp value_cmp_total _ _ (same_ids plain_rows rows same) all in
-    ascending_weaker _ _ (λ a b other. ap is_eq (sym (value_cmp-Int a b)) ∙ other) ids
-    (ascending_from_map (λ a b. is_eq (value_cmp a b) ≡ false) (λ (n : ℤ). Int n) ids values)
+    ascending_unmapped : (rows : List Row) → AreApart value_cmp (map rowid rows) → AreApartIds rows
+    ascending_unmapped [] h = tt
+    ascending_unmapped (r ∷ rows) h = (above r rows h.0, ascending_unmapped rows h.1)
 
 abbrev last_two : Row → Row
 last_two v = column v 1 ∷ column v 2 ∷ []

@@ -68,16 +68,16 @@ use Rattle.hotel_statements.specs.PlainRows.{inside_shown, inside_natural, note_
 use Rattle.hotel_statements.specs.PlainRows.{kind_shown, fit_natural, ArePlainRows}
 use Rattle.hotel_statements.specs.PlainRows.{kind_natural, kind_order, room_order, stay_order, code_order, card_order}
 use Rattle.hotel_statements.specs.PlainRows.{inside_order, note_order, fit_order}
-use Rattle.hotel_tables.specs.Opening.{AreStored, HasMetaRow, FaultFits, IsOfCall, IsUnshown, fits_natural}
+use Rattle.hotel_tables.specs.Opening.{AreStored, HasMetaRow, FaultFits, IsOfCall, fits_natural}
 use Rattle.hotel_tables.specs.Opening.{all_natural}
-use Rattle.hotel_tables.specs.Reopening.{ReadUndamaged, SoundPass}
+use Rattle.hotel_tables.specs.Reopening.{ReadUndamaged}
 use Rattle.hotel_statements.proofs.Keyed.{key_total}
 use Rattle.hotel_statements.proofs.InOrder.{IsInOrder, in_order_of}
 use Rattle.hotel_statements.proofs.Naturals.{room_good, stay_good, code_good, card_good, inside_good, note_good}
 use Rattle.hotel_statements.proofs.Naturals.{fit_good}
 use Rattle.hotel_statements.proofs.Perm.{every_shuffled}
 use Rattle.hotel_statements.proofs.ReadBack.{plain_apart}
-use Rattle.hotel_tables.proofs.Opened.{are_desk, naturals, entries_of, each, each_two, all_kinds, apart_read}
+use Rattle.hotel_tables.proofs.Opened.{are_desk, naturals, entries_of, each, each_two, all_kinds}
 use Rattle.hotel_statements.proofs.Answers.{fused}
 use Rattle.hotel_rows.proofs.OfJoined.{keys_with_fit, keys_under_fit}
 use Rattle.hotel_rows.proofs.OfDamage.Undamaged.{undamaged_is_sound}
@@ -485,31 +485,13 @@ read_undamaged version db t = (
       (sym desk.rows, λ sound. (undamaged_is_sound s).1 (subst IsSound desk.rows sound, w.fit)),
 )
 
--- tables that the desk wrote show nothing that no query shows
-pub is_shown : (version : Version) (db : Trees) → AreTablesOf version db → ¬ IsUnshown version db
-is_shown version db t (inl (all, read, tied)) =
-    tied (apart_read all.inside.items (db inside_tree) read.1.0.1.0.0 t.inside_ids)
-is_shown version db t (inr (s, stored, none, below)) =
-    true≢false (sym (are_written s db t stored).natural ∙ below)
-
 -- a fault of sound tables is one of a call
 pub of_a_call : (failed : Type 0) (version : Version) (db : Trees) (why : OpenFault) → AreTablesOf version db
-    → IsSound (rows_of_version version db) → FaultFits failed version db why → IsOfCall failed why
+    → IsSound (rows_of_version version db) → FaultFits failed version db why → IsOfCall why
 of_a_call failed version db fault.Memory t sound fits = tt
-of_a_call failed version db fault.Store t sound (inl fails) = fails
-of_a_call failed version db fault.Store t sound (inr unshown) = absurd (is_shown version db t unshown.1)
+of_a_call failed version db fault.Store t sound fits = tt
 of_a_call failed version db fault.NotADesk t sound fits = fits (read_undamaged version db t).0
 of_a_call failed version db (fault.Damaged name) t sound fits =
     let none = ((read_undamaged version db t).1 fits.0 fits.1).1 sound in
     let both_are : ◌≡◌ {A = Option _} None (Some name) = sym none ∙ fits.2 in
     cc
-
--- and where none fails, memory ran out
-pub sound_pass : SoundPass
-sound_pass version db why t sound fits = only why (of_a_call ⊥ version db why t sound fits)
-  where
-    only : (why : OpenFault) → IsOfCall ⊥ why → why ≡ fault.Memory
-    only fault.Memory of = refl
-    only fault.Store of = absurd of
-    only fault.NotADesk of = absurd of
-    only (fault.Damaged name) of = absurd of

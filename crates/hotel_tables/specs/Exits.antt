@@ -7,7 +7,6 @@ use Rattle.sqlite.specs.State.{HasCleanDisk, Survives}
 use Rattle.hotel_statements.specs.Books.{IsKept, KeepsRows}
 use Rattle.hotel_statements.specs.LookUps.{fault_of}
 use Rattle.hotel_statements.specs.NewDesk.{IsEmptyDesk}
-use Rattle.hotel_statements.specs.Schema.{version_of}
 use Rattle.hotel_statements.specs.Statements.{Statement, adds_meta, makes_first, makes_last, completes}
 use Rattle.hotel_statements.specs.Upgrade.{AreRoomsIn}
 use Rattle.hotel_rows.specs.declared.open_fault.OpenFault.{OpenFault}
@@ -67,6 +66,5 @@ module _ {S : Type 0} (g : Ghosts S) where
     pub fits : HasCleanDisk (state g new) → FaultFitsIn (CallFails old new look.Store) (state g old).now why
     -- Memory is reported of a call that failed for want of it, or where none failed: nothing was read, or all was
     pub memory : (new ≡ old) ⊎ MemoryFitsIn (CallFails old new look.Memory) (state g old) (state g new) why
-    -- tables that books kept are never refused: memory ran out, or a call failed
-    pub kept : HasCleanDisk (state g new) → (desk : IsSoundDesk (state g old))
-        → IsOfCall (CallFails old new look.Store (version_of desk.0)) why
+    -- tables that books kept are never refused
+    pub kept : HasCleanDisk (state g new) → IsSoundDesk (state g old) → IsOfCall why

@@ -184,12 +184,12 @@ pub record IsCreated (old new : State) : Type 0 where
   pub vouched : HasCleanDisk new → IsKept new
   pub crash : Survives old new IsEmptyDesk
 
--- memory ran out, or a call of the store failed, as this says
-abbrev pub IsOfCall : Type 0 → OpenFault → Type 0
-IsOfCall failed fault.Memory = Unit {0}
-IsOfCall failed fault.Store = failed
-IsOfCall failed fault.NotADesk = ⊥
-IsOfCall failed (fault.Damaged t) = ⊥
+-- memory ran out, or a call of the store failed
+abbrev pub IsOfCall : OpenFault → Type 0
+IsOfCall fault.Memory = Unit {0}
+IsOfCall fault.Store = Unit {0}
+IsOfCall fault.NotADesk = ⊥
+IsOfCall (fault.Damaged t) = ⊥
 
 -- it is no desk's, or memory ran out
 abbrev pub IsNoDesk : OpenFault → Type 0

@@ -13,11 +13,9 @@ use Rattle.hotel_rows.specs.declared.stored.Stored.{Stored}
 use Rattle.hotel_statements.specs.Books.{IsKept, IsBooks}
 use Rattle.hotel_statements.specs.declared.version.Version.{Version}
 use Rattle.hotel_statements.specs.Tables.{AreTablesOf, rows_of_version}
-use Rattle.hotel_rows.specs.declared.open_fault.OpenFault.{OpenFault}
-use Rattle.hotel_rows.specs.declared.open_fault.OpenFault.TheVariants.{Memory}
 use Rattle.hotel_rows.specs.Stored.{rows_of}
 use Rattle.hotel_rows.specs.Damage.{first_damaged_of}
-use Rattle.hotel_tables.specs.Opening.{AreStored, FaultFits, HasMetaRow, IsAlwaysClean}
+use Rattle.hotel_tables.specs.Opening.{AreStored, HasMetaRow, IsAlwaysClean}
 
 -- What is read of the tables of a desk of either version: meta's one row is there, the rows read are those of the
 -- tables, and where these are sound no table is damaged.
@@ -26,12 +24,6 @@ ReadUndamaged = (version : Version) (db : Trees) → AreTablesOf version db
     → HasMetaRow version db
     × ((s : Stored) → AreStored version s db
     → (rows_of s ≡ rows_of_version version db) × (IsSound (rows_of_version version db) → first_damaged_of s ≡ None))
-
--- The test of a desk's tables, whose rows are sound, finds no fault in them: where no call fails, it fails for want of
--- memory alone.
-abbrev pub SoundPass : Type 0
-SoundPass = (version : Version) (db : Trees) (why : OpenFault) → AreTablesOf version db
-    → IsSound (rows_of_version version db) → FaultFits ⊥ version db why → why ≡ Memory
 
 -- Where a close copied the books' last commit into these files and an open found what they hold, the connection has the
 -- tables and rows of the books.

@@ -5,12 +5,13 @@ ghost use Rattle.hotel_tables.specs.Paths.{is_no_path, IsPathError, AreParts};
 ghost use Rattle.hotel_tables.specs.Files.{connect_fault, AreBooksOf, IsWhyNone, IsAnswer, AreOfOpening, IsOfOpening};
 ghost use Rattle.hotel_tables.specs.Files.{HoldBooks, LeavesLog, FailsToCopy};
 
-use crate::opener::Opener;
+use crate::path_disk::PathDisk;
 use crate::table_books::TableBooks;
 use hotel_rows::{FileFault, OpenFault};
 use sqlite::{Alter, Connection, Error, ErrorCode, FileStore, Files, Leftover, Options};
 use sqlite_disk::Disk;
 use std::alloc::Global;
+use std::hash::{BuildHasher, RandomState};
 
 /// How many pages the log has before it is copied into the database's file: 16 MB. Each copying writes a page once,
 /// however often the log has it, so that a longer log copies fewer pages for each change.
@@ -52,50 +53,49 @@ fn books_of<S: Alter + Drop>(
     }
 }
 
-/// The options of a connection, with this salt for its log.
-fn options_with(salt: u64) -> Options
-    ensures salt { result.seed ≡ salt }
-    ensures memory { (result.cache_pages ≡ 2000) × (result.spill_pages ≡ 2000) }
-    ensures log { result.checkpoint_frames ≡ CHECKPOINT_FRAMES }
+/// The options of a connection, with a salt that is drawn at random for its log.
+fn drawn_options(rt: &HostRuntime) -> Result<Options, Error>
+    ensures memory { IfOk result (λ options. (options.cache_pages ≡ 2000) × (options.spill_pages ≡ 2000)) }
+    ensures log { IfOk result (λ options. options.checkpoint_frames ≡ CHECKPOINT_FRAMES) }
+    ensures refused { IfErr result (λ e. e ≡ Error.SqliteFailure ErrorCode.CannotOpen) }
 {
-    let mut options = Options::new(salt);
+    let Ok(state) = RandomState::new(rt) else {
+        return Err(Error::SqliteFailure(ErrorCode::CannotOpen));
+    };
+    let mut options = Options::new(state.hash_one(&0u8));
     options.checkpoint_frames = CHECKPOINT_FRAMES;
-    options
+    Ok(options)
 }
 
 /// What a database is opened with: the files at a path, and options.
-fn files_at<D: Disk + Drop, O: Opener<D>>(
-    opener: O,
-    path: &str,
-) -> Result<(Files<D>, Options), Error>
+fn files_at<D: PathDisk>(rt: &HostRuntime, path: &str) -> Result<(Files<D>, Options), Error>
     ensures refused { IsTrue (is_no_path path.now) → result ≡ Err (Error.SqliteFailure ErrorCode.CannotOpen) }
     ensures kind { IfErr result IsPathError }
-    ensures parts { IfOk result (λ opened. AreParts (O.Opener.is_part path.now) opened.0) }
+    ensures parts { IfOk result (λ opened. AreParts D.PathDisk.is_part opened.0) }
     ensures log { IfOk result (λ opened. IsTrue (D.Disk.is_usable opened.0.log)) }
     ensures db { IfOk result (λ opened. IsTrue (D.Disk.is_usable opened.0.db)) }
     ensures memory { IfOk result (λ opened. (opened.1.cache_pages ≡ 2000) × (opened.1.spill_pages ≡ 2000)) }
     ensures frames { IfOk result (λ opened. opened.1.checkpoint_frames ≡ CHECKPOINT_FRAMES) }
 {
-    let salt = opener.salt()?;
-    let files = opener.open(path)?;
-    Ok((files, options_with(salt)))
+    let files = D::open(rt, path)?;
+    let options = drawn_options(rt)?;
+    Ok((files, options))
 }
 
 /// The connection to the database of the files at a path; with an error comes what is left of the files, once they were
 /// opened.
-fn connect<D: Disk + Drop, O: Opener<D>>(
-    opener: O,
-    alloc: Global,
+fn connect<D: PathDisk>(
+    rt: &HostRuntime,
     path: &str,
 ) -> Result<Connection<FileStore<D>>, (Error, Option<Leftover<D>>)>
     ensures refused { IsTrue (is_no_path path.now) → result ≡ Err (Error.SqliteFailure ErrorCode.CannotOpen, None) }
-    ensures answer { IsAnswer (O.Opener.is_part path.now) result }
+    ensures answer { IsAnswer D.PathDisk.is_part result }
 {
-    let (files, options) = match files_at(opener, path) {
+    let (files, options) = match files_at(rt, path) {
         Ok(opened) => opened,
         Err(error) => return Err((error, None)),
     };
-    match Connection::open_files(alloc, files, options) {
+    match Connection::open_files(rt.alloc(), files, options) {
         Ok(conn) => Ok(conn),
         Err((error, left)) => Err((error, Some(left))),
     }
@@ -103,26 +103,25 @@ fn connect<D: Disk + Drop, O: Opener<D>>(
 
 /// Opens the books of a file, and makes them where it is missing or its database has nothing.
 ///
-/// Its clauses speak of what the opener answers for the path. No clause says which files of the system these are, as
-/// such a file carries no name, nor when the system opens a file: `CannotOpen` and `DatabaseBusy`, which are
-/// `FileFault::File`, have no cause. So a body that always answers a fault of openings is refused in `connect` and
-/// `books_of`, where the answers are given, and by no clause here. Nor does a clause say that the disk of an opened file
-/// is clean, which is the premise of what is said of its rows.
-pub fn open_file<D: Disk + Drop, O: Opener<D>>(
-    opener: O,
-    alloc: Global,
+/// Its clauses speak of an answer of the opening of some log and some database's file. No clause says that they are the
+/// files at the path, as a file of the system carries no name, nor when the system opens a file: `CannotOpen` and
+/// `DatabaseBusy`, which are `FileFault::File`, have no cause. So a body that always answers a fault of openings is
+/// refused in `connect` and `books_of`, where the answers are given, and by no clause here. Nor does a clause say that
+/// the disk of an opened file is clean, which is the premise of what is said of its rows.
+pub fn open_file<D: PathDisk>(
+    rt: &HostRuntime,
     path: &str,
 ) -> Result<TableBooks<FileStore<D>>, FileFault>
-    ensures books { IfOk result (λ b. AreOfOpening (O.Opener.is_part path.now) b.conn) }
+    ensures books { IfOk result (λ b. AreOfOpening D.PathDisk.is_part b.conn) }
     ensures unfailed { IfOk result (λ b. (b.memory ≡ 0) × (b.store ≡ 0)) }
-    ensures fault { IfErr result (IsOfOpening D.Disk (O.Opener.is_part path.now)) }
+    ensures fault { IfErr result (IsOfOpening D.Disk D.PathDisk.is_part) }
     ensures refused { IsTrue (is_no_path path.now) → result ≡ Err FileFault.File }
 {
-    let conn = match connect(opener, alloc, path) {
+    let conn = match connect(rt, path) {
         Ok(conn) => conn,
         Err((error, _left)) => return Err(connect_fault(error)),
     };
-    match books_of(alloc, conn) {
+    match books_of(rt.alloc(), conn) {
         Ok(books) => Ok(books),
         Err((why, _conn)) => Err(FileFault::Desk(why)),
     }

@@ -3,7 +3,7 @@ ghost use Rattle.sqlite.specs.Held.{state};
 ghost use Rattle.sqlite.specs.Steps.{over_memory};
 ghost use Rattle.hotel_tables.specs.Opening.{IsAlwaysClean};
 ghost use Rattle.hotel_tables.specs.ChangesStay.{ChangesStay};
-ghost use Rattle.hotel_tables.specs.Reopening.{FilesAreClean, FilesKeepBooks, ReadUndamaged, SoundPass};
+ghost use Rattle.hotel_tables.specs.Reopening.{FilesAreClean, FilesKeepBooks, ReadUndamaged};
 
 use crate::table_books::TableBooks;
 use hotel_books::Books;
@@ -14,11 +14,6 @@ use sqlite_disk::Disk;
 /// What is read of a desk's tables has their rows; where these are sound, no table is damaged.
 pub fn read_undamaged()
     ensures { ReadUndamaged }
-{}
-
-/// Tables that a desk wrote, whose rows are sound, pass the test of an opening: memory alone can lack.
-pub fn sound_tables_pass()
-    ensures { SoundPass }
 {}
 
 /// Files that a close gave back and an opening found hold the tables and rows of the books.

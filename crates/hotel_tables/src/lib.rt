@@ -8,7 +8,7 @@
 //! - src: desk_schema, entering, opening, migration, open_books, laws; Opening, Reopening: an opening, the upgrade in
 //!   it, and a close. ChangesStay: what a crash leaves of the rows.
 //! - specs: Causes: why a call answers Store. Why there are no books is told by `hotel_rows`' `OpenFault`.
-//! - src: opener, system_opener, system_disk, files; Paths, Files: disks opened at a path; the books of a file.
+//! - src: path_disk, system_disk, files; Paths, Files: disks opened at a path; the books of a file.
 #![tactic(auto)]
 
 mod apply;
@@ -20,10 +20,9 @@ mod files;
 mod laws;
 mod migration;
 mod open_books;
-mod opener;
 mod opening;
+mod path_disk;
 mod system_disk;
-mod system_opener;
 mod table_books;
 
 pub use files::{close_file, open_file};
@@ -31,11 +30,7 @@ pub use hotel_rows::{
     FileFault, OpenFault, PlainCard, PlainCode, PlainFit, PlainInside, PlainKind, PlainNote,
     PlainRoom, PlainStay, Stored, TableName, first_damaged, undamaged_is_sound,
 };
-pub use laws::{
-    changes_stay, files_are_clean, files_keep_books, memory_is_clean, read_undamaged,
-    sound_tables_pass,
-};
-pub use opener::Opener;
+pub use laws::{changes_stay, files_are_clean, files_keep_books, memory_is_clean, read_undamaged};
+pub use path_disk::PathDisk;
 pub use system_disk::SystemDisk;
-pub use system_opener::SystemOpener;
 pub use table_books::TableBooks;

@@ -1,16 +1,11 @@
 use Rattle.std.proofs.Common.{◌∙◌, sym, inr}
 use Rattle.hotel_tables.proofs.Opened.{stored_meta}
-use Rattle.hotel_tables.proofs.Reread.{sound_pass}
 use Rattle.hotel_tables.proofs.opening.sound_counts.Goals as goal
 
 pub returns-in-Ok-Err-clause-err : goal.returns-in-Ok-Err-clause-err
 returns-in-Ok-Err-clause-err c = λ version db stored.
     let tested = rw (c.in-Ok-Err.is, c.in-Ok-Err.field-0-is) at c.counts_if_sound.ensures in
     (c.args.stored.now, stored, tested)
-
-pub returns-in-Ok-Err-clause-sound : goal.returns-in-Ok-Err-clause-sound
-returns-in-Ok-Err-clause-sound c = λ version db stored tables sound.
-    sound_pass version db _ tables sound (returns-in-Ok-Err-clause-err c version db stored)
 
 pub returns-then-not-all_natural-clause-err : goal.returns-then-not-all_natural-clause-err
 returns-then-not-all_natural-clause-err c = λ version db stored.
@@ -19,10 +14,6 @@ returns-then-not-all_natural-clause-err c = λ version db stored.
       stored_meta c.args.stored.now db stored,
       inr (c.args.stored.now, stored, tested.0, sym c.all_natural.ensures ∙ c.if-not-all_natural.true),
     )
-
-pub returns-then-not-all_natural-clause-sound : goal.returns-then-not-all_natural-clause-sound
-returns-then-not-all_natural-clause-sound c = λ version db stored tables sound.
-    sound_pass version db _ tables sound (returns-then-not-all_natural-clause-err c version db stored)
 
 pub returns-clause-ok : goal.returns-clause-ok
 returns-clause-ok c =
